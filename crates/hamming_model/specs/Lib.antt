@@ -1,0 +1,4 @@
+pub mod Codes
+pub mod History
+pub mod Layouts
+pub mod Scan

@@ -1,0 +1,6 @@
+//! What a call answers where it found no memory.
+#![tactic(auto)]
+
+/// There was no memory. What the call was handed is as its contract says.
+#[derive(Clone, Copy, Debug, PartialEq, Eq)]
+pub struct NoMemory;
