@@ -1,4 +1,5 @@
 pub mod Codes
 pub mod History
 pub mod Layouts
+pub mod Order
 pub mod Scan

@@ -2,5 +2,7 @@
 #![tactic(auto)]
 
 mod hit;
+mod scan_laws;
 
 pub use hit::Hit;
+pub use scan_laws::the_one_order;
