@@ -3,3 +3,4 @@ pub mod History
 pub mod Layouts
 pub mod Order
 pub mod Scan
+pub mod Stored

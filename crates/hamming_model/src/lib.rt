@@ -2,7 +2,9 @@
 #![tactic(auto)]
 
 mod hit;
+mod row_laws;
 mod scan_laws;
 
 pub use hit::Hit;
-pub use scan_laws::the_one_order;
+pub use row_laws::{rows_follow_the_history, stored_rows_scan_alike};
+pub use scan_laws::{scan_lists_the_near_rows, the_one_order};

@@ -9,5 +9,12 @@ pub fn the_one_order()
     ensures only { (xs hits : List Hit) → IsPermutation xs hits → IsSorted hit_cmp hits → hits ≡ in_order xs }
     ensures keeps { (xs : List Hit) → IsPermutation xs (in_order xs) }
     ensures ascends { (xs : List Hit) → IsSorted hit_cmp (in_order xs) }
-{
-}
+{}
+
+/// Law: a scan has each hit as often as a row with its key lies at its distance and within the radius, in order.
+pub fn scan_lists_the_near_rows()
+    ensures each { (rows : List (ℕ × List ℕ)) (query : List ℕ) (radius : ℕ) (hit : Hit) →
+        occurrences hit (scan rows query radius) ≡ count_by (is_hit_row hit query radius) rows }
+    ensures ascends { (rows : List (ℕ × List ℕ)) (query : List ℕ) (radius : ℕ) →
+        IsSorted hit_cmp (scan rows query radius) }
+{}
