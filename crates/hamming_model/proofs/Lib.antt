@@ -1,3 +1,4 @@
 pub mod OrderLemmas
+pub mod PlainLemmas
 pub mod RowLemmas
 pub mod ScanLemmas

@@ -1,10 +1,15 @@
 //! Codes are lists of bits, and rows are pairs of a key and a code; the definitions of `specs/` say what a scan of rows is.
+//! The plain scan gives exactly that: it looks at every row.
 #![tactic(auto)]
 
 mod hit;
+mod plain;
+mod row;
 mod row_laws;
 mod scan_laws;
 
 pub use hit::Hit;
+pub use plain::plain_scan;
+pub use row::Row;
 pub use row_laws::{rows_follow_the_history, stored_rows_scan_alike};
 pub use scan_laws::{scan_lists_the_near_rows, the_one_order};

@@ -4,8 +4,11 @@ ghost use Rattle.hamming_model.specs.declared.hit.Hit.{Hit};
 ghost use Rattle.hamming_model.specs.Scan.{hit_cmp, in_order, scan};
 ghost use Rattle.hamming_model.specs.Order.{occurrences, is_hit_row};
 
+use crate::hit::Hit;
+
 /// Law: a list of hits has exactly one order, by distance and then by key, and a sort gives it.
 pub fn the_one_order()
+    ensures derived { (a b : Hit) → ⟦<Hit as Ord>⟧.cmp a b ≡ hit_cmp a b }
     ensures only { (xs hits : List Hit) → IsPermutation xs hits → IsSorted hit_cmp hits → hits ≡ in_order xs }
     ensures keeps { (xs : List Hit) → IsPermutation xs (in_order xs) }
     ensures ascends { (xs : List Hit) → IsSorted hit_cmp (in_order xs) }
