@@ -215,3 +215,7 @@ sorted_is_in_order xs hits moved up =
 -- lists of the same hits have one list in order
 pub in_order_of_permutation : (xs ys : List Hit) → IsPermutation xs ys → in_order xs ≡ in_order ys
 in_order_of_permutation xs ys moved = same_in_order xs ys (λ hit. sym (sum_by-IsPermutation _ xs ys moved))
+
+-- what a sort of a list with these hits gives
+pub sort_gives_order : (xs ys hits : List Hit) → IsPermutation ys hits → IsSorted hit_cmp hits → ys ≡ xs → hits ≡ in_order xs
+sort_gives_order xs ys hits moved up same = sorted_is_in_order ys hits moved up ∙ ap in_order same

@@ -4,9 +4,11 @@ use Rattle.std.specs.Prelude.{nat_le, filter, None, Some, is_some, option_map}
 use Rattle.std.specs.List.{AllByRecursion}
 use Rattle.std.specs.declared.cmp.Ordering.{Ordering}
 use Rattle.std.specs.declared.cmp.Ordering.TheVariants.{Less, Equal, Greater}
-use Rattle.std.specs.Ordering.{nat_cmp, is_eq, match_ordering}
+use Rattle.std.specs.List.Sorted.{IsStrictlySortedBy}
+use Rattle.std.specs.Ordering.{nat_cmp, is_eq, match_ordering, ordering_reverse}
 use Rattle.std.specs.BTreeMap.{insert_entry, is_at}
-use Rattle.std.specs.Map.{remove_entry}
+use Rattle.std.specs.Map.{keys_of, remove_entry}
+use Rattle.std.proofs.lemmas.Cmp.{nat_cmp_total}
 use Rattle.std.proofs.lemmas.Bool.{eq-eqb}
 use Rattle.hamming_model.specs.declared.hit.Hit.{Hit}
 use Rattle.hamming_model.specs.Codes.{IsCode, difference, distance, padded}
@@ -139,3 +141,62 @@ codes_from bits rows (entry ∷ entries) codes adds = codes_from bits (changed r
 -- a history of codes leaves rows of codes
 pub codes_of_history : (bits : ℕ) (history : List JournalEntry) → AreCodes bits history → AreCodeRows bits (rows_of history)
 codes_of_history bits history adds = codes_from bits [] history tt adds
+
+-- ---- the order of the keys
+all_inserted : (P : ℕ → Type 0) (rows : List (ℕ × List ℕ)) (key : ℕ) (code : List ℕ) → AllByRecursion P (keys_of rows) → P key → AllByRecursion P (keys_of (insert_entry nat_cmp rows key code))
+all_inserted P [] key code all one = (one, tt)
+all_inserted P (row ∷ rows) key code all one = go (all_inserted P rows key code all.1 one) (nat_cmp key row.0)
+  where
+    go : AllByRecursion P (keys_of (insert_entry nat_cmp rows key code)) → (o : Ordering) → AllByRecursion P (keys_of (match_ordering o ((key, code) ∷ row ∷ rows) ((row.0, code) ∷ rows) (row ∷ insert_entry nat_cmp rows key code)))
+    go rest Less = (one, all)
+    go rest Equal = all
+    go rest Greater = (all.0, rest)
+
+all_removed : (P : ℕ → Type 0) (rows : List (ℕ × List ℕ)) (key : ℕ) → AllByRecursion P (keys_of rows) → AllByRecursion P (keys_of (remove_entry (is_at (nat_cmp key)) rows))
+all_removed P [] key all = tt
+all_removed P (row ∷ rows) key all = go (all_removed P rows key all.1) (is_at (nat_cmp key) row.0)
+  where
+    go : AllByRecursion P (keys_of (remove_entry (is_at (nat_cmp key)) rows)) → (b : Bool) → AllByRecursion P (keys_of (cond b rows (row ∷ remove_entry (is_at (nat_cmp key)) rows)))
+    go rest true = all.1
+    go rest false = (all.0, rest)
+
+above_all : (key low : ℕ) (keys : List ℕ) → nat_cmp key low ≡ Less → AllByRecursion (λ other. nat_cmp low other ≡ Less) keys → AllByRecursion (λ other. nat_cmp key other ≡ Less) keys
+above_all key low [] below all = tt
+above_all key low (other ∷ keys) below all = (nat_cmp_total.trans key low other below all.0, above_all key low keys below all.1)
+
+-- rows that ascend by key, with a row more
+pub ascends_inserted : (rows : List (ℕ × List ℕ)) (key : ℕ) (code : List ℕ) → IsStrictlySortedBy nat_cmp (keys_of rows) → IsStrictlySortedBy nat_cmp (keys_of (insert_entry nat_cmp rows key code))
+unfolding IsStrictlySortedBy
+ascends_inserted [] key code up = (tt, tt)
+ascends_inserted (row ∷ rows) key code up = go (ascends_inserted rows key code up.1) (nat_cmp key row.0) refl
+  where
+    go : IsStrictlySortedBy nat_cmp (keys_of (insert_entry nat_cmp rows key code)) → (o : Ordering) → nat_cmp key row.0 ≡ o → IsStrictlySortedBy nat_cmp (keys_of (match_ordering o ((key, code) ∷ row ∷ rows) ((row.0, code) ∷ rows) (row ∷ insert_entry nat_cmp rows key code)))
+    go rest Less e = ((e, above_all key row.0 (keys_of rows) e up.0), up)
+    go rest Equal e = up
+    go rest Greater e =
+        let above : nat_cmp row.0 key ≡ Less = nat_cmp_total.antisymm row.0 key ∙ ap ordering_reverse e in
+        (all_inserted (λ other. nat_cmp row.0 other ≡ Less) rows key code up.0 above, rest)
+
+-- rows that ascend by key, with a row fewer
+pub ascends_removed : (rows : List (ℕ × List ℕ)) (key : ℕ) → IsStrictlySortedBy nat_cmp (keys_of rows) → IsStrictlySortedBy nat_cmp (keys_of (remove_entry (is_at (nat_cmp key)) rows))
+unfolding IsStrictlySortedBy
+ascends_removed [] key up = tt
+ascends_removed (row ∷ rows) key up = go (ascends_removed rows key up.1) (is_at (nat_cmp key) row.0)
+  where
+    go : IsStrictlySortedBy nat_cmp (keys_of (remove_entry (is_at (nat_cmp key)) rows)) → (b : Bool) → IsStrictlySortedBy nat_cmp (keys_of (cond b rows (row ∷ remove_entry (is_at (nat_cmp key)) rows)))
+    go rest true = up.1
+    go rest false = (all_removed (λ other. nat_cmp row.0 other ≡ Less) rows key up.0, rest)
+
+ascends_changed : (rows : List (ℕ × List ℕ)) (operation : Operation) → IsStrictlySortedBy nat_cmp (keys_of rows) → IsStrictlySortedBy nat_cmp (keys_of (changed rows operation))
+ascends_changed rows (Add key code) up = ascends_inserted rows key code up
+ascends_changed rows (Delete key) up = ascends_removed rows key up
+
+-- entries leave rows that ascend by key
+pub ascends_from : (rows : List (ℕ × List ℕ)) (entries : List JournalEntry) → IsStrictlySortedBy nat_cmp (keys_of rows) → IsStrictlySortedBy nat_cmp (keys_of (rows_from rows entries))
+ascends_from rows [] up = up
+ascends_from rows (entry ∷ entries) up = ascends_from (changed rows entry.operation) entries (ascends_changed rows entry.operation up)
+
+-- the rows of a history ascend by key
+pub rows_ascend : (history : List JournalEntry) → IsStrictlySortedBy nat_cmp (keys_of (rows_of history))
+unfolding IsStrictlySortedBy
+rows_ascend history = ascends_from [] history tt

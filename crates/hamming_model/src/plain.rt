@@ -10,7 +10,12 @@ use std::alloc::Global;
 
 /// All rows at most so far from the query, by distance and then by key: it looks at every row and
 /// sorts what is near. An error comes only where no memory was left.
-pub fn plain_scan(alloc: Global, rows: &[Row], query: &[u8], radius: u32) -> Result<Vec<Hit>, NoMemory>
+pub fn plain_scan(
+    alloc: Global,
+    rows: &[Row],
+    query: &[u8],
+    radius: u32,
+) -> Result<Vec<Hit>, NoMemory>
     requires short { length query.now < 2 ^ 32 }
     ensures scan { IfOk result (λ hits. hits.items ≡ scan (row_pairs rows.now) query.now radius) }
 {

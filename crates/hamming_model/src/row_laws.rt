@@ -1,4 +1,6 @@
 ghost use Rattle.std.specs.Prelude.{◌≡◌, ℕ, ◌+◌, List, ◌++◌, length, None, option_map};
+ghost use Rattle.std.specs.List.Sorted.{IsStrictlySortedBy};
+ghost use Rattle.std.specs.Map.{keys_of};
 ghost use Rattle.std.specs.Ordering.{nat_cmp};
 ghost use Rattle.std.specs.BTreeMap.{insert_entry};
 ghost use Rattle.hamming_model.specs.Codes.{IsCode, padded};
@@ -23,6 +25,7 @@ pub fn rows_follow_the_history()
     ensures appended { (history more : List JournalEntry) →
         rows_of (history ++ more) ≡ rows_from (rows_of history) more }
     ensures codes { (bits : ℕ) (history : List JournalEntry) → AreCodes bits history → AreCodeRows bits (rows_of history) }
+    ensures ascending { (history : List JournalEntry) → IsStrictlySortedBy nat_cmp (keys_of (rows_of history)) }
     ensures longer { (rows : List (ℕ × List ℕ)) (key : ℕ) (code : List ℕ) → code_at rows key ≡ None →
         length (insert_entry nat_cmp rows key code) ≡ length rows + 1 }
 {}
