@@ -1,5 +1,5 @@
-//! Codes are lists of bits, and rows are pairs of a key and a code; the definitions of `specs/` say what a scan of rows is.
-//! The plain scan gives exactly that: it looks at every row.
+//! Codes are lists of bits, rows pairs of a key and a code; `specs/` says what a scan of rows is.
+//! The plain scan gives exactly that, by looking at every row.
 #![tactic(auto)]
 
 mod hit;

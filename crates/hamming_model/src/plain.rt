@@ -27,7 +27,8 @@ pub fn plain_scan(
 // The rows at most so far from the query, in their order.
 fn near_rows(alloc: Global, rows: &[Row], query: &[u8], radius: u32) -> Result<Vec<Hit>, NoMemory>
     requires short { length query.now < 2 ^ 32 }
-    ensures near { IfOk result (λ hits. hits.items ≡ hits_within (row_pairs rows.now) query.now radius) }
+    ensures near { IfOk result (λ hits.
+        hits.items ≡ hits_within (row_pairs rows.now) query.now radius) }
 {
     let mut hits = Vec::new(alloc);
     for row in rows {

@@ -9,12 +9,14 @@ use crate::hit::Hit;
 /// Law: a list of hits has exactly one order, by distance and then by key, and a sort gives it.
 pub fn the_one_order()
     ensures derived { (a b : Hit) → ⟦<Hit as Ord>⟧.cmp a b ≡ hit_cmp a b }
-    ensures only { (xs hits : List Hit) → IsPermutation xs hits → IsSorted hit_cmp hits → hits ≡ in_order xs }
+    ensures only { (xs hits : List Hit) →
+        IsPermutation xs hits → IsSorted hit_cmp hits → hits ≡ in_order xs }
     ensures keeps { (xs : List Hit) → IsPermutation xs (in_order xs) }
     ensures ascends { (xs : List Hit) → IsSorted hit_cmp (in_order xs) }
 {}
 
-/// Law: a scan has each hit as often as a row with its key lies at its distance and within the radius, in order.
+/// Law: a scan has each hit as often as a row with its key lies at its distance and within the
+/// radius, and it is sorted.
 pub fn scan_lists_the_near_rows()
     ensures each { (rows : List (ℕ × List ℕ)) (query : List ℕ) (radius : ℕ) (hit : Hit) →
         occurrences hit (scan rows query radius) ≡ count_by (is_hit_row hit query radius) rows }
