@@ -125,13 +125,26 @@ impl Cutter {
             TellsOf (Some result) self.new.line ((if by_feed then without_return raw else raw) ∷ []) }
         ensures held { self.new.held ≡ kept [] }
     {
-        let begun = self.begun;
-        let has_return = by_feed && begun > 0 && self.bytes[begun - 1] == b'\r';
-        let length = if has_return { begun - 1 } else { begun };
-        let is_long = self.is_long || length > LINE_MOST;
+        let is_long = self.is_long;
+        let length = ended_length(&self.bytes[..self.begun], by_feed);
         self.begun = 0;
         self.is_long = false;
-        self.cut = if is_long { 0 } else { length };
-        if is_long { Cut::Long } else { Cut::Line }
+        if is_long || length > LINE_MOST {
+            self.cut = 0;
+            return Cut::Long;
+        }
+        self.cut = length;
+        Cut::Line
+    }
+}
+
+// How many bytes a line has that ended: without the CR at its end, where an LF ended it.
+fn ended_length(begun: &[u8], by_feed: bool) -> usize
+    ensures bound { result ≤ length begun.now }
+    ensures value { take result begun.now ≡ (if by_feed then without_return begun.now else begun.now) }
+{
+    match begun.last() {
+        Some(b'\r') if by_feed => begun.len() - 1,
+        _ => begun.len(),
     }
 }
