@@ -10,8 +10,8 @@ pub ended_lines-append : (begun a b : List ℕ) → ended_lines begun (a ++ b) �
 ended_lines-append begun [] b = refl
 ended_lines-append begun (x ∷ xs) b =
     elim (x == line_feed) as (λ v. (if v then without_return begun ∷ ended_lines [] (xs ++ b) else ended_lines (begun ++ x ∷ []) (xs ++ b)) ≡ (if v then without_return begun ∷ ended_lines [] xs else ended_lines (begun ++ x ∷ []) xs) ++ ended_lines (if v then unended [] xs else unended (begun ++ x ∷ []) xs) b) [
-      true ↦ ap (λ l. without_return begun ∷ l) (ended_lines-append [] xs b)
-    | false ↦ ended_lines-append (begun ++ x ∷ []) xs b
+      | true ↦ ap (λ l. without_return begun ∷ l) (ended_lines-append [] xs b)
+      | false ↦ ended_lines-append (begun ++ x ∷ []) xs b
     ]
 
 -- what stands begun after two pieces
@@ -19,8 +19,8 @@ pub unended-append : (begun a b : List ℕ) → unended begun (a ++ b) ≡ unend
 unended-append begun [] b = refl
 unended-append begun (x ∷ xs) b =
     elim (x == line_feed) as (λ v. (if v then unended [] (xs ++ b) else unended (begun ++ x ∷ []) (xs ++ b)) ≡ unended (if v then unended [] xs else unended (begun ++ x ∷ []) xs) b) [
-      true ↦ unended-append [] xs b
-    | false ↦ unended-append (begun ++ x ∷ []) xs b
+      | true ↦ unended-append [] xs b
+      | false ↦ unended-append (begun ++ x ∷ []) xs b
     ]
 
 -- a byte that is no LF is told apart by the test
@@ -82,20 +82,24 @@ split_more : (v : Bool) (x : ℕ) → (x == line_feed) ≡ v → (begun xs : Lis
     → (HasNoEnd (begun ++ x ∷ []) → CanSplit (begun ++ x ∷ []) xs (unended (begun ++ x ∷ []) xs))
     → CanSplit begun (x ∷ xs) (if v then unended [] xs else unended (begun ++ x ∷ []) xs)
 split_more true x e begun xs h (pieces, s) more =
-    let feed : x ≡ line_feed = eqb-true x line_feed e in
-    (begun ∷ pieces, record {
-      whole = ap (λ b. begun ++ b ∷ xs) feed ∙ ap (λ l. begun ++ line_feed ∷ l) s.whole;
-      pieces_clean = All-cons HasNoEnd begun pieces h s.pieces_clean;
-      rest_clean = s.rest_clean;
-    })
+    let feed : x ≡ line_feed = eqb-true x line_feed e in (
+      begun ∷ pieces,
+      record {
+        whole = ap (λ b. begun ++ b ∷ xs) feed ∙ ap (λ l. begun ++ line_feed ∷ l) s.whole;
+        pieces_clean = All-cons HasNoEnd begun pieces h s.pieces_clean;
+        rest_clean = s.rest_clean;
+      },
+    )
 split_more false x e begun xs h s more =
     let one : HasNoEnd (x ∷ []) = All-cons (λ b. b ≢ line_feed) x [] (eqb-false x line_feed e) (All-nil (λ b. b ≢ line_feed)) in
-    let (pieces, found) = more (All-append (λ b. b ≢ line_feed) begun (x ∷ []) h one) in
-    (pieces, record {
-      whole = sym (append_assoc begun (x ∷ []) xs) ∙ found.whole;
-      pieces_clean = found.pieces_clean;
-      rest_clean = found.rest_clean;
-    })
+    let (pieces, found) = more (All-append (λ b. b ≢ line_feed) begun (x ∷ []) h one) in (
+      pieces,
+      record {
+        whole = sym (append_assoc begun (x ∷ []) xs) ∙ found.whole;
+        pieces_clean = found.pieces_clean;
+        rest_clean = found.rest_clean;
+      },
+    )
 
 -- all bytes can be split at their LFs
 pub can_split : (begun bytes : List ℕ) → HasNoEnd begun → CanSplit begun bytes (unended begun bytes)

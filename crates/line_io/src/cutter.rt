@@ -37,13 +37,14 @@ impl Model for Cutter {
     ghost Value = { CutterState };
 
     ghost view = { λ c. record {
-        held = if c.is_long then None else Some (take c.begun c.bytes.items);
-        line = take c.cut c.bytes.items
+      held = if c.is_long then None else Some (take c.begun c.bytes.items);
+      line = take c.cut c.bytes.items;
     } };
 
     ghost invariant = { λ c. (length c.bytes.items ≡ LINE_MOST + 1) × (c.begun ≤ LINE_MOST + 1)
         × (c.cut ≤ LINE_MOST) };
 }
+
 ghost use Rattle.line_io.specs.Kept.{kept, TellsOf};
 
 impl Cutter {
@@ -72,7 +73,6 @@ impl Cutter {
         ensures held { (raw : List ℕ) → self.old.held ≡ kept raw →
             self.new.held ≡ kept (unended raw (take result.0 bytes.now)) }
     {
-        self.cut = 0;
         match memchr(b'\n', bytes) {
             Some(at) => {
                 self.keep(&bytes[..at]);
@@ -93,13 +93,12 @@ impl Cutter {
         ensures held { self.new.held ≡ kept [] }
     {
         if self.begun == 0 && !self.is_long {
-            self.cut = 0;
             return None;
         }
         Some(self.end(false))
     }
 
-    /// The line that was cut last, where it was no `Long`.
+    /// The line that the last call cut, where that was a `Line`.
     pub fn line(&self) -> &[u8]
         ensures { result.now ≡ self.now.line }
     {
@@ -110,6 +109,7 @@ impl Cutter {
     fn keep(&mut self, more: &[u8])
         ensures held { (raw : List ℕ) → self.old.held ≡ kept raw → self.new.held ≡ kept (raw ++ more.now) }
     {
+        self.cut = 0;
         if self.is_long || more.len() > LINE_MOST + 1 - self.begun {
             self.is_long = true;
             return;

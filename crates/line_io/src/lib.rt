@@ -10,9 +10,9 @@ mod memory_source;
 mod pieces;
 mod sink;
 mod source;
+mod std_io;
 mod steady_sink;
 mod steady_source;
-mod std_io;
 
 pub use buffer::LineBuf;
 pub use cutter::{Cut, Cutter, LINE_MOST};

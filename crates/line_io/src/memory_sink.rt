@@ -22,10 +22,10 @@ impl Model for MemorySink {
     ghost Value = { MemoryOutput };
 
     ghost view = { λ s. record {
-        held = s.bytes.items;
-        faults = s.faults;
-        calls = s.calls;
-        failing = s.failing.items
+      held = s.bytes.items;
+      faults = s.faults;
+      calls = s.calls;
+      failing = s.failing.items;
     } };
 }
 

@@ -23,11 +23,11 @@ impl Model for MemorySource {
     ghost Value = { MemoryInput };
 
     ghost view = { λ s. record {
-        left = drop s.given s.bytes.items;
-        faults = s.faults;
-        calls = s.calls;
-        piece = s.piece;
-        failing = s.failing.items
+      left = drop s.given s.bytes.items;
+      faults = s.faults;
+      calls = s.calls;
+      piece = s.piece;
+      failing = s.failing.items;
     } };
 
     ghost invariant = { λ s. (s.given ≤ length s.bytes.items) × (1 ≤ s.piece) };
