@@ -1,4 +1,4 @@
--- What the sources and sinks in memory are.
+-- What the sources and sinks of this crate are.
 use Rattle.std.specs.Prelude.{ℕ, List}
 
 -- a source in memory: the bytes left, its counts of faults and calls, the most that a read gives, and the calls that fail
@@ -20,3 +20,8 @@ pub record MemoryOutput : Type 0 where
 pub record SteadyInput : Type 0 where
   pub left : List ℕ
   pub piece : ℕ
+
+-- a reader or a writer of std, with the faults that it has met
+pub record Counted (T : Type 0) : Type 0 where
+  pub inner : T
+  pub faults : ℕ

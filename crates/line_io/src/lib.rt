@@ -4,23 +4,25 @@
 
 mod buffer;
 mod cutter;
+mod from_reader;
 mod laws;
 mod memory_sink;
 mod memory_source;
 mod pieces;
 mod sink;
 mod source;
-mod std_io;
 mod steady_sink;
 mod steady_source;
+mod to_writer;
 
 pub use buffer::LineBuf;
 pub use cutter::{Cut, Cutter, LINE_MOST};
+pub use from_reader::FromReader;
 pub use laws::{line_pieces, lines_in_pieces};
 pub use memory_sink::MemorySink;
 pub use memory_source::MemorySource;
 pub use sink::Sink;
 pub use source::{Failed, Source};
-pub use std_io::{FromReader, ToWriter};
 pub use steady_sink::SteadySink;
 pub use steady_source::SteadySource;
+pub use to_writer::ToWriter;
