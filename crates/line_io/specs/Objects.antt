@@ -1,5 +1,5 @@
 -- What the sources and sinks of this crate are.
-use Rattle.std.specs.Prelude.{ℕ, List}
+use Rattle.std.specs.Prelude.{ℕ, Bool, List}
 
 -- a source in memory: the bytes left, its counts of faults and calls, the most that a read gives, and the calls that fail
 pub record MemoryInput : Type 0 where
@@ -25,3 +25,9 @@ pub record SteadyInput : Type 0 where
 pub record Counted (T : Type 0) : Type 0 where
   pub inner : T
   pub faults : ℕ
+
+-- what is gathered for a writer: the writer, the bytes on their way to it, and whether giving them out has failed
+pub record Outgoing (T : Type 0) : Type 0 where
+  pub writer : T
+  pub pending : List ℕ
+  pub failed : Bool
