@@ -1,9 +1,10 @@
 -- Lemmas on the lines of bytes that come in pieces.
-use Rattle.std.proofs.Common.{◌≡◌, ℕ, ◌==◌, ◌≢◌, Bool, true, false, if◌then◌else◌, List, [], ◌∷◌, ◌++◌, map, All, refl, sym, ap, ◌∙◌, append_assoc, append-nil, arith}
-use Rattle.std.proofs.lemmas.Bool.{eqb-true, eqb-false}
+use Rattle.std.proofs.Common.{◌≡◌, ℕ, ◌==◌, ◌≢◌, Bool, true, false, if◌then◌else◌, List, [], ◌∷◌, ◌++◌, map, All, refl, sym, ap, ◌∙◌, append_assoc, append-nil, ◌+◌, ◌-◌, nat_lt, length, length-append, arith}
+use Rattle.std.proofs.Math.Seq.{get_or-append_seam, take-append_seam}
+use Rattle.std.proofs.lemmas.Bool.{eqb-true, eqb-false, lt-ltb}
 use Rattle.std.proofs.lemmas.Bool.Decides.{nat_tests}
 use Rattle.std.proofs.lemmas.List.Elements.{All-head, All-tail, All-cons, All-nil, All-append}
-use Rattle.line_io.specs.Lines.{line_feed, without_return, ended_lines, unended, HasNoEnd, rejoined, IsSplitAtEnds, AreLinesOf}
+use Rattle.line_io.specs.Lines.{line_feed, without_return, ended_lines, unended, last_line, HasNoEnd, rejoined, IsSplitAtEnds, AreLinesOf}
 
 -- the lines of two pieces, one after the other
 pub ended_lines-append : (begun a b : List ℕ) → ended_lines begun (a ++ b) ≡ ended_lines begun a ++ ended_lines (unended begun a) b
@@ -68,10 +69,15 @@ unended-rejoined (p ∷ ps) rest r = unended-piece [] p (rejoined ps rest) ∙ u
 
 -- bytes that are split at their LFs have these lines
 pub lines_of_split : (bytes : List ℕ) (pieces : List (List ℕ)) (rest : List ℕ) → IsSplitAtEnds bytes pieces rest → AreLinesOf bytes pieces rest
-lines_of_split bytes pieces rest s = record {
-  lines_are = ap (λ l. ended_lines [] l) s.whole ∙ ended_lines-rejoined pieces rest s.pieces_clean s.rest_clean;
-  rest_is = ap (λ l. unended [] l) s.whole ∙ unended-rejoined pieces rest s.rest_clean;
-}
+lines_of_split bytes pieces rest s =
+    let ended : ended_lines [] bytes ≡ map without_return pieces =
+    ap (λ l. ended_lines [] l) s.whole ∙ ended_lines-rejoined pieces rest s.pieces_clean s.rest_clean in
+    let last : unended [] bytes ≡ rest = ap (λ l. unended [] l) s.whole ∙ unended-rejoined pieces rest s.rest_clean in
+    record {
+      before_end = ended;
+      at_end = ap (λ l. l ++ last_line (unended [] bytes)) ended ∙ ap (λ l. map without_return pieces ++ last_line l) last;
+      begun = last;
+    }
 
 -- these bytes behind those that were begun can be split at their LFs
 abbrev CanSplit : List ℕ → List ℕ → List ℕ → Type 0
@@ -107,3 +113,22 @@ can_split begun [] h =
     ([], record { whole = append-nil begun; pieces_clean = All-nil HasNoEnd; rest_clean = h })
 can_split begun (x ∷ xs) h =
     split_more (x == line_feed) x refl begun xs h (can_split [] xs (All-nil (λ b. b ≢ line_feed))) (λ more. can_split (begun ++ x ∷ []) xs more)
+
+-- how long a line with one more byte is
+one_more : (line : List ℕ) (last : ℕ) → length (line ++ last ∷ []) - 1 ≡ length line
+one_more line last = omega (arith, length-append line (last ∷ []))
+
+-- whether a line with one more byte is empty
+none_empty : (line : List ℕ) (last : ℕ) → nat_lt 0 (length (line ++ last ∷ [])) ≡ true
+none_empty line last = lt-ltb 0 (length (line ++ last ∷ [])) (omega (arith, length-append line (last ∷ [])))
+
+-- a CR at the end is dropped
+pub without_return-dropped : (line : List ℕ) → without_return (line ++ 13 ∷ []) ≡ line
+without_return-dropped line =
+    rw (none_empty line 13, one_more line 13, get_or-append_seam line 13 [] 0) (take-append_seam line (13 ∷ []))
+
+-- another byte at the end stays, and the bytes before it
+pub without_return-kept : (line : List ℕ) (last : ℕ) → last ≢ 13 → without_return (line ++ last ∷ []) ≡ line ++ last ∷ []
+without_return-kept line last h =
+    let other : (last == 13) ≡ false = grind (arith, nat_tests) in
+    rw (none_empty line last, one_more line last, get_or-append_seam line last [] 0, other) refl

@@ -46,7 +46,8 @@ pub record IsSplitAtEnds (bytes : List ℕ) (pieces : List (List ℕ)) (rest : L
   pub pieces_clean : All HasNoEnd pieces
   pub rest_clean : HasNoEnd rest
 
--- the lines are the pieces between the LFs of these bytes, each without its CR, and the rest is what follows the last LF
+-- the lines are the pieces between the LFs of these bytes, each without its CR, and at the end of the input the rest
 pub record AreLinesOf (bytes : List ℕ) (pieces : List (List ℕ)) (rest : List ℕ) : Type 0 where
-  pub lines_are : ended_lines [] bytes ≡ map without_return pieces
-  pub rest_is : unended [] bytes ≡ rest
+  pub before_end : lines bytes false ≡ map without_return pieces
+  pub at_end : lines bytes true ≡ map without_return pieces ++ last_line rest
+  pub begun : unended [] bytes ≡ rest

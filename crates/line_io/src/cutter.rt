@@ -1,4 +1,4 @@
-ghost use Rattle.std.specs.Prelude.{◌≡◌, ℕ, ◌+◌, ◌≤◌, List, [], ◌∷◌, ◌++◌, length, take, if◌then◌else◌, Some, IfOk};
+ghost use Rattle.std.specs.Prelude.{◌≡◌, ℕ, ◌+◌, ◌<◌, ◌≤◌, List, [], ◌∷◌, ◌++◌, length, take, if◌then◌else◌, Some, IfOk, MatchOption};
 ghost use Rattle.std.specs.Io.BufRead.{take_through};
 ghost use Rattle.line_io.specs.Lines.{line_feed, without_return, ended_lines, unended, last_line};
 
@@ -68,6 +68,7 @@ impl Cutter {
     pub fn push(&mut self, bytes: &[u8]) -> (usize, Option<Cut>)
         ensures bound { result.0 ≤ length bytes.now }
         ensures taken { take result.0 bytes.now ≡ take_through line_feed bytes.now }
+        ensures goes_on { MatchOption result.1 (result.0 ≡ length bytes.now) (λ _. 0 < result.0) }
         ensures cut { (raw : List ℕ) → self.old.held ≡ kept raw →
             TellsOf result.1 self.new.line (ended_lines raw (take result.0 bytes.now)) }
         ensures held { (raw : List ℕ) → self.old.held ≡ kept raw →
