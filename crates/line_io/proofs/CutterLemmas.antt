@@ -1,13 +1,12 @@
 -- Lemmas on where the next LF stands, and on the bytes up to it.
-use Rattle.std.proofs.Common.{◌≡◌, ℕ, ◌+◌, ◌-◌, ◌<◌, ◌≤◌, ◌≢◌, ◌==◌, List, [], ◌∷◌, ◌++◌, length, take, drop, get_or, refl, sym, ap, ◌∙◌, true, take-append-drop, append_assoc, arith}
+use Rattle.std.proofs.Common.{◌≡◌, ℕ, ◌+◌, ◌<◌, ◌≢◌, List, [], ◌∷◌, ◌++◌, length, take, drop, get_or, refl, sym, ap, ◌∙◌, take-append-drop, append_assoc, arith}
 use Rattle.std.proofs.lemmas.List.{take_more, length-take, get_or-take, get_or_default}
 use Rattle.std.proofs.lemmas.Bool.{eqb-true, eq-eqb}
 use Rattle.std.proofs.lemmas.List.Elements.{All-head, All-tail}
 use Rattle.std.specs.Io.BufRead.{take_through}
 use Rattle.memchr.specs.Find.{is_byte, Nowhere, NoneBefore, Passes}
-use Rattle.line_io.specs.Kept.{kept}
 use Rattle.line_io.specs.Lines.{line_feed, without_return, ended_lines, unended, HasNoEnd}
-use Rattle.line_io.proofs.LinesLemmas.{not_feed, ended_lines-piece, unended-piece, ended_lines-clean, unended-clean}
+use Rattle.line_io.proofs.LinesLemmas.{not_feed, ended_lines-piece, unended-piece}
 
 -- bytes without LF are taken whole
 pub take_through-clean : (bytes : List ℕ) → HasNoEnd bytes → take_through line_feed bytes ≡ bytes

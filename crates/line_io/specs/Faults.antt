@@ -1,5 +1,5 @@
 -- When a source or a sink may answer that it failed.
-use Rattle.std.specs.Prelude.{◌≡◌, ℕ, ◌+◌, ◌-◌, ◌^◌, ◌<◌, ◌≤◌, ◌⊎◌, min, List, length, Result, IfOk, OnErr, MatchResult, Option, None, Some, ⊤}
+use Rattle.std.specs.Prelude.{◌≡◌, ℕ, ◌+◌, ◌-◌, ◌^◌, ◌<◌, ◌≤◌, ◌⊎◌, min, List, length, Result, IfOk, OnErr, Option, None, Some, ⊤}
 
 -- a count of faults rose, or stands at the greatest number that it can hold
 abbrev pub Rose : ℕ → ℕ → Type 0

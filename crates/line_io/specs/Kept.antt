@@ -1,5 +1,5 @@
 -- What a cutter keeps of a line that has begun, and what a cut tells.
-use Rattle.std.specs.Prelude.{◌≡◌, ℕ, ◌+◌, ◌<◌, ◌≤◌, nat_le, if◌then◌else◌, List, [], ◌∷◌, ◌++◌, length, Option, None, Some}
+use Rattle.std.specs.Prelude.{◌≡◌, ℕ, ◌+◌, ◌<◌, ◌≤◌, nat_le, if◌then◌else◌, List, [], ◌∷◌, length, Option, None, Some}
 use Rattle.line_io.specs.declared.cutter.TheConstants.{LINE_MOST}
 use Rattle.line_io.specs.declared.cutter.Cut.{Cut}
 use Rattle.line_io.specs.declared.cutter.Cut.TheVariants.{Line, Long}

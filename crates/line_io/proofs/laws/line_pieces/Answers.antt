@@ -1,5 +1,5 @@
 -- The lines are what stands between the LFs.
-use Rattle.std.proofs.Common.{ℕ, ◌≢◌, []}
+use Rattle.std.proofs.Common.{◌≢◌, []}
 use Rattle.std.proofs.lemmas.List.Elements.{All-nil}
 use Rattle.line_io.proofs.LinesLemmas.{can_split, lines_of_split}
 use Rattle.line_io.specs.Lines.{line_feed}

@@ -1,8 +1,6 @@
 -- What is taken up to an LF, or where there is none.
-use Rattle.std.proofs.Common.{◌≡◌, ℕ, ◌+◌, ◌-◌, List, [], ◌∷◌, ◌++◌, length, take, sym, ap, ◌∙◌, subst, arith, rules}
+use Rattle.std.proofs.Common.{◌++◌, take, sym, ◌∙◌}
 use Rattle.std.proofs.Math.Seq.{take-length}
-use Rattle.line_io.specs.Kept.{kept, TellsOf}
-use Rattle.line_io.specs.Lines.{ended_lines, unended}
 use Rattle.line_io.proofs.LinesLemmas.{ended_lines-clean, unended-clean}
 use Rattle.line_io.proofs.CutterLemmas.{clean_from_search, taken_through, take_through-clean, line_taken, none_begun}
 use Rattle.line_io.proofs.cutter.Cutter.push.Goals as goal
