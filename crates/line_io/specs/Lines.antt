@@ -10,16 +10,23 @@ line_feed = 10
 abbrev pub without_return : List ℕ → List ℕ
 without_return bytes = strip_last 13 bytes
 
+-- what is left of a line that an LF ended, or the end of the input
+abbrev pub ended_by : Bool → List ℕ → List ℕ
+ended_by true bytes = without_return bytes
+ended_by false bytes = bytes
+
 -- the lines that end in these bytes, where a line was begun with some bytes before them
 abbrev pub ended_lines : List ℕ → List ℕ → List (List ℕ)
 ended_lines begun [] = []
 ended_lines begun (byte ∷ bytes) =
-    if byte == line_feed then without_return begun ∷ ended_lines [] bytes else ended_lines (begun ++ byte ∷ []) bytes
+    if byte == line_feed then without_return begun ∷ ended_lines [] bytes
+    else ended_lines (begun ++ byte ∷ []) bytes
 
 -- the line that stands begun after these bytes, where one was begun with some bytes before them
 abbrev pub unended : List ℕ → List ℕ → List ℕ
 unended begun [] = begun
-unended begun (byte ∷ bytes) = if byte == line_feed then unended [] bytes else unended (begun ++ byte ∷ []) bytes
+unended begun (byte ∷ bytes) =
+    if byte == line_feed then unended [] bytes else unended (begun ++ byte ∷ []) bytes
 
 -- the line that the end of the input makes of the bytes after the last LF, if there are any
 abbrev pub last_line : List ℕ → List (List ℕ)
@@ -46,7 +53,7 @@ pub record IsSplitAtEnds (bytes : List ℕ) (pieces : List (List ℕ)) (rest : L
   pub pieces_clean : All HasNoEnd pieces
   pub rest_clean : HasNoEnd rest
 
--- the lines are the pieces between the LFs of these bytes, each without its CR, and at the end of the input the rest
+-- the lines are these pieces, each without its CR, and at the end of the input the rest, if there is any
 pub record AreLinesOf (bytes : List ℕ) (pieces : List (List ℕ)) (rest : List ℕ) : Type 0 where
   pub before_end : lines bytes false ≡ map without_return pieces
   pub at_end : lines bytes true ≡ map without_return pieces ++ last_line rest

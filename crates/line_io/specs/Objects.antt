@@ -1,7 +1,8 @@
 -- What the sources and sinks of this crate are.
-use Rattle.std.specs.Prelude.{ℕ, Bool, List}
+use Rattle.std.specs.Prelude.{ℕ, Bool, List, Option}
+use Rattle.std.specs.Io.KnownBytes.{append_known}
 
--- a source in memory: the bytes left, its counts of faults and calls, the most that a read gives, and the calls that fail
+-- a source in memory: bytes left, faults and calls so far, the most that a read gives, the calls that fail
 pub record MemoryInput : Type 0 where
   pub left : List ℕ
   pub faults : ℕ
@@ -9,7 +10,7 @@ pub record MemoryInput : Type 0 where
   pub piece : ℕ
   pub failing : List ℕ
 
--- a sink in memory: the bytes held, its counts of faults and calls, and the calls that fail
+-- a sink in memory: bytes held, faults and calls so far, the calls that fail
 pub record MemoryOutput : Type 0 where
   pub held : List ℕ
   pub faults : ℕ
@@ -26,8 +27,12 @@ pub record Counted (T : Type 0) : Type 0 where
   pub inner : T
   pub faults : ℕ
 
--- what is gathered for a writer: the writer, the bytes on their way to it, and whether giving them out has failed
+-- a writer, the bytes on their way to it, and whether giving bytes out has failed
 pub record Outgoing (T : Type 0) : Type 0 where
   pub writer : T
   pub pending : List ℕ
   pub failed : Bool
+
+-- the bytes that the writer holds, where they are told, and then those on their way to it
+abbrev pub told_and_pending : {T : Type 0} → (T → Option (List ℕ)) → Outgoing T → Option (List ℕ)
+told_and_pending contents state = append_known (contents state.writer) state.pending

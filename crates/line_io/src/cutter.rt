@@ -1,6 +1,6 @@
-ghost use Rattle.std.specs.Prelude.{◌≡◌, ℕ, ◌+◌, ◌<◌, ◌≤◌, List, [], ◌∷◌, ◌++◌, length, take, if◌then◌else◌, Some, IfOk, MatchOption};
+ghost use Rattle.std.specs.Prelude.{◌≡◌, ℕ, ◌+◌, ◌<◌, ◌≤◌, List, [], ◌∷◌, ◌++◌, length, take, Some, IfOk, MatchOption};
 ghost use Rattle.std.specs.Io.BufRead.{take_through};
-ghost use Rattle.line_io.specs.Lines.{line_feed, without_return, ended_lines, unended, last_line};
+ghost use Rattle.line_io.specs.Lines.{line_feed, ended_by, ended_lines, unended, last_line};
 
 use crate::buffer::zeroed;
 use memchr::memchr;
@@ -108,7 +108,8 @@ impl Cutter {
 
     // Adds bytes to the line that has begun.
     fn keep(&mut self, more: &[u8])
-        ensures held { (raw : List ℕ) → self.old.held ≡ kept raw → self.new.held ≡ kept (raw ++ more.now) }
+        ensures held { (raw : List ℕ) → self.old.held ≡ kept raw →
+            self.new.held ≡ kept (raw ++ more.now) }
     {
         self.cut = 0;
         if self.is_long || more.len() > LINE_MOST + 1 - self.begun {
@@ -123,7 +124,7 @@ impl Cutter {
     // Ends the line that has begun, and drops its CR where an LF ended it.
     fn end(&mut self, by_feed: bool) -> Cut
         ensures cut { (raw : List ℕ) → self.old.held ≡ kept raw →
-            TellsOf (Some result) self.new.line ((if by_feed then without_return raw else raw) ∷ []) }
+            TellsOf (Some result) self.new.line (ended_by by_feed raw ∷ []) }
         ensures held { self.new.held ≡ kept [] }
     {
         let is_long = self.is_long;
@@ -142,7 +143,7 @@ impl Cutter {
 // How many bytes a line has that ended: without the CR at its end, where an LF ended it.
 fn ended_length(begun: &[u8], by_feed: bool) -> usize
     ensures bound { result ≤ length begun.now }
-    ensures value { take result begun.now ≡ (if by_feed then without_return begun.now else begun.now) }
+    ensures value { take result begun.now ≡ ended_by by_feed begun.now }
 {
     match begun.last() {
         Some(b'\r') if by_feed => begun.len() - 1,

@@ -1,5 +1,6 @@
 ghost use Rattle.std.specs.Prelude.{◌≡◌, ◌↔◌, ℕ, ◌<◌, ◌≤◌, List, [], length, take, IsTrue, IsFalse, IsNone, IfSome};
-ghost use Rattle.std.specs.Io.KnownBytes.{Keeps, Appends, append_known};
+ghost use Rattle.std.specs.Io.KnownBytes.{Keeps, Appends};
+ghost use Rattle.line_io.specs.Objects.{told_and_pending};
 
 use crate::buffer::LineBuf;
 use crate::cutter::LINE_MOST;
@@ -41,7 +42,7 @@ impl<W: Write> Gathering<W> {
         ensures empty { self.new.pending ≡ [] }
         ensures stays_failed { IsTrue self.old.failed → IsTrue self.new.failed }
         ensures given { IsFalse self.new.failed →
-            Keeps (append_known (W.contents self.old.writer) self.old.pending) (W.contents self.new.writer) }
+            Keeps (told_and_pending W.contents self.old) (told_and_pending W.contents self.new) }
     {
         if !self.failed {
             let given = self.writer.write_all(self.buffer.bytes());
@@ -56,9 +57,8 @@ impl<W: Write> Gathering<W> {
         ensures takes { IfSome result (λ taken. 0 < length piece.now → 0 < taken) }
         ensures failed { IsNone result ↔ IsTrue self.new.failed }
         ensures stays_failed { IsTrue self.old.failed → IsTrue self.new.failed }
-        ensures added { IfSome result (λ taken. Appends
-            (append_known (W.contents self.old.writer) self.old.pending)
-            (append_known (W.contents self.new.writer) self.new.pending) (take taken piece.now)) }
+        ensures added { IfSome result (λ taken. Appends (told_and_pending W.contents self.old)
+            (told_and_pending W.contents self.new) (take taken piece.now)) }
     {
         if self.buffer.bytes().len() == LINE_MOST {
             self.give_out();

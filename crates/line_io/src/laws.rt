@@ -10,7 +10,8 @@ pub fn lines_in_pieces()
 
 /// The lines of some bytes are what stands between their LFs, each without its CR.
 pub fn line_pieces()
-    ensures split { (bytes : List ℕ) → (pieces : List (List ℕ)) × IsSplitAtEnds bytes pieces (unended [] bytes) }
+    ensures split { (bytes : List ℕ) →
+        (pieces : List (List ℕ)) × IsSplitAtEnds bytes pieces (unended [] bytes) }
     ensures only { (bytes : List ℕ) (pieces : List (List ℕ)) (rest : List ℕ) →
         IsSplitAtEnds bytes pieces rest → AreLinesOf bytes pieces rest }
 {}
@@ -19,5 +20,6 @@ pub fn line_pieces()
 pub fn dropped_return()
     ensures none { without_return [] ≡ [] }
     ensures dropped { (line : List ℕ) → without_return (line ++ 13 ∷ []) ≡ line }
-    ensures stays { (line : List ℕ) (last : ℕ) → last ≢ 13 → without_return (line ++ last ∷ []) ≡ line ++ last ∷ [] }
+    ensures stays { (line : List ℕ) (last : ℕ) → last ≢ 13 →
+        without_return (line ++ last ∷ []) ≡ line ++ last ∷ [] }
 {}
