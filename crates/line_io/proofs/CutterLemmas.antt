@@ -16,7 +16,8 @@ take_through-clean (x ∷ xs) h =
     (ap (λ l. x ∷ l) (take_through-clean xs (All-tail (λ b. b ≢ line_feed) x xs h)))
 
 -- with an LF behind them the bytes are taken with it
-pub take_through-piece : (piece more : List ℕ) → HasNoEnd piece → take_through line_feed (piece ++ line_feed ∷ more) ≡ piece ++ line_feed ∷ []
+pub take_through-piece : (piece more : List ℕ) → HasNoEnd piece
+    → take_through line_feed (piece ++ line_feed ∷ more) ≡ piece ++ line_feed ∷ []
 take_through-piece [] more h = refl
 take_through-piece (x ∷ xs) more h =
     rw (not_feed x (All-head (λ b. b ≢ line_feed) x xs h))
@@ -24,7 +25,8 @@ take_through-piece (x ∷ xs) more h =
 
 -- the first LF of the bytes stands here
 abbrev pub IsFeedAt : List ℕ → ℕ → Type 0
-IsFeedAt bytes at = NoneBefore (Passes (is_byte line_feed) bytes) 0 (length bytes) at × Passes (is_byte line_feed) bytes at
+IsFeedAt bytes at = NoneBefore (Passes (is_byte line_feed) bytes) 0 (length bytes) at
+    × Passes (is_byte line_feed) bytes at
 
 -- a search that found no LF says so of each byte
 pub clean_from_search : (bytes : List ℕ) → Nowhere (Passes (is_byte line_feed) bytes) 0 (length bytes) → HasNoEnd bytes
@@ -40,12 +42,15 @@ clean_before bytes at found = λ (k : ℕ) (d : ℕ) (lt : k < length (take at b
     (eq-eqb (get_or bytes k 0) line_feed (get_or_default bytes k 0 d inside ∙ sym (get_or-take at bytes k d below) ∙ e))
 
 -- the bytes up to and with the first LF
-pub taken_with_feed : (bytes : List ℕ) (at : ℕ) → IsFeedAt bytes at → take (at + 1) bytes ≡ take at bytes ++ line_feed ∷ []
+pub taken_with_feed : (bytes : List ℕ) (at : ℕ) → IsFeedAt bytes at
+    → take (at + 1) bytes ≡ take at bytes ++ line_feed ∷ []
 taken_with_feed bytes at found =
-    take_more bytes at 0 found.0.high ∙ ap (λ b. take at bytes ++ b ∷ []) (eqb-true (get_or bytes at 0) line_feed found.1)
+    take_more bytes at 0 found.0.high
+    ∙ ap (λ b. take at bytes ++ b ∷ []) (eqb-true (get_or bytes at 0) line_feed found.1)
 
 -- they are what is taken up to the next LF
-pub taken_through : (bytes : List ℕ) (at : ℕ) → IsFeedAt bytes at → take (at + 1) bytes ≡ take_through line_feed bytes
+pub taken_through : (bytes : List ℕ) (at : ℕ) → IsFeedAt bytes at
+    → take (at + 1) bytes ≡ take_through line_feed bytes
 taken_through bytes at found =
     let whole : (take at bytes ++ line_feed ∷ []) ++ drop (at + 1) bytes ≡ bytes =
     ap (λ l. l ++ drop (at + 1) bytes) (sym (taken_with_feed bytes at found)) ∙ take-append-drop (at + 1) bytes in
@@ -56,9 +61,11 @@ taken_through bytes at found =
     ∙ ap (λ l. take_through line_feed l) split
 
 -- they end one line
-pub line_taken : (raw bytes : List ℕ) (at : ℕ) → IsFeedAt bytes at → ended_lines raw (take (at + 1) bytes) ≡ without_return (raw ++ take at bytes) ∷ []
+pub line_taken : (raw bytes : List ℕ) (at : ℕ) → IsFeedAt bytes at
+    → ended_lines raw (take (at + 1) bytes) ≡ without_return (raw ++ take at bytes) ∷ []
 line_taken raw bytes at found =
-    ap (λ l. ended_lines raw l) (taken_with_feed bytes at found) ∙ ended_lines-piece raw (take at bytes) [] (clean_before bytes at found)
+    ap (λ l. ended_lines raw l) (taken_with_feed bytes at found)
+    ∙ ended_lines-piece raw (take at bytes) [] (clean_before bytes at found)
 
 -- and leave none begun
 pub none_begun : (raw bytes : List ℕ) (at : ℕ) → IsFeedAt bytes at → unended raw (take (at + 1) bytes) ≡ []

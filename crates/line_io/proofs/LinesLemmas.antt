@@ -6,23 +6,40 @@ use Rattle.std.proofs.lemmas.Bool.Decides.{nat_tests}
 use Rattle.std.proofs.lemmas.List.Elements.{All-head, All-tail, All-cons, All-nil, All-append}
 use Rattle.line_io.specs.Lines.{line_feed, without_return, ended_lines, unended, last_line, HasNoEnd, rejoined, IsSplitAtEnds, AreLinesOf}
 
+-- the lines of two pieces after one byte, by whether it is an LF
+lines_more : (v : Bool) (begun grown xs b : List ℕ)
+    → ended_lines [] (xs ++ b) ≡ ended_lines [] xs ++ ended_lines (unended [] xs) b
+    → ended_lines grown (xs ++ b) ≡ ended_lines grown xs ++ ended_lines (unended grown xs) b
+    → (if v then without_return begun ∷ ended_lines [] (xs ++ b) else ended_lines grown (xs ++ b))
+    ≡ (if v then without_return begun ∷ ended_lines [] xs else ended_lines grown xs)
+    ++ ended_lines (if v then unended [] xs else unended grown xs) b
+lines_more true begun grown xs b ends goes_on = ap (λ l. without_return begun ∷ l) ends
+lines_more false begun grown xs b ends goes_on = goes_on
+
 -- the lines of two pieces, one after the other
-pub ended_lines-append : (begun a b : List ℕ) → ended_lines begun (a ++ b) ≡ ended_lines begun a ++ ended_lines (unended begun a) b
+pub ended_lines-append : (begun a b : List ℕ)
+    → ended_lines begun (a ++ b) ≡ ended_lines begun a ++ ended_lines (unended begun a) b
 ended_lines-append begun [] b = refl
 ended_lines-append begun (x ∷ xs) b =
-    elim (x == line_feed) as (λ v. (if v then without_return begun ∷ ended_lines [] (xs ++ b) else ended_lines (begun ++ x ∷ []) (xs ++ b)) ≡ (if v then without_return begun ∷ ended_lines [] xs else ended_lines (begun ++ x ∷ []) xs) ++ ended_lines (if v then unended [] xs else unended (begun ++ x ∷ []) xs) b) [
-      | true ↦ ap (λ l. without_return begun ∷ l) (ended_lines-append [] xs b)
-      | false ↦ ended_lines-append (begun ++ x ∷ []) xs b
-    ]
+    lines_more (x == line_feed) begun (begun ++ x ∷ []) xs b
+    (ended_lines-append [] xs b)
+    (ended_lines-append (begun ++ x ∷ []) xs b)
+
+-- what stands begun after two pieces and one byte, by whether it is an LF
+unended_more : (v : Bool) (grown xs b : List ℕ) → unended [] (xs ++ b) ≡ unended (unended [] xs) b
+    → unended grown (xs ++ b) ≡ unended (unended grown xs) b
+    → (if v then unended [] (xs ++ b) else unended grown (xs ++ b))
+    ≡ unended (if v then unended [] xs else unended grown xs) b
+unended_more true grown xs b ends goes_on = ends
+unended_more false grown xs b ends goes_on = goes_on
 
 -- what stands begun after two pieces
 pub unended-append : (begun a b : List ℕ) → unended begun (a ++ b) ≡ unended (unended begun a) b
 unended-append begun [] b = refl
 unended-append begun (x ∷ xs) b =
-    elim (x == line_feed) as (λ v. (if v then unended [] (xs ++ b) else unended (begun ++ x ∷ []) (xs ++ b)) ≡ unended (if v then unended [] xs else unended (begun ++ x ∷ []) xs) b) [
-      | true ↦ unended-append [] xs b
-      | false ↦ unended-append (begun ++ x ∷ []) xs b
-    ]
+    unended_more (x == line_feed) (begun ++ x ∷ []) xs b
+    (unended-append [] xs b)
+    (unended-append (begun ++ x ∷ []) xs b)
 
 -- a byte that is no LF is told apart by the test
 pub not_feed : (x : ℕ) → x ≢ line_feed → (x == line_feed) ≡ false
@@ -68,14 +85,17 @@ unended-rejoined [] rest r = unended-clean [] rest r
 unended-rejoined (p ∷ ps) rest r = unended-piece [] p (rejoined ps rest) ∙ unended-rejoined ps rest r
 
 -- bytes that are split at their LFs have these lines
-pub lines_of_split : (bytes : List ℕ) (pieces : List (List ℕ)) (rest : List ℕ) → IsSplitAtEnds bytes pieces rest → AreLinesOf bytes pieces rest
+pub lines_of_split : (bytes : List ℕ) (pieces : List (List ℕ)) (rest : List ℕ)
+    → IsSplitAtEnds bytes pieces rest → AreLinesOf bytes pieces rest
 lines_of_split bytes pieces rest s =
     let ended : ended_lines [] bytes ≡ map without_return pieces =
     ap (λ l. ended_lines [] l) s.whole ∙ ended_lines-rejoined pieces rest s.pieces_clean s.rest_clean in
-    let last : unended [] bytes ≡ rest = ap (λ l. unended [] l) s.whole ∙ unended-rejoined pieces rest s.rest_clean in
+    let last : unended [] bytes ≡ rest = ap (λ l. unended [] l) s.whole
+    ∙ unended-rejoined pieces rest s.rest_clean in
     record {
       before_end = ended;
-      at_end = ap (λ l. l ++ last_line (unended [] bytes)) ended ∙ ap (λ l. map without_return pieces ++ last_line l) last;
+      at_end = ap (λ l. l ++ last_line (unended [] bytes)) ended
+          ∙ ap (λ l. map without_return pieces ++ last_line l) last;
       begun = last;
     }
 
@@ -84,7 +104,8 @@ abbrev CanSplit : List ℕ → List ℕ → List ℕ → Type 0
 CanSplit begun bytes rest = (pieces : List (List ℕ)) × IsSplitAtEnds (begun ++ bytes) pieces rest
 
 -- one byte more in front, by whether it is an LF
-split_more : (v : Bool) (x : ℕ) → (x == line_feed) ≡ v → (begun xs : List ℕ) → HasNoEnd begun → CanSplit [] xs (unended [] xs)
+split_more : (v : Bool) (x : ℕ) → (x == line_feed) ≡ v → (begun xs : List ℕ) → HasNoEnd begun
+    → CanSplit [] xs (unended [] xs)
     → (HasNoEnd (begun ++ x ∷ []) → CanSplit (begun ++ x ∷ []) xs (unended (begun ++ x ∷ []) xs))
     → CanSplit begun (x ∷ xs) (if v then unended [] xs else unended (begun ++ x ∷ []) xs)
 split_more true x e begun xs h (pieces, s) more =
@@ -97,7 +118,8 @@ split_more true x e begun xs h (pieces, s) more =
       },
     )
 split_more false x e begun xs h s more =
-    let one : HasNoEnd (x ∷ []) = All-cons (λ b. b ≢ line_feed) x [] (eqb-false x line_feed e) (All-nil (λ b. b ≢ line_feed)) in
+    let one : HasNoEnd (x ∷ []) =
+    All-cons (λ b. b ≢ line_feed) x [] (eqb-false x line_feed e) (All-nil (λ b. b ≢ line_feed)) in
     let (pieces, found) = more (All-append (λ b. b ≢ line_feed) begun (x ∷ []) h one) in (
       pieces,
       record {
@@ -112,7 +134,9 @@ pub can_split : (begun bytes : List ℕ) → HasNoEnd begun → CanSplit begun b
 can_split begun [] h =
     ([], record { whole = append-nil begun; pieces_clean = All-nil HasNoEnd; rest_clean = h })
 can_split begun (x ∷ xs) h =
-    split_more (x == line_feed) x refl begun xs h (can_split [] xs (All-nil (λ b. b ≢ line_feed))) (λ more. can_split (begun ++ x ∷ []) xs more)
+    split_more (x == line_feed) x refl begun xs h
+    (can_split [] xs (All-nil (λ b. b ≢ line_feed)))
+    (λ more. can_split (begun ++ x ∷ []) xs more)
 
 -- how long a line with one more byte is
 one_more : (line : List ℕ) (last : ℕ) → length (line ++ last ∷ []) - 1 ≡ length line
@@ -128,7 +152,8 @@ without_return-dropped line =
     rw (none_empty line 13, one_more line 13, get_or-append_seam line 13 [] 0) (take-append_seam line (13 ∷ []))
 
 -- another byte at the end stays, and the bytes before it
-pub without_return-kept : (line : List ℕ) (last : ℕ) → last ≢ 13 → without_return (line ++ last ∷ []) ≡ line ++ last ∷ []
+pub without_return-kept : (line : List ℕ) (last : ℕ) → last ≢ 13
+    → without_return (line ++ last ∷ []) ≡ line ++ last ∷ []
 without_return-kept line last h =
     let other : (last == 13) ≡ false = grind (arith, nat_tests) in
     rw (none_empty line last, one_more line last, get_or-append_seam line last [] 0, other) refl

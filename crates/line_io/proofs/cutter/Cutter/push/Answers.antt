@@ -19,12 +19,18 @@ returns-in-Some-clause-held c = λ raw h.
 
 pub returns-in-None-clause-taken : goal.returns-in-None-clause-taken
 returns-in-None-clause-taken c =
-    take-length c.args.bytes.now ∙ sym (take_through-clean c.args.bytes.now (clean_from_search c.args.bytes.now c.in-None.ensures))
+    take-length c.args.bytes.now
+    ∙ sym (take_through-clean c.args.bytes.now (clean_from_search c.args.bytes.now c.in-None.ensures))
 
 pub returns-in-None-clause-cut : goal.returns-in-None-clause-cut
 returns-in-None-clause-cut c = λ raw h.
-    rw (take-length c.args.bytes.now) (ended_lines-clean raw c.args.bytes.now (clean_from_search c.args.bytes.now c.in-None.ensures))
+    rw (take-length c.args.bytes.now)
+    (ended_lines-clean raw c.args.bytes.now (clean_from_search c.args.bytes.now c.in-None.ensures))
 
 pub returns-in-None-clause-held : goal.returns-in-None-clause-held
 returns-in-None-clause-held c = λ raw h.
-    rw (take-length c.args.bytes.now, unended-clean raw c.args.bytes.now (clean_from_search c.args.bytes.now c.in-None.ensures)) (c.keep-in-None.ensures.held raw h)
+    rw (
+      take-length c.args.bytes.now,
+      unended-clean raw c.args.bytes.now (clean_from_search c.args.bytes.now c.in-None.ensures),
+    )
+    (c.keep-in-None.ensures.held raw h)
