@@ -1,0 +1,47 @@
+ghost use Rattle.std.specs.Prelude.{◌≡◌, ℕ, None};
+
+use crate::gathered::Gathered;
+use crate::sink::Sink;
+use crate::source::{Failed, fault};
+use std::io::Write;
+use std::marker::Model;
+
+/// A sink that gathers what it takes, and fails once a giving-out has failed.
+#[derive(Drop)]
+pub struct GatheredWriter<'g, W: Write + Drop> {
+    gathered: &'g Gathered<W>,
+    faults: u64,
+}
+
+impl<'g, W: Write + Drop> Model for GatheredWriter<'g, W> {
+    ghost use Rattle.std.specs.Prelude.{ℕ};
+
+    ghost Value = { ℕ };
+
+    ghost view = { λ s. s.faults };
+}
+
+impl<'g, W: Write + Drop> GatheredWriter<'g, W> {
+    /// A sink into `gathered` that has met no fault.
+    pub fn new(gathered: &'g Gathered<W>) -> GatheredWriter<'g, W>
+        ensures { result ≡ 0 }
+    {
+        GatheredWriter {
+            gathered,
+            faults: 0,
+        }
+    }
+}
+
+impl<'g, W: Write + Drop> Sink for GatheredWriter<'g, W> {
+    ghost held = { λ _. None };
+
+    ghost faults = { λ s. s };
+
+    fn write(&mut self, piece: &[u8]) -> Result<usize, Failed> {
+        match self.gathered.add(piece) {
+            Some(taken) => Ok(taken),
+            None => Err(fault(&mut self.faults)),
+        }
+    }
+}

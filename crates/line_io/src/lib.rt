@@ -1,0 +1,35 @@
+//! A stream is a list of bytes, cut into lines; sources and sinks may fail and count it. What
+//! comes out of a cutter are the lines of what went in, however it was cut into pieces.
+#![tactic(auto)]
+
+mod buffer;
+mod cutter;
+mod from_reader;
+mod gathered;
+mod gathered_reader;
+mod gathered_writer;
+mod gathering;
+mod laws;
+mod memory_sink;
+mod memory_source;
+mod pieces;
+mod sink;
+mod source;
+mod steady_sink;
+mod steady_source;
+mod to_writer;
+
+pub use buffer::LineBuf;
+pub use cutter::{Cut, Cutter, LINE_MOST};
+pub use from_reader::FromReader;
+pub use gathered::Gathered;
+pub use gathered_reader::GatheredReader;
+pub use gathered_writer::GatheredWriter;
+pub use laws::{dropped_return, line_pieces, lines_in_pieces};
+pub use memory_sink::MemorySink;
+pub use memory_source::MemorySource;
+pub use sink::Sink;
+pub use source::{Failed, Source};
+pub use steady_sink::SteadySink;
+pub use steady_source::SteadySource;
+pub use to_writer::ToWriter;
