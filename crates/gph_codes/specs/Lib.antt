@@ -1,0 +1,4 @@
+pub mod Allowed
+pub mod Digits
+pub mod Words
+pub mod WordsLaw

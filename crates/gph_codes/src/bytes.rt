@@ -1,0 +1,49 @@
+//! The bytes of words, the top byte of the first word first.
+
+ghost use Rattle.std.specs.Prelude.{◌≡◌, ℕ, ◌+◌, ◌*◌, ◌≤◌, length, take, drop};
+ghost use Rattle.gph_codes.specs.Words.{byte_bits, word_bits};
+ghost use Rattle.hamming_model.specs.Codes.{bits_of};
+
+/// How many bytes a buffer for the bytes of a code has.
+pub const BUFFER: usize = 64;
+
+/// The words of a buffer's first bytes.
+pub fn words_from<const W: usize>(bytes: &[u8; BUFFER]) -> [u64; W]
+    requires { W ≤ 8 }
+    ensures { word_bits result ≡ byte_bits (take (8 * W) bytes.now) }
+{
+    let mut words = [0; W];
+    for i in 0..W {
+        words[i] = word_at(bytes, 8 * i);
+    }
+    words
+}
+
+/// The bytes of words, in a buffer.
+pub fn bytes_of<const W: usize>(words: &[u64; W]) -> [u8; BUFFER]
+    requires { W ≤ 8 }
+    ensures { byte_bits (take (8 * W) result) ≡ word_bits words.now }
+{
+    let mut bytes = [0; BUFFER];
+    for i in 0..W {
+        bytes[8 * i..8 * i + 8].copy_from_slice(&words[i].to_be_bytes());
+    }
+    bytes
+}
+
+// The word of the eight bytes from a place on.
+fn word_at(bytes: &[u8], at: usize) -> u64
+    requires { at + 8 ≤ length bytes.now }
+    ensures { bits_of 64 result ≡ byte_bits (take 8 (drop at bytes.now)) }
+{
+    u64::from_be_bytes([
+        bytes[at],
+        bytes[at + 1],
+        bytes[at + 2],
+        bytes[at + 3],
+        bytes[at + 4],
+        bytes[at + 5],
+        bytes[at + 6],
+        bytes[at + 7],
+    ])
+}
