@@ -1,7 +1,7 @@
 -- Words are got back from their bits. No public clause cites this module.
 use Rattle.std.proofs.Common.{◌≡◌, ℕ, zero, suc, ◌+◌, ◌*◌, ◌/◌, ◌%◌, ◌^◌, ◌<◌, List, [], ◌∷◌, ◌++◌, length, take, drop, refl, sym, ap, ◌∙◌, arith}
 use Rattle.std.specs.Int.Digits.{number_from_digits, number_from_digits_after}
-use Rattle.std.proofs.Math.Nat.{pow-suc, add-mul, mul_assoc, mul_comm}
+use Rattle.std.proofs.Math.Nat.{pow-suc, add-mul, mul_assoc, mul_comm, mod-eq_of_lt}
 use Rattle.std.proofs.Math.Seq.{take-append_seam, drop-append_seam}
 use Rattle.std.proofs.lemmas.Nat.{mod-pow-add}
 use Rattle.hamming_model.specs.Codes.{bits_of}
@@ -34,11 +34,11 @@ number_after_bits zero start number = omega arith
 number_after_bits (suc n) start number =
     number_after_bits n (start * 2 + number / 2 ^ n % 2) number
     ∙ one_digit (2 ^ n) start (number / 2 ^ n % 2) (number % 2 ^ n)
-    ∙ rw (pow-suc 2 n, low_bits n number) refl
+    ∙ rw (← low_bits n number, ← pow-suc 2 n) refl
 
 -- the binary digits of a number are those of the number
 pub number_of_bits : (n number : ℕ) → number < 2 ^ n → number_from_digits 2 (bits_of n number) ≡ number
-number_of_bits n number fits = number_after_bits n 0 number ∙ omega arith
+number_of_bits n number fits = number_after_bits n 0 number ∙ omega (arith, mod-eq_of_lt fits)
 
 -- the first of two lists that are joined
 take_first : (xs ys : List ℕ) (n : ℕ) → length xs ≡ n → take n (xs ++ ys) ≡ xs

@@ -32,7 +32,7 @@ impl<const W: usize> Model for Code<W> {
 
     ghost inverse = { λ bits. record { words = words_of W bits } };
 
-    ghost inverse_ok = { λ code fits. record { words = words_again W code.words fits } };
+    ghost inverse_ok = { λ code fits i. record { words = words_again W code.words fits i } };
 }
 
 impl<const W: usize> Code<W> {
