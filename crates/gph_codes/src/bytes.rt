@@ -1,6 +1,6 @@
 //! The bytes of words, the top byte of the first word first.
 
-ghost use Rattle.std.specs.Prelude.{◌≡◌, ℕ, ◌+◌, ◌*◌, ◌≤◌, length, take, drop};
+ghost use Rattle.std.specs.Prelude.{◌≡◌, ℕ, ◌+◌, ◌*◌, ◌++◌, ◌≤◌, length, take, drop};
 ghost use Rattle.gph_codes.specs.Words.{byte_bits, word_bits};
 ghost use Rattle.hamming_model.specs.Codes.{bits_of};
 
@@ -26,9 +26,17 @@ pub fn bytes_of<const W: usize>(words: &[u64; W]) -> [u8; BUFFER]
 {
     let mut bytes = [0; BUFFER];
     for i in 0..W {
-        bytes[8 * i..8 * i + 8].copy_from_slice(&words[i].to_be_bytes());
+        put_word(&mut bytes, 8 * i, words[i]);
     }
     bytes
+}
+
+// Writes a word's eight bytes from a place on.
+fn put_word(bytes: &mut [u8], at: usize, word: u64)
+    requires { at + 8 ≤ length bytes.old }
+    ensures { byte_bits (take (at + 8) bytes.new) ≡ byte_bits (take at bytes.old) ++ bits_of 64 word }
+{
+    bytes[at..at + 8].copy_from_slice(&word.to_be_bytes());
 }
 
 // The word of the eight bytes from a place on.
