@@ -1,8 +1,8 @@
 -- The binary digits of numbers, of words and of bytes: joined, cut and read.
-use Rattle.std.proofs.Common.{◌≡◌, ℕ, zero, suc, ◌+◌, ◌-◌, ◌*◌, ◌/◌, ◌%◌, ◌^◌, ◌<◌, ◌≤◌, List, [], ◌∷◌, ◌++◌, length, take, drop, set, get_or, refl, sym, ap, ◌∙◌, arith, drop-cons, eq-eqb, append-nil, add-one, inl, inr}
+use Rattle.std.proofs.Common.{◌≡◌, ℕ, zero, suc, ◌+◌, ◌-◌, ◌*◌, ◌/◌, ◌%◌, ◌^◌, ◌<◌, ◌≤◌, List, [], ◌∷◌, ◌++◌, length, take, drop, set, get_or, replicate, refl, sym, ap, ◌∙◌, arith, drop-cons, eq-eqb, append-nil, add-one, inl, inr}
 use lib.Bits.{bit_and}
 use Rattle.std.specs.Prelude.{IsTrue, ◌==◌, ◌↔◌}
-use Rattle.std.specs.List.{flat_map}
+use Rattle.std.specs.List.{AllByRecursion, flat_map}
 use Rattle.std.specs.Int.{byte_at, bytes_high_first, from_be_bytes, w64}
 use Rattle.std.proofs.Math.Nat.{zero-add, mul-zero, mul-suc, pow-suc}
 use Rattle.std.proofs.Math.Seq.{take-append-add, take-add, take-nil}
@@ -11,8 +11,9 @@ use Rattle.std.proofs.lemmas.Grind.{flat_map-append}
 use Rattle.std.proofs.lemmas.List.{take_more_set, take_more, get_or_append_left, get_or-append-add, length-append}
 use Rattle.std.proofs.lemmas.Nat.{be_bytes_8, pow-add, shr-shr, shr_split}
 use Rattle.std.proofs.lemmas.Nat.Bits.{bit_at_cat_low, shr_and_one}
+use Rattle.hex.specs.Hex.{IsBytes}
 use Rattle.hamming_model.specs.Codes.{bits_of}
-use Rattle.gph_codes.specs.Words.{byte_bits, word_bits}
+use Rattle.gph_codes.specs.Words.{IsWords, byte_bits, word_bits}
 use Rattle.gph_codes.specs.WordsLaw.{length-bits_of}
 
 -- the digits of a number are the high ones and then the low ones
@@ -89,7 +90,7 @@ eight_of bytes at inside =
     ) refl
 
 -- the first of bytes are bytes
-take_fits : (k : ℕ) (bytes : List ℕ) → ((i : ℕ) → get_or bytes i 0 < 256) → (i : ℕ) → get_or (take k bytes) i 0 < 256
+pub take_fits : (k : ℕ) (bytes : List ℕ) → ((i : ℕ) → get_or bytes i 0 < 256) → (i : ℕ) → get_or (take k bytes) i 0 < 256
 take_fits zero bytes fit i = omega arith
 take_fits (suc k) [] fit i = omega arith
 take_fits (suc k) (byte ∷ bytes) fit zero = fit 0
@@ -182,3 +183,50 @@ pub one_word_written : (words bytes written : List ℕ) (i : ℕ) → i < length
 one_word_written words bytes written i below before now =
     let more : 8 * (i + 1) ≡ 8 * i + 8 = omega arith in
     rw (more, now, before, take_more words i 0 below, flat_map-append (bits_of 64) (take i words) (get_or words i 0 ∷ []), append-nil) refl
+
+-- zeros are words of 64 bits
+pub IsWords-replicate : (number : ℕ) → IsWords number (replicate number 0)
+IsWords-replicate zero = record { size = refl; fit = tt }
+IsWords-replicate (suc number) =
+    let rest = IsWords-replicate number in
+    record { size = omega arith; fit = (omega arith, rest.fit) }
+
+-- words in which one is set are words of 64 bits
+pub IsWords-set : (number : ℕ) (words : List ℕ) (i word : ℕ) → IsWords number words → word < 2 ^ 64 → IsWords number (set words i word)
+IsWords-set number [] i word fits fit = fits
+IsWords-set number (first ∷ words) zero word fits fit = record { size = fits.size; fit = (fit, fits.fit.1) }
+IsWords-set zero (first ∷ words) (suc i) word fits fit = absurd (omega arith)
+IsWords-set (suc number) (first ∷ words) (suc i) word fits fit =
+    let rest = IsWords-set number words i word (record { size = omega arith; fit = fits.fit.1 }) fit in
+    record { size = omega arith; fit = (fits.fit.0, rest.fit) }
+
+-- zeros are bytes
+pub IsBytes-zeros : (number : ℕ) → IsBytes (replicate number 0)
+IsBytes-zeros zero i = omega arith
+IsBytes-zeros (suc number) zero = omega arith
+IsBytes-zeros (suc number) (suc i) = IsBytes-zeros number i
+
+-- the bits of a digit are 0 or 1
+binary-bits_of : (n x : ℕ) → AllByRecursion (λ bit. bit < 2) (bits_of n x)
+unfolding bits_of
+binary-bits_of zero x = tt
+binary-bits_of (suc n) x = (omega arith, binary-bits_of n x)
+
+-- lists of bits that are joined are bits
+binary-append : (a b : List ℕ) → AllByRecursion (λ bit. bit < 2) a → AllByRecursion (λ bit. bit < 2) b
+    → AllByRecursion (λ bit. bit < 2) (a ++ b)
+binary-append [] b first rest = rest
+binary-append (x ∷ a) b first rest = (first.0, binary-append a b first.1 rest)
+
+-- the bits of bytes are 0 or 1
+pub binary-byte_bits : (bytes : List ℕ) → AllByRecursion (λ bit. bit < 2) (byte_bits bytes)
+binary-byte_bits [] = tt
+binary-byte_bits (byte ∷ bytes) = binary-append (bits_of 8 byte) (byte_bits bytes) (binary-bits_of 8 byte) (binary-byte_bits bytes)
+
+-- the bits of zero bytes are zeros
+pub byte_bits-zeros : (number : ℕ) → byte_bits (replicate number 0) ≡ replicate (8 * number) 0
+unfolding bits_of
+byte_bits-zeros zero = refl
+byte_bits-zeros (suc number) =
+    let more : 8 * suc number ≡ suc (suc (suc (suc (suc (suc (suc (suc (8 * number)))))))) = omega arith in
+    rw (more, byte_bits-zeros number) refl

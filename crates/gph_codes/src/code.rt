@@ -5,9 +5,10 @@ ghost use Rattle.hamming_model.specs.Codes.{StandsFor, distance, hex_code};
 ghost use Rattle.gph_codes.specs.Allowed.{IsAllowed};
 ghost use Rattle.gph_codes.specs.Digits.{IsHexDigit, IsLowerDigit, IsSpelled, IsFirstFault};
 ghost use Rattle.gph_codes.specs.declared.code_fault.CodeFault.TheVariants.{Length, Digit};
+ghost use Rattle.hex.specs.declared.error.FromHexError.TheVariants.{InvalidHexCharacter};
 
 use crate::CodeFault;
-use crate::bytes::{BUFFER, bytes_of, words_from};
+use crate::bytes::{BUFFER, bytes_of, spell, words_from};
 use crate::distance::word_distance;
 use hex::FromHexError;
 use std::marker::Model;
@@ -52,7 +53,7 @@ impl<const W: usize> Code<W> {
             return Err(CodeFault::Length);
         }
         let mut bytes = [0; BUFFER];
-        match hex::decode_to_slice(text, &mut bytes[..bits as usize / 8]) {
+        match spell(text, bits as usize / 8, &mut bytes) {
             Ok(()) => Ok(Code {
                 words: words_from(&bytes),
             }),
@@ -94,7 +95,9 @@ pub fn dist<const W: usize>(a: &Code<W>, b: &Code<W>) -> u32
 }
 
 // The place of the byte that is no digit.
-fn place_of(fault: FromHexError) -> usize {
+fn place_of(fault: FromHexError) -> usize
+    ensures { (c index : ℕ) → fault ≡ InvalidHexCharacter c index → result ≡ index }
+{
     match fault {
         FromHexError::InvalidHexCharacter { index, .. } => index,
         _ => 0,
