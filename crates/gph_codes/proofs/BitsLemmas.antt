@@ -83,10 +83,14 @@ eight_from bytes at =
 eight_of : (bytes : List ℕ) (at : ℕ) → at + 8 ≤ length bytes → take 8 (drop at bytes) ≡ eight_from bytes at
 eight_of bytes at inside =
     rw (
-      next_from bytes 7 at (at + 1) (omega arith) (omega arith), next_from bytes 6 (at + 1) (at + 2) (omega arith) (omega arith),
-      next_from bytes 5 (at + 2) (at + 3) (omega arith) (omega arith), next_from bytes 4 (at + 3) (at + 4) (omega arith) (omega arith),
-      next_from bytes 3 (at + 4) (at + 5) (omega arith) (omega arith), next_from bytes 2 (at + 5) (at + 6) (omega arith) (omega arith),
-      next_from bytes 1 (at + 6) (at + 7) (omega arith) (omega arith), next_from bytes 0 (at + 7) (at + 8) (omega arith) (omega arith)
+      next_from bytes 7 at (at + 1) (omega arith) (omega arith),
+      next_from bytes 6 (at + 1) (at + 2) (omega arith) (omega arith),
+      next_from bytes 5 (at + 2) (at + 3) (omega arith) (omega arith),
+      next_from bytes 4 (at + 3) (at + 4) (omega arith) (omega arith),
+      next_from bytes 3 (at + 4) (at + 5) (omega arith) (omega arith),
+      next_from bytes 2 (at + 5) (at + 6) (omega arith) (omega arith),
+      next_from bytes 1 (at + 6) (at + 7) (omega arith) (omega arith),
+      next_from bytes 0 (at + 7) (at + 8) (omega arith) (omega arith),
     ) refl
 
 -- the first of bytes are bytes
@@ -165,15 +169,23 @@ pub one_word_more : (words bytes : List ℕ) (i word : ℕ) → i < length words
     → word_bits (take (i + 1) (set words i word)) ≡ byte_bits (take (8 * (i + 1)) bytes)
 one_word_more words bytes i word below before now =
     let more : 8 * (i + 1) ≡ 8 * i + 8 = omega arith in
-    rw (take_more_set words i word below, flat_map-append (bits_of 64) (take i words) (word ∷ []), append-nil, more,
-      take-add (8 * i) 8 bytes, flat_map-append (bits_of 8) (take (8 * i) bytes) (take 8 (drop (8 * i) bytes)), before, now) refl
+    rw (
+      take_more_set words i word below,
+      flat_map-append (bits_of 64) (take i words) (word ∷ []),
+      append-nil,
+      more,
+      take-add (8 * i) 8 bytes,
+      flat_map-append (bits_of 8) (take (8 * i) bytes) (take 8 (drop (8 * i) bytes)),
+      before,
+      now,
+    ) refl
 
 -- what the test of a bit in its word tells
 pub bit_told : (words bits : List ℕ) (j : ℕ) → j < 64 * length words → word_bits words ≡ bits
     → IsTrue (bit_and (get_or words (j / 64) 0 / 2 ^ (63 - j % 64)) 1 == 1) ↔ (get_or bits j 0 ≡ 1)
 bit_told words bits j below seen =
     rw (← seen, get_or-word_bits words j below, shr_and_one)
-      (eqb-true (get_or words (j / 64) 0 / 2 ^ (63 - j % 64) % 2) 1, eq-eqb (get_or words (j / 64) 0 / 2 ^ (63 - j % 64) % 2) 1)
+    (eqb-true (get_or words (j / 64) 0 / 2 ^ (63 - j % 64) % 2) 1, eq-eqb (get_or words (j / 64) 0 / 2 ^ (63 - j % 64) % 2) 1)
 
 -- one more word is written as eight more bytes
 pub one_word_written : (words bytes written : List ℕ) (i : ℕ) → i < length words

@@ -1,24 +1,22 @@
 -- Hexadecimal text: the bits that its digits spell, its first fault, and the digits that bytes are written in.
-use Rattle.std.proofs.Common.{◌≡◌, ℕ, zero, suc, ◌+◌, ◌-◌, ◌*◌, ◌/◌, ◌%◌, ◌^◌, ◌<◌, ◌≤◌, ◌==◌, ◌&&◌, ◌||◌, Bool, true, false, List, [], ◌∷◌, ◌++◌, length, take, drop, replicate, get_or, Option, Some, None, Result, Ok, Err, is_some, All, refl, sym, ap, ◌∙◌, arith, append_assoc, inl, inr}
-use Rattle.std.specs.Prelude.{IsOk, MatchResult, ◌↔◌, slice_index, nat_le, IsTrue}
+use Rattle.std.proofs.Common.{◌≡◌, ℕ, zero, suc, ◌+◌, ◌-◌, ◌*◌, ◌/◌, ◌%◌, ◌^◌, ◌<◌, ◌≤◌, ◌&&◌, ◌||◌, Bool, true, false, List, [], ◌∷◌, ◌++◌, length, take, drop, replicate, get_or, Option, Some, None, Result, Ok, Err, is_some, All, refl, sym, ap, ◌∙◌, arith, append_assoc, inl, inr}
+use Rattle.std.specs.Prelude.{MatchResult, slice_index, nat_le}
 use Rattle.std.specs.Char.{digit_value}
-use Rattle.std.specs.List.{AllByRecursion, AllPass, flat_map}
 use Rattle.std.proofs.lemmas.Bool.{and_parts, cases_lt, or_cases}
 use Rattle.std.proofs.lemmas.Bool.Decides.{nat_tests}
 use Rattle.std.proofs.lemmas.Grind.{flat_map-append}
-use Rattle.std.proofs.lemmas.List.{append-nil, length-append, length-take-le, take-take, take-replicate, drop-replicate, get_or-take}
+use Rattle.std.proofs.lemmas.List.{length-take-le, take-take, take-replicate, drop-replicate, get_or-take}
 use borrow.Author.Tests.{leb-true}
 use Rattle.std.proofs.Math.Seq.{take-append-add, take-append_seam}
-use Rattle.std.proofs.lemmas.List.Elements.{All-cons, All-head, All-nil, All-tail}
+use Rattle.std.proofs.lemmas.List.Elements.{All-cons, All-nil}
 use Rattle.hex.specs.Hex.{IsBytes, decode_of, decode_pairs, decode_sized, digit_or_error, encode_lower, encode_with, hex_digit_value, is_hex_digit, lower_digits, pair_value, value_at, ◌>>=◌}
 use Rattle.hex.specs.declared.error.FromHexError.{FromHexError}
 use Rattle.hex.specs.declared.error.FromHexError.TheVariants.{InvalidHexCharacter}
-use Rattle.hex.proofs.HexLemmas.{decode_of-encode_lower, decode_of-ok, decode_of-even, decode_pairs-err, decode_pairs-ok, decode_sized-twice, length-encode_with}
-use Rattle.hamming_model.specs.Codes.{IsCode, StandsFor, bits_of, hex_code, padded}
+use Rattle.hex.proofs.HexLemmas.{decode_of-encode_lower, decode_of-ok, decode_of-even, decode_pairs-err, decode_sized-twice, length-encode_with}
+use Rattle.hamming_model.specs.Codes.{StandsFor, bits_of, hex_code, padded}
 use Rattle.gph_codes.specs.Digits.{IsFirstFault, IsHexDigit, IsLowerDigit, IsSpelled}
 use Rattle.gph_codes.specs.Spelling.{Spells}
-use Rattle.gph_codes.specs.Words.{byte_bits, word_bits}
-use Rattle.gph_codes.specs.WordsLaw.{length-bits_of}
+use Rattle.gph_codes.specs.Words.{byte_bits}
 use Rattle.gph_codes.proofs.BitsLemmas.{binary-byte_bits, bits_of-add, bits_of-rest, byte_bits-zeros, flat_map_bits-take, length-flat_map_bits}
 
 -- the value of a digit
@@ -82,8 +80,13 @@ code_of_pair a b high low byte rest tail bytes read_a read_b is whole more =
     let list : bytes ≡ byte ∷ tail = cc in
     let sum : byte ≡ high * 16 + low = cc in
     rw (
-      list, sum, value_of_digit a high read_a, value_of_digit b low read_b,
-      bits_of-pair high low (value_below a high read_a) (value_below b low read_b), more, append_assoc
+      list,
+      sum,
+      value_of_digit a high read_a,
+      value_of_digit b low read_b,
+      bits_of-pair high low (value_below a high read_a) (value_below b low read_b),
+      more,
+      append_assoc,
     ) refl
 
 -- digits spell the bits of the bytes that they decode to
@@ -144,15 +147,15 @@ read_refused bits text old new fault whole size refused =
     let err = read_err text old new (bits / 8) fault (decode_of text) refl refused in
     let told = decode_pairs-err 0 text fault even (sym (decode_of-even text even) ∙ err) in
     let place : 0 + told.0 ≡ told.0 = omega arith in
-    let sized = length-take-le told.0 text (omega arith) in
-    (
-      told.0, rw place at told.1,
+    let sized = length-take-le told.0 text (omega arith) in (
+      told.0,
+      rw place at told.1,
       record {
         size = size;
         in_text = told.2;
         is_none = digit_is_none (slice_index text told.0) told.3;
         before = λ k below. digit_is (slice_index text k) (rw (get_or-take told.0 text k 0 below) at (told.4 k 0 (omega arith)));
-      }
+      },
     )
 
 -- a text has one first fault
@@ -189,10 +192,10 @@ read_stands words bits text new kept few whole room size read is =
     let rest : new ≡ front.0 ++ replicate (64 - bits / 8) zero = front.2 ∙ ap (λ zeros. front.0 ++ zeros) (drop-replicate (bits / 8) 64 zero) in
     let fewer : 8 * words - bits / 8 ≤ 64 - bits / 8 = omega arith in
     let first : take (8 * words) (front.0 ++ replicate (64 - bits / 8) zero) ≡ front.0 ++ replicate (8 * words - bits / 8) zero =
-        (let cut : 8 * words ≡ length front.0 + (8 * words - bits / 8) = omega arith in
-         ap (λ n. take n (front.0 ++ replicate (64 - bits / 8) zero)) cut
-         ∙ take-append-add front.0 (replicate (64 - bits / 8) zero) (8 * words - bits / 8)
-         ∙ ap (λ zeros. front.0 ++ zeros) (take-replicate (8 * words - bits / 8) (64 - bits / 8) zero fewer)) in
+    (let cut : 8 * words ≡ length front.0 + (8 * words - bits / 8) = omega arith in
+    ap (λ n. take n (front.0 ++ replicate (64 - bits / 8) zero)) cut
+    ∙ take-append-add front.0 (replicate (64 - bits / 8) zero) (8 * words - bits / 8)
+    ∙ ap (λ zeros. front.0 ++ zeros) (take-replicate (8 * words - bits / 8) (64 - bits / 8) zero fewer)) in
     let zeros : 8 * (8 * words - bits / 8) ≡ 64 * words - length (byte_bits front.0) = omega arith in
     record {
       is_code = record { size = rw code (omega arith); binary = rw code (binary-byte_bits front.0) };
@@ -211,9 +214,9 @@ is_lower c = (nat_le 48 c && nat_le c 57) || (nat_le 97 c && nat_le c 102)
 
 is_lower-told : (c : ℕ) → is_lower c ≡ true → IsLowerDigit c
 is_lower-told c h = elim (or_cases (nat_le 48 c && nat_le c 57) (nat_le 97 c && nat_le c 102) h) [
-      | inl digit ↦ let parts = and_parts (nat_le 48 c) (nat_le c 57) digit in inl (leb-true 48 c parts.0, leb-true c 57 parts.1)
-      | inr letter ↦ let parts = and_parts (nat_le 97 c) (nat_le c 102) letter in inr (leb-true 97 c parts.0, leb-true c 102 parts.1)
-    ]
+  | inl digit ↦ let parts = and_parts (nat_le 48 c) (nat_le c 57) digit in inl (leb-true 48 c parts.0, leb-true c 57 parts.1)
+  | inr letter ↦ let parts = and_parts (nat_le 97 c) (nat_le c 102) letter in inr (leb-true 97 c parts.0, leb-true c 102 parts.1)
+]
 
 -- the first digits of the table are lower case
 all_lower : ℕ → Bool
@@ -244,7 +247,7 @@ encode_is_lower (byte ∷ bytes) fit =
     All-cons IsLowerDigit (slice_index lower_digits (byte / 16)) (slice_index lower_digits (byte % 16) ∷ encode_lower bytes)
     (lower_at (byte / 16) (omega arith))
     (All-cons IsLowerDigit (slice_index lower_digits (byte % 16)) (encode_lower bytes) (lower_at (byte % 16) (omega arith))
-     (encode_is_lower bytes (λ i. fit (suc i))))
+    (encode_is_lower bytes (λ i. fit (suc i))))
 
 -- bytes are written as digits that spell their bits
 pub code_of_encode : (bytes : List ℕ) → IsBytes bytes → hex_code (encode_lower bytes) ≡ byte_bits bytes

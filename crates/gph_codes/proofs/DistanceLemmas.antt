@@ -1,17 +1,15 @@
 -- The distance of bits that are joined, that words keep, and that stand for codes.
-use Rattle.std.proofs.Common.{◌≡◌, ℕ, zero, suc, ◌+◌, ◌-◌, ◌*◌, ◌/◌, ◌%◌, ◌^◌, ◌<◌, ◌≤◌, List, [], ◌∷◌, ◌++◌, length, take, drop, replicate, get_or, refl, sym, ap, ◌∙◌, arith, append_assoc, add-one, inl, inr}
-use Rattle.std.specs.List.{flat_map}
+use Rattle.std.proofs.Common.{◌≡◌, ℕ, zero, suc, ◌+◌, ◌-◌, ◌*◌, ◌/◌, ◌%◌, ◌^◌, ◌<◌, List, [], ◌∷◌, ◌++◌, length, take, replicate, get_or, refl, arith}
 use Rattle.std.proofs.Math.Nat.{mod-eq_of_lt, mod-lt}
 use Rattle.std.proofs.lemmas.Grind.{flat_map-append}
 use Rattle.std.proofs.lemmas.List.{append-nil, length-take-le, take_more}
 use Rattle.std.proofs.lemmas.Nat.{ones_cat, pow_pos, xor_block, xor_lt}
-use Rattle.std.proofs.lemmas.Nat.Bits.{bit_at-lt}
 use lib.Bits.{bit_xor}
 use lib.Count.{ones}
-use Rattle.hamming_model.specs.Codes.{IsCode, StandsFor, bits_of, difference, distance, padded}
+use Rattle.hamming_model.specs.Codes.{StandsFor, bits_of, difference, distance}
 use Rattle.gph_codes.specs.Words.{word_bits}
 use Rattle.gph_codes.proofs.BitsLemmas.{length-flat_map_bits}
-use Rattle.gph_codes.specs.WordsLaw.{length-bits_of, low_bits}
+use Rattle.gph_codes.specs.WordsLaw.{low_bits}
 
 -- the distance of lists that are joined is the sum of theirs
 pub distance-append : (a b x y : List ℕ) → length a ≡ length b → distance (a ++ x) (b ++ y) ≡ distance a b + distance x y
@@ -48,7 +46,7 @@ ones_of_xor (suc n) x y =
     let low_y : y % 2 ^ n < 2 ^ n = mod-lt y (pow_pos n) in
     let block = xor_block n (x / 2 ^ n % 2) (y / 2 ^ n % 2) (x % 2 ^ n) (y % 2 ^ n) low_x low_y in
     let apart = ones_cat n (bit_xor (x / 2 ^ n % 2) (y / 2 ^ n % 2)) (bit_xor (x % 2 ^ n) (y % 2 ^ n))
-      (xor_lt n (x % 2 ^ n) (y % 2 ^ n) low_x low_y) in
+    (xor_lt n (x % 2 ^ n) (y % 2 ^ n) low_x low_y) in
     let bits = ones_of_bits (x / 2 ^ n % 2) (y / 2 ^ n % 2) (omega arith) (omega arith) in
     rw (low_bits n x, low_bits n y, block, apart, bits, ones_of_xor n x y) refl
 
@@ -81,7 +79,10 @@ distance-more a b i in_a in_b =
     let len_a = length-take-le i a (omega arith) in
     let len_b = length-take-le i b (omega arith) in
     rw (
-      take_more a i 0 in_a, take_more b i 0 in_b,
-      flat_map-append (bits_of 64) (take i a) (get_or a i 0 ∷ []), flat_map-append (bits_of 64) (take i b) (get_or b i 0 ∷ []),
-      append-nil (bits_of 64 (get_or a i 0)), append-nil (bits_of 64 (get_or b i 0))
+      take_more a i 0 in_a,
+      take_more b i 0 in_b,
+      flat_map-append (bits_of 64) (take i a) (get_or a i 0 ∷ []),
+      flat_map-append (bits_of 64) (take i b) (get_or b i 0 ∷ []),
+      append-nil (bits_of 64 (get_or a i 0)),
+      append-nil (bits_of 64 (get_or b i 0)),
     ) (distance-append (word_bits (take i a)) (word_bits (take i b)) (bits_of 64 (get_or a i 0)) (bits_of 64 (get_or b i 0)) (omega arith))

@@ -27,11 +27,9 @@ fn differing(a: u64, b: u64) -> u32
 /// What words keep past a code's own bits adds nothing to the distance.
 pub fn distance_of_codes()
     ensures { (words bits : ℕ) (a b x y : List ℕ) → StandsFor words bits a x → StandsFor words bits b y → distance a b ≡ distance x y }
-{
-}
+{}
 
 /// What words keep stands for one code of so many bits, and no other words stand for that code.
 pub fn one_code()
     ensures { (words bits : ℕ) (a b x y : List ℕ) → StandsFor words bits a x → StandsFor words bits b y → (a ≡ b) ↔ (x ≡ y) }
-{
-}
+{}

@@ -8,10 +8,9 @@ loop-i-init g c = (refl, IsBytes-zeros 64)
 
 pub loop-i-preserved : goal.loop-i-preserved
 loop-i-preserved g c =
-    let inside : c.loop-i.i < length c.args.words.now = search rules in
-    (
+    let inside : c.loop-i.i < length c.args.words.now = search rules in (
       one_word_written c.args.words.now c.loop-i.bytes c.put_word.new.bytes c.loop-i.i inside c.loop-i.invariant.0 c.put_word.ensures.bits,
-      c.put_word.ensures.fit
+      c.put_word.ensures.fit,
     )
 
 pub returns-clause-bits : goal.returns-clause-bits

@@ -9,7 +9,7 @@ returns-clause-bits c =
     let sized : length c.copy_from_slice.new.self ≡ 8 = ap length written in
     word_bytes _ (take c.args.at c.args.bytes.now) c.args.word
     (take-put_mid c.args.at (c.args.at + 8 - c.args.at) c.args.bytes.now c.copy_from_slice.new.self (c.args.at + 8) (omega arith) (omega arith)
-     ∙ ap (λ ys. take c.args.at c.args.bytes.now ++ ys) written)
+    ∙ ap (λ ys. take c.args.at c.args.bytes.now ++ ys) written)
 
 pub returns-clause-fit : goal.returns-clause-fit
 returns-clause-fit c = λ i. (c.type_inv.bytes i).fits

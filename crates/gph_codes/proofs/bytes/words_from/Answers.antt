@@ -8,10 +8,9 @@ loop-i-init g c = (refl, IsWords-replicate g.row.W)
 
 pub loop-i-preserved : goal.loop-i-preserved
 loop-i-preserved g c =
-    let inside : c.loop-i.i < length c.loop-i.words = omega arith in
-    (
+    let inside : c.loop-i.i < length c.loop-i.words = omega arith in (
       one_word_more c.loop-i.words c.args.bytes.now c.loop-i.i c.word_at.result inside c.loop-i.invariant.0 c.word_at.ensures,
-      IsWords-set g.row.W c.loop-i.words c.loop-i.i c.word_at.result c.loop-i.invariant.1 c.word_at.type_inv
+      IsWords-set g.row.W c.loop-i.words c.loop-i.i c.word_at.result c.loop-i.invariant.1 c.word_at.type_inv,
     )
 
 pub returns-clause-words : goal.returns-clause-words

@@ -1,4 +1,3 @@
-use Rattle.std.proofs.Common.{rules, ◌≡◌, arith}
 use Rattle.std.proofs.lemmas.Nat.{ones-le, xor_lt}
 use Rattle.gph_codes.proofs.DistanceLemmas.{ones_of_words}
 use Rattle.gph_codes.proofs.distance.differing.Goals as goal

@@ -6,10 +6,9 @@ use Rattle.gph_codes.proofs.distance.word_distance.Goals as goal
 pub loop-i-preserved : goal.loop-i-preserved
 loop-i-preserved g c =
     let in_a : c.loop-i.i < length c.args.a.now = search rules in
-    let in_b : c.loop-i.i < length c.args.b.now = search rules in
-    (
+    let in_b : c.loop-i.i < length c.args.b.now = search rules in (
       omega (arith, distance-more c.args.a.now c.args.b.now c.loop-i.i in_a in_b),
-      omega arith
+      omega arith,
     )
 
 pub returns : goal.returns

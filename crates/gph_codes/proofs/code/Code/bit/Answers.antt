@@ -1,4 +1,4 @@
-use Rattle.std.proofs.Common.{rules, ◌≡◌, arith, length}
+use Rattle.std.proofs.Common.{arith}
 use Rattle.gph_codes.proofs.BitsLemmas.{bit_told}
 use Rattle.gph_codes.proofs.code.Code.bit.Goals as goal
 

@@ -1,4 +1,4 @@
-use Rattle.std.proofs.Common.{rules, ◌≡◌, ◌∙◌, sym, refl, arith, slice_index}
+use Rattle.std.proofs.Common.{◌≡◌, ◌∙◌, sym, refl, arith, slice_index}
 use Rattle.gph_codes.proofs.DigitsLemmas.{buffer, fault_spells_none, one_fault, read_refused, read_spelled, read_stands}
 use Rattle.gph_codes.proofs.code.Code.from_hex.Goals as goal
 
@@ -27,5 +27,5 @@ returns-in-Err-clause-digit g c =
     let placed = c.place_of.ensures (slice_index c.args.text.now fault.0) fault.0 fault.1 in
     λ at. (
       λ is. (let same : c.place_of.result ≡ at = cc is in rw (sym placed ∙ same) at fault.2),
-      λ other. (let same = placed ∙ one_fault c.args.bits fault.0 at c.args.text.now fault.2 other in rw same refl)
+      λ other. (let same = placed ∙ one_fault c.args.bits fault.0 at c.args.text.now fault.2 other in rw same refl),
     )

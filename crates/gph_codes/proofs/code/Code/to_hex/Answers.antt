@@ -1,4 +1,4 @@
-use Rattle.std.proofs.Common.{rules, ◌≡◌, ◌∙◌, ◌/◌, sym, arith}
+use Rattle.std.proofs.Common.{◌∙◌, ◌/◌}
 use Rattle.gph_codes.proofs.BitsLemmas.{take_fits}
 use Rattle.gph_codes.proofs.DigitsLemmas.{code_of_encode, encode_is_lower, written_code}
 use Rattle.gph_codes.proofs.code.Code.to_hex.Goals as goal
@@ -13,4 +13,4 @@ returns-clause-code g c = λ code stands.
     let fits = take_fits (c.args.bits / 8) c.bytes_of-bytes.result c.bytes_of-bytes.ensures.fit in
     rw (c.in-Ok.ensures.written, code_of_encode _ fits)
     (written_code g.row.W c.args.bits c.bytes_of-bytes.result c.args.self.now code c.requires.allowed.whole c.requires.allowed.room
-     (c.bytes_of-bytes.ensures.bits ∙ c.self.view_is) stands)
+    (c.bytes_of-bytes.ensures.bits ∙ c.self.view_is) stands)

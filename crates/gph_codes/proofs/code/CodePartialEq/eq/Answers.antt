@@ -1,4 +1,4 @@
-use Rattle.std.proofs.Common.{rules, ◌≡◌, arith, length}
+use Rattle.std.proofs.Common.{rules}
 use Rattle.gph_codes.specs.WordsLaw.{words_again}
 use Rattle.gph_codes.proofs.code.CodePartialEq.eq.Goals as goal
 
