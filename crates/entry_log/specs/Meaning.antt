@@ -1,7 +1,9 @@
 -- What operations and entries of the program mean: those of the definitions, with codes of so many bits.
-use Rattle.std.specs.Prelude.{◌≡◌, ℕ}
+use Rattle.std.specs.Prelude.{◌≡◌, ℕ, Bool, List, is_some}
 use Rattle.hamming_model.specs.Codes.{StandsFor}
 use Rattle.hamming_model.specs.History as history
+use Rattle.entry_log.specs.Decisions.{decision_of}
+use Rattle.entry_log.specs.declared.decision.Decision.{Decision}
 use Rattle.entry_log.specs.declared.entry.Entry.{Entry}
 use Rattle.entry_log.specs.declared.op.Op.{Op}
 use Rattle.entry_log.specs.declared.op.Op.TheVariants.{Add, Delete}
@@ -22,3 +24,9 @@ pub record MeansEntry {W : ℕ} (bits : ℕ) (entry : Entry W) (meant : history.
 abbrev pub key_of : history.Operation → ℕ
 key_of (history.Add key code) = key
 key_of (history.Delete key) = key
+
+-- the decision is that of the definitions, on any rows that have the operation's key where it is present
+abbrev pub DecidesAs : {W : ℕ} → Op W → Bool → ℕ → ℕ → Decision → Type 0
+DecidesAs op present entries limit decision =
+    (bits : ℕ) (rows : List (ℕ × List ℕ)) (operation : history.Operation) → MeansOperation bits op operation
+    → present ≡ is_some (history.code_at rows (key_of operation)) → decision_of decision ≡ history.decide rows entries limit operation

@@ -1,9 +1,8 @@
 //! What becomes of an operation.
 
-ghost use Rattle.std.specs.Prelude.{◌≡◌, ℕ, ◌<◌, ◌≤◌, ◌↔◌, List, true, false, is_some};
-ghost use Rattle.hamming_model.specs.History as history;
-ghost use Rattle.entry_log.specs.Decisions.{Fits, decision_of, is_add};
-ghost use Rattle.entry_log.specs.Meaning.{MeansOperation, key_of};
+ghost use Rattle.std.specs.Prelude.{◌≡◌, ℕ, ◌<◌, ◌≤◌, ◌↔◌, true, false};
+ghost use Rattle.entry_log.specs.Decisions.{Fits, is_add};
+ghost use Rattle.entry_log.specs.Meaning.{DecidesAs};
 ghost use Rattle.entry_log.specs.declared.decision.Decision.TheVariants.{Added, Taken, Deleted, Absent, Full};
 
 use crate::Op;
@@ -34,7 +33,7 @@ pub fn decide<const W: usize>(op: &Op<W>, present: bool, entries: u64, limit: u6
     ensures added { (result ≡ Added) ↔ ((is_add op.now ≡ true) × (present ≡ false) × (entries < limit)) }
     ensures deleted { (result ≡ Deleted) ↔ ((is_add op.now ≡ false) × (present ≡ true) × (entries < limit)) }
     // The decision of the definitions, on rows that have the key where `present` says so.
-    ensures defined { (bits : ℕ) (rows : List (ℕ × List ℕ)) (operation : history.Operation) → MeansOperation bits op.now operation → present ≡ is_some (history.code_at rows (key_of operation)) → decision_of result ≡ history.decide rows entries limit operation }
+    ensures defined { DecidesAs op.now present entries limit result }
 {
     let full = entries >= limit;
     match op {

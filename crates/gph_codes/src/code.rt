@@ -3,6 +3,7 @@
 ghost use Rattle.std.specs.Prelude.{◌≡◌, ℕ, ◌+◌, ◌-◌, ◌*◌, ◌/◌, ◌%◌, ◌^◌, ◌<◌, ◌≤◌, ◌↔◌, List, All, length, ◌≢◌, Ok, Err, IsTrue, IsOk, IfOk, slice_index};
 ghost use Rattle.hamming_model.specs.Codes.{StandsFor, distance, hex_code};
 ghost use Rattle.gph_codes.specs.Allowed.{IsAllowed};
+ghost use Rattle.gph_codes.specs.Words.{word_bits};
 ghost use Rattle.gph_codes.specs.Digits.{IsHexDigit, IsLowerDigit, IsSpelled, IsFirstFault};
 ghost use Rattle.gph_codes.specs.declared.code_fault.CodeFault.TheVariants.{Length, Digit};
 ghost use Rattle.hex.specs.declared.error.FromHexError.TheVariants.{InvalidHexCharacter};
@@ -75,6 +76,13 @@ impl<const W: usize> Code<W> {
         let Ok(()) = hex::encode_to_slice(&bytes[..bits as usize / 8], out) else {
             unreachable!();
         };
+    }
+
+    /// The words that keep the code, the top bit of the first word at position 0.
+    pub fn words(&self) -> [u64; W]
+        ensures { word_bits result ≡ self.now }
+    {
+        self.words
     }
 
     /// Whether the bit at position `j` is 1.

@@ -1,7 +1,8 @@
 //! The Hamming distance of words, and what it is to the codes that they stand for.
 
-ghost use Rattle.std.specs.Prelude.{◌≡◌, ℕ, ◌≤◌, ◌↔◌, List};
-ghost use Rattle.hamming_model.specs.Codes.{StandsFor, bits_of, distance};
+ghost use Rattle.std.specs.Prelude.{◌≡◌, ℕ, ◌≤◌};
+ghost use Rattle.hamming_model.specs.Codes.{bits_of, distance};
+ghost use Rattle.gph_codes.specs.Laws.{KeepsDistance, StandsForOne};
 ghost use Rattle.gph_codes.specs.Words.{word_bits};
 
 /// At how many bits the words of two codes differ.
@@ -26,10 +27,10 @@ fn differing(a: u64, b: u64) -> u32
 
 /// What words keep past a code's own bits adds nothing to the distance.
 pub fn distance_of_codes()
-    ensures { (words bits : ℕ) (a b x y : List ℕ) → StandsFor words bits a x → StandsFor words bits b y → distance a b ≡ distance x y }
+    ensures { (words bits : ℕ) → KeepsDistance words bits }
 {}
 
 /// What words keep stands for one code of so many bits, and no other words stand for that code.
 pub fn one_code()
-    ensures { (words bits : ℕ) (a b x y : List ℕ) → StandsFor words bits a x → StandsFor words bits b y → (a ≡ b) ↔ (x ≡ y) }
+    ensures { (words bits : ℕ) → StandsForOne words bits }
 {}

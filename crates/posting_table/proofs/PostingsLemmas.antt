@@ -66,10 +66,10 @@ loses key place entries gone at is =
       stood = sym (rw whole at is);
       left = refl;
       counts = λ f. (
-        let one = sum_by-swap_remove f entries place (key, gone.1) below in
-        let same : f (get_or entries place (key, gone.1)) ≡ f (key, gone.1) = ap f (sym (rw whole at is)) in
-        omega (arith, one, same)
-      );
+          let one = sum_by-swap_remove f entries place (key, gone.1) below in
+          let same : f (get_or entries place (key, gone.1)) ≡ f (key, gone.1) = ap f (sym (rw whole at is)) in
+          omega (arith, one, same)
+          );
     })
 
 -- taking an entry out makes no list longer

@@ -1,7 +1,7 @@
 //! The posting lists of one part.
 
-ghost use Rattle.std.specs.Prelude.{◌≡◌, ℕ, ◌+◌, ◌^◌, ◌<◌, ◌≤◌, ◌++◌, ◌∷◌, [], List, true, false, length, replicate, slice_index_or, IfOk, OnOk, OnErr, Ok, MatchOption};
-ghost use Rattle.posting_table.specs.Tables.{Loses, empty_table, has_key, key_at, posting_list, with_list};
+ghost use Rattle.std.specs.Prelude.{◌≡◌, ◌+◌, ◌^◌, ◌<◌, ◌≤◌, true, false, length, slice_index_or, IfOk, OnOk, OnErr, Ok};
+ghost use Rattle.posting_table.specs.Tables.{FindsKey, LosesEntry, empty_table, has_key, posting_list, with_entry, with_list};
 
 use gph_codes::Code;
 use read_meter::{NoMemory, Steps};
@@ -97,7 +97,7 @@ impl<const W: usize> Postings<W> {
         requires in_width { value < 2 ^ self.old.width }
         requires absent { has_key (posting_list self.old value) key ≡ false }
         requires room { length (posting_list self.old value) < 1048576 }
-        ensures added { OnOk result (self.new ≡ with_list self.old value (posting_list self.old value ++ (key, code.entry) ∷ [])) }
+        ensures added { OnOk result (self.new ≡ with_entry self.old value (key, code.entry)) }
         ensures unchanged { OnErr result (self.new ≡ self.old) }
     {
         let Ok(()) = self.lists[value as usize].push((key, code)) else {
@@ -115,7 +115,7 @@ impl<const W: usize> Postings<W> {
     pub fn remove(&mut self, value: u16, key: u64) -> Result<bool, NoMemory>
         requires { value < 2 ^ self.old.width }
         ensures found { IfOk result (λ found. found ≡ has_key (posting_list self.old value) key) }
-        ensures removed { result ≡ Ok true → Loses key (posting_list self.old value) (posting_list self.new value) }
+        ensures removed { result ≡ Ok true → LosesEntry self.old self.new value key }
         ensures others { self.new ≡ with_list self.old value (posting_list self.new value) }
         ensures absent { result ≡ Ok false → self.new ≡ self.old }
         ensures unchanged { OnErr result (self.new ≡ self.old) }
@@ -130,7 +130,7 @@ impl<const W: usize> Postings<W> {
     // The place of the first entry of a key in the list of a value.
     fn place_of(&self, value: u16, key: u64) -> Option<usize>
         requires { value < 2 ^ self.now.width }
-        ensures { MatchOption result (has_key (posting_list self.now value) key ≡ false) (λ place. key_at (posting_list self.now value) place key) }
+        ensures { FindsKey (posting_list self.now value) key result }
     {
         for (place, entry) in self.lists[value as usize].iter().enumerate() {
             if entry.0 == key {
