@@ -70,21 +70,21 @@ impl<const W: usize> Postings<W> {
     pub fn copy(&self) -> Result<Postings<W>, NoMemory>
         ensures { IfOk result (λ copy. copy ≡ self.now) }
     {
-        let Ok(mut lists) = Vec::with_capacity(self.alloc, self.lists.len()) else {
+        let Ok(mut copies) = Vec::with_capacity(self.alloc, self.lists.len()) else {
             return Err(NoMemory);
         };
         for list in &self.lists {
             let Ok(copied) = Vec::from_slice(self.alloc, list.as_slice()) else {
                 return Err(NoMemory);
             };
-            let Ok(()) = lists.push(copied) else {
+            let Ok(()) = copies.push(copied) else {
                 return Err(NoMemory);
             };
         }
         Ok(Postings {
             alloc: self.alloc,
             width: self.width,
-            lists,
+            lists: copies,
         })
     }
 

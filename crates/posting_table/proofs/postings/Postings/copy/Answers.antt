@@ -10,7 +10,7 @@ loop-list-preserved g c =
     let below : c.loop-list.list-index < length c.self.inside.lists.items = omega arith in
     let is : c.list-item.result ≡ get_or c.self.inside.lists.items c.loop-list.list-index c.list-item.result = rw same at c.list-item.is in
     rw c.in-Ok-push.ensures.items
-    (copied_more c.loop-list.lists.items c.self.inside.lists.items c.loop-list.list-index c.list-item.result c.in-Ok-from_slice.copied below is
+    (copied_more c.loop-list.copies.items c.self.inside.lists.items c.loop-list.list-index c.list-item.result c.in-Ok-from_slice.copied below is
     (c.in-Ok-from_slice.ensures.items ∙ c.as_slice.ensures.value) c.loop-list.invariant)
 
 pub invariant_of-result : goal.invariant_of-result
