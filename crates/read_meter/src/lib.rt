@@ -1,6 +1,12 @@
-//! What a call answers where it found no memory.
+//! A ledger is a number that only `tick` changes, and sixteen of them are a list of sixteen numbers.
+//! Each ledger starts at 0, and a tick adds exactly one.
 #![tactic(auto)]
 
-/// There was no memory. What the call was handed is as its contract says.
-#[derive(Clone, Copy, Debug, PartialEq, Eq)]
-pub struct NoMemory;
+mod meters;
+mod no_memory;
+mod steps;
+mod tally;
+
+pub use meters::Meters;
+pub use no_memory::NoMemory;
+pub use steps::{Steps, upkeep};

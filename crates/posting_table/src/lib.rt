@@ -1,0 +1,7 @@
+//! A posting table is a list of entries (key, code) for each value of one part of a layout.
+//! Entries come and go one at a time, and no call gives a code without a step.
+#![tactic(auto)]
+
+mod postings;
+
+pub use postings::Postings;
