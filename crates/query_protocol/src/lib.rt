@@ -1,0 +1,13 @@
+//! A line of the protocol is a request or has a first fault, and a reply is one line of text. Reading a line gives what its
+//! words say, and writing a reply gives its text.
+#![tactic(auto)]
+
+mod bad;
+mod reply;
+mod request;
+mod tag;
+
+pub use bad::Bad;
+pub use reply::Reply;
+pub use request::{Request, RequestWord};
+pub use tag::{TAG_MOST, Tag};
