@@ -1,0 +1,109 @@
+-- Lemmas on the lines of bytes that come in pieces.
+use Rattle.std.proofs.Common.{◌≡◌, ℕ, ◌==◌, ◌≢◌, Bool, true, false, if◌then◌else◌, List, [], ◌∷◌, ◌++◌, map, All, refl, sym, ap, ◌∙◌, append_assoc, append-nil, arith}
+use Rattle.std.proofs.lemmas.Bool.{eqb-true, eqb-false}
+use Rattle.std.proofs.lemmas.Bool.Decides.{nat_tests}
+use Rattle.std.proofs.lemmas.List.Elements.{All-head, All-tail, All-cons, All-nil, All-append}
+use Rattle.line_io.specs.Lines.{line_feed, without_return, ended_lines, unended, HasNoEnd, rejoined, IsSplitAtEnds, AreLinesOf}
+
+-- the lines of two pieces, one after the other
+pub ended_lines-append : (begun a b : List ℕ) → ended_lines begun (a ++ b) ≡ ended_lines begun a ++ ended_lines (unended begun a) b
+ended_lines-append begun [] b = refl
+ended_lines-append begun (x ∷ xs) b =
+    elim (x == line_feed) as (λ v. (if v then without_return begun ∷ ended_lines [] (xs ++ b) else ended_lines (begun ++ x ∷ []) (xs ++ b)) ≡ (if v then without_return begun ∷ ended_lines [] xs else ended_lines (begun ++ x ∷ []) xs) ++ ended_lines (if v then unended [] xs else unended (begun ++ x ∷ []) xs) b) [
+      | true ↦ ap (λ l. without_return begun ∷ l) (ended_lines-append [] xs b)
+      | false ↦ ended_lines-append (begun ++ x ∷ []) xs b
+    ]
+
+-- what stands begun after two pieces
+pub unended-append : (begun a b : List ℕ) → unended begun (a ++ b) ≡ unended (unended begun a) b
+unended-append begun [] b = refl
+unended-append begun (x ∷ xs) b =
+    elim (x == line_feed) as (λ v. (if v then unended [] (xs ++ b) else unended (begun ++ x ∷ []) (xs ++ b)) ≡ unended (if v then unended [] xs else unended (begun ++ x ∷ []) xs) b) [
+      | true ↦ unended-append [] xs b
+      | false ↦ unended-append (begun ++ x ∷ []) xs b
+    ]
+
+-- a byte that is no LF is told apart by the test
+pub not_feed : (x : ℕ) → x ≢ line_feed → (x == line_feed) ≡ false
+not_feed x h = grind (arith, nat_tests)
+
+-- bytes without LF end no line
+pub ended_lines-clean : (begun bytes : List ℕ) → HasNoEnd bytes → ended_lines begun bytes ≡ []
+ended_lines-clean begun [] h = refl
+ended_lines-clean begun (x ∷ xs) h =
+    rw (not_feed x (All-head (λ b. b ≢ line_feed) x xs h))
+    (ended_lines-clean (begun ++ x ∷ []) xs (All-tail (λ b. b ≢ line_feed) x xs h))
+
+-- bytes without LF go on with the line that was begun
+pub unended-clean : (begun bytes : List ℕ) → HasNoEnd bytes → unended begun bytes ≡ begun ++ bytes
+unended-clean begun [] h = sym (append-nil begun)
+unended-clean begun (x ∷ xs) h =
+    rw (not_feed x (All-head (λ b. b ≢ line_feed) x xs h))
+    (unended-clean (begun ++ x ∷ []) xs (All-tail (λ b. b ≢ line_feed) x xs h) ∙ append_assoc begun (x ∷ []) xs)
+
+-- bytes up to the first LF end one line
+pub ended_lines-piece : (begun piece more : List ℕ) → HasNoEnd piece
+    → ended_lines begun (piece ++ line_feed ∷ more) ≡ without_return (begun ++ piece) ∷ ended_lines [] more
+ended_lines-piece begun piece more h =
+    ended_lines-append begun piece (line_feed ∷ more)
+    ∙ ap (λ l. l ++ ended_lines (unended begun piece) (line_feed ∷ more)) (ended_lines-clean begun piece h)
+    ∙ ap (λ l. ended_lines l (line_feed ∷ more)) (unended-clean begun piece h)
+
+-- after an LF nothing of the line before stands begun
+pub unended-piece : (begun piece more : List ℕ) → unended begun (piece ++ line_feed ∷ more) ≡ unended [] more
+unended-piece begun piece more = unended-append begun piece (line_feed ∷ more)
+
+-- the lines of pieces that were joined with LFs are these pieces
+pub ended_lines-rejoined : (pieces : List (List ℕ)) (rest : List ℕ) → All HasNoEnd pieces → HasNoEnd rest
+    → ended_lines [] (rejoined pieces rest) ≡ map without_return pieces
+ended_lines-rejoined [] rest h r = ended_lines-clean [] rest r
+ended_lines-rejoined (p ∷ ps) rest h r =
+    ended_lines-piece [] p (rejoined ps rest) (All-head HasNoEnd p ps h)
+    ∙ ap (λ l. without_return p ∷ l) (ended_lines-rejoined ps rest (All-tail HasNoEnd p ps h) r)
+
+-- what stands begun after them is the rest
+pub unended-rejoined : (pieces : List (List ℕ)) (rest : List ℕ) → HasNoEnd rest → unended [] (rejoined pieces rest) ≡ rest
+unended-rejoined [] rest r = unended-clean [] rest r
+unended-rejoined (p ∷ ps) rest r = unended-piece [] p (rejoined ps rest) ∙ unended-rejoined ps rest r
+
+-- bytes that are split at their LFs have these lines
+pub lines_of_split : (bytes : List ℕ) (pieces : List (List ℕ)) (rest : List ℕ) → IsSplitAtEnds bytes pieces rest → AreLinesOf bytes pieces rest
+lines_of_split bytes pieces rest s = record {
+  lines_are = ap (λ l. ended_lines [] l) s.whole ∙ ended_lines-rejoined pieces rest s.pieces_clean s.rest_clean;
+  rest_is = ap (λ l. unended [] l) s.whole ∙ unended-rejoined pieces rest s.rest_clean;
+}
+
+-- these bytes behind those that were begun can be split at their LFs
+abbrev CanSplit : List ℕ → List ℕ → List ℕ → Type 0
+CanSplit begun bytes rest = (pieces : List (List ℕ)) × IsSplitAtEnds (begun ++ bytes) pieces rest
+
+-- one byte more in front, by whether it is an LF
+split_more : (v : Bool) (x : ℕ) → (x == line_feed) ≡ v → (begun xs : List ℕ) → HasNoEnd begun → CanSplit [] xs (unended [] xs)
+    → (HasNoEnd (begun ++ x ∷ []) → CanSplit (begun ++ x ∷ []) xs (unended (begun ++ x ∷ []) xs))
+    → CanSplit begun (x ∷ xs) (if v then unended [] xs else unended (begun ++ x ∷ []) xs)
+split_more true x e begun xs h (pieces, s) more =
+    let feed : x ≡ line_feed = eqb-true x line_feed e in (
+      begun ∷ pieces,
+      record {
+        whole = ap (λ b. begun ++ b ∷ xs) feed ∙ ap (λ l. begun ++ line_feed ∷ l) s.whole;
+        pieces_clean = All-cons HasNoEnd begun pieces h s.pieces_clean;
+        rest_clean = s.rest_clean;
+      },
+    )
+split_more false x e begun xs h s more =
+    let one : HasNoEnd (x ∷ []) = All-cons (λ b. b ≢ line_feed) x [] (eqb-false x line_feed e) (All-nil (λ b. b ≢ line_feed)) in
+    let (pieces, found) = more (All-append (λ b. b ≢ line_feed) begun (x ∷ []) h one) in (
+      pieces,
+      record {
+        whole = sym (append_assoc begun (x ∷ []) xs) ∙ found.whole;
+        pieces_clean = found.pieces_clean;
+        rest_clean = found.rest_clean;
+      },
+    )
+
+-- all bytes can be split at their LFs
+pub can_split : (begun bytes : List ℕ) → HasNoEnd begun → CanSplit begun bytes (unended begun bytes)
+can_split begun [] h =
+    ([], record { whole = append-nil begun; pieces_clean = All-nil HasNoEnd; rest_clean = h })
+can_split begun (x ∷ xs) h =
+    split_more (x == line_feed) x refl begun xs h (can_split [] xs (All-nil (λ b. b ≢ line_feed))) (λ more. can_split (begun ++ x ∷ []) xs more)

@@ -1,0 +1,28 @@
+//! A stream is a list of bytes, cut into lines; sources and sinks may fail and count it. What
+//! comes out of a cutter are the lines of what went in, however it was cut into pieces.
+#![tactic(auto)]
+
+mod buffer;
+mod cutter;
+mod from_reader;
+mod laws;
+mod memory_sink;
+mod memory_source;
+mod pieces;
+mod sink;
+mod source;
+mod steady_sink;
+mod steady_source;
+mod to_writer;
+
+pub use buffer::LineBuf;
+pub use cutter::{Cut, Cutter, LINE_MOST};
+pub use from_reader::FromReader;
+pub use laws::{line_pieces, lines_in_pieces};
+pub use memory_sink::MemorySink;
+pub use memory_source::MemorySource;
+pub use sink::Sink;
+pub use source::{Failed, Source};
+pub use steady_sink::SteadySink;
+pub use steady_source::SteadySource;
+pub use to_writer::ToWriter;
