@@ -1,0 +1,7 @@
+use Rattle.std.proofs.Common.{◌≡◌, ◌*◌, take}
+use Rattle.hex.specs.Hex.{IsBytes}
+use Rattle.gph_codes.specs.Words.{byte_bits, word_bits}
+use Rattle.gph_codes.proofs.bytes.bytes_of.Given as goal
+
+abbrev pub invariant-loop-i : goal.invariant-loop-i
+invariant-loop-i g l = (byte_bits (take (8 * l.i) l.bytes) ≡ word_bits (take l.i l.words)) × IsBytes l.bytes

@@ -1,0 +1,5 @@
+pub mod Allowed
+pub mod Digits
+pub mod Spelling
+pub mod Words
+pub mod WordsLaw

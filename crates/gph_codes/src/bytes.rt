@@ -1,0 +1,73 @@
+//! The bytes of words, the top byte of the first word first.
+
+ghost use Rattle.std.specs.Prelude.{◌≡◌, ℕ, ◌+◌, ◌*◌, ◌++◌, ◌≤◌, length, take, drop};
+ghost use Rattle.gph_codes.specs.Words.{IsWords, byte_bits, word_bits};
+ghost use Rattle.hex.specs.Hex.{IsBytes};
+ghost use Rattle.gph_codes.specs.Spelling.{Spells};
+ghost use Rattle.hamming_model.specs.Codes.{bits_of};
+
+use hex::FromHexError;
+
+/// How many bytes a buffer for the bytes of a code has.
+pub const BUFFER: usize = 64;
+
+/// Writes the bytes that so many pairs of hexadecimal digits spell over a buffer's first ones.
+pub fn spell(text: &[u8], number: usize, bytes: &mut [u8]) -> Result<(), FromHexError>
+    requires room { number ≤ length bytes.old }
+    requires pairs { length text.now ≡ 2 * number }
+    ensures { Spells text.now number bytes.old bytes.new result }
+{
+    hex::decode_to_slice(text, &mut bytes[..number])
+}
+
+/// The words of a buffer's first bytes.
+pub fn words_from<const W: usize>(bytes: &[u8; BUFFER]) -> [u64; W]
+    requires { W ≤ 8 }
+    ensures words { IsWords W result }
+    ensures bits { word_bits result ≡ byte_bits (take (8 * W) bytes.now) }
+{
+    let mut words = [0; W];
+    for i in 0..W {
+        words[i] = word_at(bytes, 8 * i);
+    }
+    words
+}
+
+/// The bytes of words, in a buffer.
+pub fn bytes_of<const W: usize>(words: &[u64; W]) -> [u8; BUFFER]
+    requires { W ≤ 8 }
+    ensures bits { byte_bits (take (8 * W) result) ≡ word_bits words.now }
+    ensures fit { IsBytes result }
+{
+    let mut bytes = [0; BUFFER];
+    for i in 0..W {
+        put_word(&mut bytes, 8 * i, words[i]);
+    }
+    bytes
+}
+
+// Writes a word's eight bytes from a place on.
+fn put_word(bytes: &mut [u8], at: usize, word: u64)
+    requires { at + 8 ≤ length bytes.old }
+    ensures bits { byte_bits (take (at + 8) bytes.new) ≡ byte_bits (take at bytes.old) ++ bits_of 64 word }
+    ensures fit { IsBytes bytes.new }
+{
+    bytes[at..at + 8].copy_from_slice(&word.to_be_bytes());
+}
+
+// The word of the eight bytes from a place on.
+fn word_at(bytes: &[u8], at: usize) -> u64
+    requires { at + 8 ≤ length bytes.now }
+    ensures { bits_of 64 result ≡ byte_bits (take 8 (drop at bytes.now)) }
+{
+    u64::from_be_bytes([
+        bytes[at],
+        bytes[at + 1],
+        bytes[at + 2],
+        bytes[at + 3],
+        bytes[at + 4],
+        bytes[at + 5],
+        bytes[at + 6],
+        bytes[at + 7],
+    ])
+}

@@ -1,0 +1,105 @@
+//! A code, kept in words of 64 bits.
+
+ghost use Rattle.std.specs.Prelude.{◌≡◌, ℕ, ◌+◌, ◌-◌, ◌*◌, ◌/◌, ◌%◌, ◌^◌, ◌<◌, ◌≤◌, ◌↔◌, List, All, length, ◌≢◌, Ok, Err, IsTrue, IsOk, IfOk, slice_index};
+ghost use Rattle.hamming_model.specs.Codes.{StandsFor, distance, hex_code};
+ghost use Rattle.gph_codes.specs.Allowed.{IsAllowed};
+ghost use Rattle.gph_codes.specs.Digits.{IsHexDigit, IsLowerDigit, IsSpelled, IsFirstFault};
+ghost use Rattle.gph_codes.specs.declared.code_fault.CodeFault.TheVariants.{Length, Digit};
+ghost use Rattle.hex.specs.declared.error.FromHexError.TheVariants.{InvalidHexCharacter};
+
+use crate::CodeFault;
+use crate::bytes::{BUFFER, bytes_of, spell, words_from};
+use crate::distance::word_distance;
+use hex::FromHexError;
+use std::marker::Model;
+
+/// A code of at most `64 * W` bits. Position 0 is the top bit of the first word, and the bits past
+/// the code's own are zero.
+#[derive(Clone, Copy, Debug, PartialEq, Eq)]
+pub struct Code<const W: usize> {
+    words: [u64; W],
+}
+
+impl<const W: usize> Model for Code<W> {
+    ghost use Rattle.std.specs.Prelude.{ℕ, List};
+    ghost use Rattle.gph_codes.specs.Words.{word_bits, words_of, IsWords};
+    ghost use Rattle.gph_codes.specs.WordsLaw.{words_again};
+
+    ghost Value = { List ℕ };
+
+    ghost view = { λ code. word_bits code.words };
+
+    ghost invariant = { λ code. IsWords W code.words };
+
+    ghost inverse = { λ bits. record { words = words_of W bits } };
+
+    ghost inverse_ok = { λ code fits i. record { words = words_again W code.words fits i } };
+}
+
+impl<const W: usize> Code<W> {
+    /// Reads a code of `bits` bits from hexadecimal digits of either case, four bits a digit, the
+    /// first digit at positions 0 to 3. A text of another length is refused before its digits are.
+    pub fn from_hex(bits: u32, text: &[u8]) -> Result<Code<W>, CodeFault>
+        requires few_words { W ≤ 8 }
+        requires allowed { IsAllowed W bits }
+        // The code of the digits.
+        ensures code { IfOk result (λ code. StandsFor W bits code (hex_code text.now)) }
+        ensures ok { IsOk result ↔ IsSpelled bits text.now }
+        // The two faults.
+        ensures length { (result ≡ Err Length) ↔ (length text.now ≢ bits / 4) }
+        ensures digit { (at : ℕ) → (result ≡ Err (Digit at)) ↔ IsFirstFault bits text.now at }
+    {
+        if text.len() != bits as usize / 4 {
+            return Err(CodeFault::Length);
+        }
+        let mut bytes = [0; BUFFER];
+        match spell(text, bits as usize / 8, &mut bytes) {
+            Ok(()) => Ok(Code {
+                words: words_from(&bytes),
+            }),
+            Err(fault) => Err(CodeFault::Digit {
+                at: place_of(fault),
+            }),
+        }
+    }
+
+    /// Writes the code's first `bits` bits as lower-case hexadecimal digits, four bits a digit.
+    pub fn to_hex(&self, bits: u32, out: &mut [u8])
+        requires few_words { W ≤ 8 }
+        requires allowed { IsAllowed W bits }
+        requires room { length out.old ≡ bits / 4 }
+        ensures lower { All IsLowerDigit out.new }
+        ensures code { (code : List ℕ) → StandsFor W bits self.now code → hex_code out.new ≡ code }
+    {
+        let bytes = bytes_of(&self.words);
+        let Ok(()) = hex::encode_to_slice(&bytes[..bits as usize / 8], out) else {
+            unreachable!();
+        };
+    }
+
+    /// Whether the bit at position `j` is 1.
+    pub fn bit(&self, j: u32) -> bool
+        requires { j < 64 * W }
+        ensures { IsTrue result ↔ (slice_index self.now j ≡ 1) }
+    {
+        self.words[j as usize / 64] >> (63 - j % 64) & 1 == 1
+    }
+}
+
+/// At how many positions two codes differ. Counts the ones of the exclusive or of their words.
+pub fn dist<const W: usize>(a: &Code<W>, b: &Code<W>) -> u32
+    requires { W ≤ 8 }
+    ensures { result ≡ distance a.now b.now }
+{
+    word_distance(&a.words, &b.words)
+}
+
+// The place of the byte that is no digit.
+fn place_of(fault: FromHexError) -> usize
+    ensures { (c index : ℕ) → fault ≡ InvalidHexCharacter c index → result ≡ index }
+{
+    match fault {
+        FromHexError::InvalidHexCharacter { index, .. } => index,
+        _ => 0,
+    }
+}
