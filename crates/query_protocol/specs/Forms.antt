@@ -37,7 +37,10 @@ code_of bits word =
 abbrev pub is_letter_or_digit : ℕ → Bool
 is_letter_or_digit byte = nat_lt (digit_value byte) 36
 
+-- one to sixteen letters or digits
+abbrev pub is_tag : List ℕ → Bool
+is_tag word = nat_le 1 (length word) && nat_le (length word) 16 && list_all is_letter_or_digit word
+
 -- a tag
 abbrev pub tag_of : List ℕ → Option (List ℕ)
-tag_of word =
-    if nat_le 1 (length word) && nat_le (length word) 16 && list_all is_letter_or_digit word then Some word else None
+tag_of word = if is_tag word then Some word else None

@@ -1,5 +1,5 @@
 -- The words of a line.
-use Rattle.std.specs.Prelude.{ℕ, ◌==◌, ◌<◌, ◌&&◌, nat_le, if◌then◌else◌, List, [], ◌∷◌, ◌++◌, Bool}
+use Rattle.std.specs.Prelude.{ℕ, ◌==◌, ◌≢◌, ◌<◌, ◌&&◌, nat_le, if◌then◌else◌, List, [], ◌∷◌, ◌++◌, Bool}
 use Rattle.std.specs.List.{list_all}
 
 -- a begun word, if it has a byte
@@ -20,3 +20,8 @@ words line = words_after [] line
 -- every byte is printable ASCII
 abbrev pub is_printable : List ℕ → Bool
 is_printable line = list_all (λ byte. nat_le 32 byte && nat_le byte 126) line
+
+-- the bytes begin with a word, or there are none
+abbrev pub IsBegun : List ℕ → Type 0
+IsBegun [] = Unit {0}
+IsBegun (byte ∷ bytes) = byte ≢ 32

@@ -3,11 +3,15 @@
 #![tactic(auto)]
 
 mod bad;
+mod forms;
+mod reading;
 mod reply;
 mod request;
 mod tag;
+mod words;
 
 pub use bad::Bad;
-pub use reply::Reply;
+pub use reading::read_line;
+pub use reply::{Reply, write_hit};
 pub use request::{Request, RequestWord};
 pub use tag::{TAG_MOST, Tag};

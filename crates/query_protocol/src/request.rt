@@ -16,11 +16,7 @@ pub enum Request<const W: usize> {
     /// Commits an entry that adds a row.
     Add { key: u64, code: Code<W> },
     /// Opens a query for all codes at most `tau` positions away.
-    Range {
-        tag: Tag,
-        tau: u32,
-        code: Code<W>,
-    },
+    Range { tag: Tag, tau: u32, code: Code<W> },
     /// Asks for the next hits of a query, at most `count`.
     Next { tag: Tag, count: u32 },
     /// Ends the session.
