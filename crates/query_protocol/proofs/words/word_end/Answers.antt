@@ -1,4 +1,4 @@
-use Rattle.std.proofs.Common.{◌≡◌, ℕ, length, arith}
+use Rattle.std.proofs.Common.{arith}
 use Rattle.query_protocol.proofs.WordLemmas.{one_more, at_space, at_end}
 use Rattle.query_protocol.proofs.words.word_end.Goals as goal
 
