@@ -1,3 +1,4 @@
-pub mod FormLemmas
-pub mod WordLemmas
 pub mod CodeLemmas
+pub mod FormLemmas
+pub mod JoinedLemmas
+pub mod WordLemmas
