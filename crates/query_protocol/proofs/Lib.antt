@@ -1,0 +1,5 @@
+pub mod CodeLemmas
+pub mod FeedLemmas
+pub mod FormLemmas
+pub mod JoinedLemmas
+pub mod WordLemmas

@@ -1,0 +1,50 @@
+-- The text of replies: a line each.
+use Rattle.std.specs.Prelude.{◌≡◌, ℕ, ◌<◌, ◌^◌, ◌==◌, not, Bool, true, if◌then◌else◌, List, [], ◌∷◌, ◌++◌, codes, decimal}
+use Rattle.std.specs.List.{flat_map, list_all}
+use Rattle.query_protocol.specs.Forms.{is_tag}
+use Rattle.query_protocol.specs.declared.bad.Bad.{Bad}
+use Rattle.query_protocol.specs.declared.reply.Reply.{Reply}
+use Rattle.query_protocol.specs.declared.reply.Reply.TheVariants as reply
+
+-- the text of a fault
+abbrev pub fault_text : Bad → List ℕ
+fault_text fault =
+    codes "bad " ++ decimal fault.number ++ (if fault.number == 5 then codes " " ++ decimal fault.word else [])
+
+-- a reply without its line feed
+abbrev pub reply_text : Reply → List ℕ
+reply_text (reply.Added key at) = codes "added " ++ decimal key ++ codes " at " ++ decimal at
+reply_text (reply.Taken key at) = codes "taken " ++ decimal key ++ codes " at " ++ decimal at
+reply_text (reply.Open tag at) = codes "open " ++ tag ++ codes " at " ++ decimal at
+reply_text (reply.Hit tag dist key) = codes "hit " ++ tag ++ codes " " ++ decimal dist ++ codes " " ++ decimal key
+reply_text (reply.More tag) = codes "more " ++ tag
+reply_text (reply.Done tag count) = codes "done " ++ tag ++ codes " " ++ decimal count
+reply_text (reply.Bad fault) = fault_text fault
+reply_text reply.NoMemory = codes "nomem"
+
+-- the line of a reply
+abbrev pub reply_line : Reply → List ℕ
+reply_line reply = reply_text reply ++ 10 ∷ []
+
+-- the text of replies
+abbrev pub text : List Reply → List ℕ
+text replies = flat_map reply_line replies
+
+-- no byte is a line feed
+abbrev pub has_no_feed : List ℕ → Bool
+has_no_feed bytes = list_all (λ byte. not (byte == 10)) bytes
+
+-- a number of at most 64 bits
+abbrev pub IsWord64 : ℕ → Type 0
+IsWord64 number = number < 2 ^ 64
+
+-- what a reply may hold: numbers of at most 64 bits, and tags of the form of tags
+abbrev pub IsWritten : Reply → Type 0
+IsWritten (reply.Added key at) = IsWord64 key × IsWord64 at
+IsWritten (reply.Taken key at) = IsWord64 key × IsWord64 at
+IsWritten (reply.Open tag at) = (is_tag tag ≡ true) × IsWord64 at
+IsWritten (reply.Hit tag dist key) = (is_tag tag ≡ true) × IsWord64 dist × IsWord64 key
+IsWritten (reply.More tag) = is_tag tag ≡ true
+IsWritten (reply.Done tag count) = (is_tag tag ≡ true) × IsWord64 count
+IsWritten (reply.Bad fault) = IsWord64 fault.number × IsWord64 fault.word
+IsWritten reply.NoMemory = Unit {0}

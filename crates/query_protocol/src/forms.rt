@@ -1,0 +1,117 @@
+//! The forms of words: what a word stands for, where it has the form.
+
+ghost use Rattle.std.specs.Prelude.{◌≡◌, ℕ, ◌≤◌, ◌<◌, ◌*◌, ◌^◌, nat_lt, length, option_map, IsTrue};
+ghost use Rattle.std.specs.List.{list_all};
+ghost use Rattle.std.specs.Char.{digit_value};
+ghost use Rattle.std.specs.Str.Parse.{digits_value, AllDigits};
+ghost use Rattle.hamming_model.specs.Codes.{padded};
+ghost use Rattle.gph_codes.specs.Allowed.{IsAllowed};
+ghost use Rattle.query_protocol.specs.Forms.{is_decimal, number_of, key_of, radius_of, count_of, code_of, is_letter_or_digit, is_tag};
+ghost use Rattle.query_protocol.specs.declared.tag.TheConstants.{TAG_MOST};
+
+use crate::tag::TAG_MOST;
+use gph_codes::Code;
+
+/// The number that one to so many decimal digits write, where it is from `least` to `greatest`.
+pub(crate) fn number_of(digits: usize, least: u64, greatest: u64, word: &[u8]) -> Option<u64>
+    requires { digits ≤ 20 }
+    ensures { result ≡ number_of digits least greatest word.now }
+{
+    if !is_decimal(digits, word) {
+        return None;
+    }
+    let value = value_of(word);
+    if u128::from(least) <= value && value <= u128::from(greatest) {
+        Some(value as u64)
+    } else {
+        None
+    }
+}
+
+/// A key.
+pub(crate) fn key_of(word: &[u8]) -> Option<u64>
+    ensures { result ≡ key_of word.now }
+{
+    number_of(20, 0, u64::MAX, word)
+}
+
+/// A radius of codes of so many bits.
+pub(crate) fn radius_of(bits: u32, word: &[u8]) -> Option<u32>
+    ensures { result ≡ radius_of bits word.now }
+{
+    match number_of(3, 0, u64::from(bits), word) {
+        None => None,
+        Some(value) => Some(value as u32),
+    }
+}
+
+/// How many hits are asked.
+pub(crate) fn count_of(word: &[u8]) -> Option<u32>
+    ensures { result ≡ count_of word.now }
+{
+    match number_of(5, 1, 65536, word) {
+        None => None,
+        Some(value) => Some(value as u32),
+    }
+}
+
+fn is_letter_or_digit(byte: u8) -> bool
+    ensures { result ≡ is_letter_or_digit byte }
+{
+    matches!(byte, b'0'..=b'9' | b'A'..=b'Z' | b'a'..=b'z')
+}
+
+/// Whether a word is a tag.
+pub(crate) fn is_tag(word: &[u8]) -> bool
+    ensures value { result ≡ is_tag word.now }
+    ensures short { IsTrue result → length word.now ≤ TAG_MOST }
+{
+    1 <= word.len() && word.len() <= TAG_MOST && are_letters_or_digits(word)
+}
+
+fn are_letters_or_digits(word: &[u8]) -> bool
+    ensures { result ≡ list_all is_letter_or_digit word.now }
+{
+    word.iter().all(|byte| is_letter_or_digit(*byte))
+}
+
+/// A code of so many bits.
+pub(crate) fn code_of<const W: usize>(bits: u32, word: &[u8]) -> Option<Code<W>>
+    requires few_words { W ≤ 8 }
+    requires allowed { IsAllowed W bits }
+    ensures { result ≡ option_map (padded (64 * W)) (code_of bits word.now) }
+{
+    match Code::from_hex(bits, word) {
+        Ok(code) => Some(code),
+        Err(_) => None,
+    }
+}
+
+// Whether a word is one to so many decimal digits.
+fn is_decimal(most: usize, word: &[u8]) -> bool
+    ensures value { result ≡ is_decimal most word.now }
+    ensures digits { IsTrue result → AllDigits 10 word.now }
+    ensures short { IsTrue result → length word.now ≤ most }
+{
+    let digits = are_digits(word);
+    1 <= word.len() && word.len() <= most && digits
+}
+
+fn are_digits(word: &[u8]) -> bool
+    ensures { result ≡ list_all (λ byte. nat_lt (digit_value byte) 10) word.now }
+{
+    word.iter().all(|byte| matches!(*byte, b'0'..=b'9'))
+}
+
+// The number that decimal digits write.
+fn value_of(word: &[u8]) -> u128
+    requires short { length word.now ≤ 20 }
+    requires digits { AllDigits 10 word.now }
+    ensures { result ≡ digits_value 10 word.now }
+{
+    let mut value = 0;
+    for digit in word {
+        value = value * 10 + u128::from(*digit - b'0');
+    }
+    value
+}

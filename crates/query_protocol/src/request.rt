@@ -1,0 +1,24 @@
+use crate::Tag;
+use gph_codes::Code;
+
+/// The first word of a request.
+#[derive(Clone, Copy, Debug, PartialEq, Eq)]
+pub enum RequestWord {
+    AddWord,
+    RangeWord,
+    NextWord,
+    QuitWord,
+}
+
+/// What a line asks.
+#[derive(Clone, Copy, Debug)]
+pub enum Request<const W: usize> {
+    /// Commits an entry that adds a row.
+    Add { key: u64, code: Code<W> },
+    /// Opens a query for all codes at most `tau` positions away.
+    Range { tag: Tag, tau: u32, code: Code<W> },
+    /// Asks for the next hits of a query, at most `count`.
+    Next { tag: Tag, count: u32 },
+    /// Ends the session.
+    Quit,
+}
