@@ -1,5 +1,5 @@
 -- One more part in front of a table: the first least pick gives the first of the cheapest splits.
-use Rattle.std.proofs.Common.{◌≡◌, ℕ, zero, suc, ◌+◌, ◌-◌, ◌*◌, ◌<◌, ◌≤◌, ◌⊎◌, inl, inr, List, [], ◌∷◌, length, get_or, set, ◌≢◌, ⊎_elim, sym, refl, ap, ◌∙◌, subst, arith}
+use Rattle.std.proofs.Common.{◌≡◌, ℕ, zero, suc, ◌+◌, ◌-◌, ◌<◌, ◌≤◌, inl, inr, List, [], ◌∷◌, length, get_or, set, ◌≢◌, ⊎_elim, sym, refl, ap, ◌∙◌, subst, arith}
 use Rattle.std.proofs.lemmas.Bool.{cases_eq}
 use Rattle.std.proofs.lemmas.List.{get_or-set_same, get_or-set_other}
 use Rattle.threshold_model.specs.Splits.{units_total, split_cost, StandsBefore, IsSplit}
@@ -10,14 +10,13 @@ same_first f g last place same h =
     record {
       within = h.within;
       least = λ other le. omega (arith, h.least other le, same other le, same place h.within);
-      first = λ other less. let fits : other ≤ last = omega (arith, h.within) in omega (arith, h.first other less, same other fits, same place h.within)
+      first = λ other less. let fits : other ≤ last = omega (arith, h.within) in omega (arith, h.first other less, same other fits, same place h.within);
     }
 
 -- one part that takes a pick, and the parts behind it
 module _ (count : ℕ → ℕ → ℕ) (part parts units pick : ℕ) (rest : ℕ → List ℕ)
-  (best : (left : ℕ) → left ≤ units → IsBest count (part + 1) parts left (rest left))
-  (first : IsFirstLeast (λ x. count part x + split_cost count (part + 1) (rest (units - x))) units pick) where
-
+    (best : (left : ℕ) → left ≤ units → IsBest count (part + 1) parts left (rest left))
+    (first : IsFirstLeast (λ x. count part x + split_cost count (part + 1) (rest (units - x))) units pick) where
   none_cheaper_more : (us : List ℕ) → IsSplit (suc parts) units us → split_cost count part (pick ∷ rest (units - pick)) ≤ split_cost count part us
   none_cheaper_more [] split = let size : zero ≡ suc parts = split.size in absurd (omega arith)
   none_cheaper_more (v ∷ vs) split =
@@ -55,15 +54,14 @@ module _ (count : ℕ → ℕ → ℕ) (part parts units pick : ℕ) (rest : ℕ
       record {
         splits = record { size = ap suc size; sum = omega arith };
         none_cheaper = none_cheaper_more;
-        none_before = none_before_more
+        none_before = none_before_more;
       }
 
 -- one more number of units in a row
 module _ (units width : ℕ) (asked before costs picks : List ℕ) (cost pick : ℕ)
-  (in_costs : units < length costs) (in_picks : units < length picks)
-  (rest : IsRowFrom (units + 1) width asked before costs picks)
-  (first : IsFirstLeast (joint_cost asked costs units) units pick) (is_cost : cost ≡ joint_cost asked costs units pick) where
-
+    (in_costs : units < length costs) (in_picks : units < length picks)
+    (rest : IsRowFrom (units + 1) width asked before costs picks)
+    (first : IsFirstLeast (joint_cost asked costs units) units pick) (is_cost : cost ≡ joint_cost asked costs units pick) where
   same_joint : (x : ℕ) → x ≤ units → joint_cost asked costs units x ≡ joint_cost asked before units x
   same_joint x le = let fits : units - x < units + 1 = omega arith in ap (λ z. get_or asked x 0 + z) (rest.kept (units - x) fits)
 
@@ -76,23 +74,22 @@ module _ (units width : ℕ) (asked before costs picks : List ℕ) (cost pick : 
   picked_at : (other : ℕ) → units ≤ other → other < width → IsFirstLeast (joint_cost asked before other) other (get_or (set picks units pick) other 0)
   picked_at other le less =
       ⊎_elim (λ (e : other ≡ units). subst (λ v. IsFirstLeast (joint_cost asked before v) v (get_or (set picks units pick) v 0)) (sym e) picked_here)
-        (λ (ne : other ≢ units). rw get_or-set_other (rest.picked other (omega arith) less)) (cases_eq other units)
+      (λ (ne : other ≢ units). rw get_or-set_other (rest.picked other (omega arith) less)) (cases_eq other units)
 
   added_at : (other : ℕ) → units ≤ other → other < width → get_or (set costs units cost) other 0 ≡ joint_cost asked before other (get_or (set picks units pick) other 0)
   added_at other le less =
       ⊎_elim (λ (e : other ≡ units). subst (λ v. get_or (set costs units cost) v 0 ≡ joint_cost asked before v (get_or (set picks units pick) v 0)) (sym e) added_here)
-        (λ (ne : other ≢ units). get_or-set_other costs units other cost 0 ne ∙ rest.added other (omega arith) less ∙ ap (joint_cost asked before other) (sym (get_or-set_other picks units other pick 0 ne))) (cases_eq other units)
+      (λ (ne : other ≢ units). get_or-set_other costs units other cost 0 ne ∙ rest.added other (omega arith) less ∙ ap (joint_cost asked before other) (sym (get_or-set_other picks units other pick 0 ne))) (cases_eq other units)
 
   pub row_more : IsRowFrom units width asked before (set costs units cost) (set picks units pick)
   row_more = record {
-        picked = picked_at;
-        added = added_at;
-        kept = λ other less. get_or-set_other costs units other cost 0 (omega arith) ∙ rest.kept other (omega arith)
-      }
+    picked = picked_at;
+    added = added_at;
+    kept = λ other less. get_or-set_other costs units other cost 0 (omega arith) ∙ rest.kept other (omega arith);
+  }
 
 -- the last part takes all units
 module _ (count : ℕ → ℕ → ℕ) (part units : ℕ) where
-
   none_cheaper_last : (us : List ℕ) → IsSplit 1 units us → split_cost count part (units ∷ []) ≤ split_cost count part us
   none_cheaper_last [] split = let size : zero ≡ suc zero = split.size in absurd (omega arith)
   none_cheaper_last (v ∷ []) split =
@@ -109,39 +106,39 @@ module _ (count : ℕ → ℕ → ℕ) (part units : ℕ) where
 
   pub best_last : IsBest count part 1 units (units ∷ [])
   best_last = record {
-        splits = record { size = refl; sum = omega arith };
-        none_cheaper = none_cheaper_last;
-        none_before = none_before_last
-      }
+    splits = record { size = refl; sum = omega arith };
+    none_cheaper = none_cheaper_last;
+    none_before = none_before_last;
+  }
 
 -- the row of the last part solves it
 pub solved_last : (count : ℕ → ℕ → ℕ) (part width : ℕ) (asked costs picks : List ℕ)
-  → AreAsked count part width asked → IsLastRow width asked costs picks → IsSolved count part (picks ∷ []) costs width
+    → AreAsked count part width asked → IsLastRow width asked costs picks → IsSolved count part (picks ∷ []) costs width
 solved_last count part width asked costs picks asked_all row =
     record {
       best = λ units less. subst (λ pick. IsBest count part 1 units (pick ∷ [])) (sym (row.picked units less)) (best_last count part units);
       cost = λ units less. let taken : count part (get_or picks units 0) ≡ count part units = ap (count part) (row.picked units less) in omega (arith, asked_all.counts units less, row.asked_is units less);
-      bound = λ units less. omega (arith, asked_all.small units less, row.asked_is units less)
+      bound = λ units less. omega (arith, asked_all.small units less, row.asked_is units less);
     }
 
 -- a row of first least picks solves one more part
 pub solved_more : (count : ℕ → ℕ → ℕ) (part width : ℕ) (rows : List (List ℕ)) (asked before costs picks : List ℕ)
-  → AreAsked count part width asked → IsSolved count (part + 1) rows before width → IsRowFrom 0 width asked before costs picks → IsSolved count part (picks ∷ rows) costs width
+    → AreAsked count part width asked → IsSolved count (part + 1) rows before width → IsRowFrom 0 width asked before costs picks → IsSolved count part (picks ∷ rows) costs width
 solved_more count part width rows asked before costs picks asked_all solved row =
     let first : (units : ℕ) → units < width → IsFirstLeast (λ x. count part x + split_cost count (part + 1) (follow rows (units - x))) units (get_or picks units 0) =
-          (λ units less. same_first (joint_cost asked before units) (λ x. count part x + split_cost count (part + 1) (follow rows (units - x))) units (get_or picks units 0)
-            (λ x le. let here : x < width = omega arith in let there : units - x < width = omega arith in omega (arith, asked_all.counts x here, solved.cost (units - x) there))
-            (row.picked units (omega arith) less)) in
+    (λ units less. same_first (joint_cost asked before units) (λ x. count part x + split_cost count (part + 1) (follow rows (units - x))) units (get_or picks units 0)
+    (λ x le. let here : x < width = omega arith in let there : units - x < width = omega arith in omega (arith, asked_all.counts x here, solved.cost (units - x) there))
+    (row.picked units (omega arith) less)) in
     record {
       best = λ units less. best_more count part (length rows) units (get_or picks units 0) (follow rows) (λ left le. solved.best left (omega arith)) (first units less);
       cost = λ units less.
-        let within = (first units less).within in
-        let here : get_or picks units 0 < width = omega arith in
-        let there : units - get_or picks units 0 < width = omega arith in
-        omega (arith, row.added units (omega arith) less, asked_all.counts (get_or picks units 0) here, solved.cost (units - get_or picks units 0) there);
+          let within = (first units less).within in
+          let here : get_or picks units 0 < width = omega arith in
+          let there : units - get_or picks units 0 < width = omega arith in
+          omega (arith, row.added units (omega arith) less, asked_all.counts (get_or picks units 0) here, solved.cost (units - get_or picks units 0) there);
       bound = λ units less.
-        let within = (first units less).within in
-        let here : get_or picks units 0 < width = omega arith in
-        let there : units - get_or picks units 0 < width = omega arith in
-        omega (arith, row.added units (omega arith) less, asked_all.small (get_or picks units 0) here, solved.bound (units - get_or picks units 0) there)
+          let within = (first units less).within in
+          let here : get_or picks units 0 < width = omega arith in
+          let there : units - get_or picks units 0 < width = omega arith in
+          omega (arith, row.added units (omega arith) less, asked_all.small (get_or picks units 0) here, solved.bound (units - get_or picks units 0) there);
     }

@@ -81,12 +81,7 @@ fn last_row(asked: &[u32], costs: &mut [u64], picks: &mut [u16])
 }
 
 // Solves the parts from the last one to the first, for all units below the width of the slices.
-fn fill<C: PartCounts>(
-    counts: &C,
-    asked: &mut [u32],
-    costs: &mut [u64],
-    picks: &mut [Vec<u16>],
-)
+fn fill<C: PartCounts>(counts: &C, asked: &mut [u32], costs: &mut [u64], picks: &mut [Vec<u16>])
     requires some { 0 < length picks.old }
     requires few { length picks.old ≤ 64 }
     requires counted { length picks.old ≤ C.parts counts.now }
@@ -128,7 +123,12 @@ pub(crate) fn solve<C: PartCounts>(
     ensures widths { KeepWidths picks.old picks.new }
 {
     let width = tau as usize + 2;
-    fill(counts, &mut asked[..width], &mut costs[..width], &mut picks[..parts]);
+    fill(
+        counts,
+        &mut asked[..width],
+        &mut costs[..width],
+        &mut picks[..parts],
+    );
     costs[width - 1]
 }
 

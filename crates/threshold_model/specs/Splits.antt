@@ -1,5 +1,5 @@
 -- Splits of units over parts: a threshold vector with one added to each entry.
-use Rattle.std.specs.Prelude.{◌≡◌, ℕ, zero, suc, ◌+◌, ◌<◌, ◌≤◌, ◌⊎◌, ℤ, pos, negsuc, List, [], ◌∷◌, length}
+use Rattle.std.specs.Prelude.{◌≡◌, ℕ, zero, suc, ◌+◌, ◌<◌, ◌⊎◌, ℤ, pos, negsuc, List, [], ◌∷◌, length}
 
 -- the sum of a split
 abbrev pub units_total : List ℕ → ℕ

@@ -1,4 +1,4 @@
-use Rattle.std.proofs.Common.{◌≡◌, ◌+◌, length, map, take, subst, sym, ap, ◌∙◌, arith, rules}
+use Rattle.std.proofs.Common.{◌+◌, map, subst, sym, ap, ◌∙◌, rules}
 use Rattle.std.proofs.lemmas.List.{with_items_is}
 use Rattle.threshold_model.specs.Vectors.{IsChoice, IsLeast, cost}
 use Rattle.threshold_model.specs.Splits.{units_total, threshold_of}
@@ -16,7 +16,7 @@ returns-clause-choice g c =
     let same = c.deref.ensures.value ∙ with_items_is c.scratch.inside.picks c.solve-least.new.picks (search rules) in
     let entries = c.read_out.ensures.entries ∙ ap (λ picks. map threshold_of (split_at picks c.args.parts (c.args.tau + 1))) same in
     subst (IsChoice (g.C.PartCounts.counts c.args.counts.now) c.args.tau c.args.parts) (sym entries)
-      (choice_is (g.C.PartCounts.counts c.args.counts.now) c.args.tau c.args.parts (split_at c.solve-least.new.picks c.args.parts (c.args.tau + 1)) c.solve-least.ensures.best)
+    (choice_is (g.C.PartCounts.counts c.args.counts.now) c.args.tau c.args.parts (split_at c.solve-least.new.picks c.args.parts (c.args.tau + 1)) c.solve-least.ensures.best)
 
 pub returns-clause-cost : goal.returns-clause-cost
 returns-clause-cost g c =
@@ -29,4 +29,4 @@ returns-clause-cost g c =
 pub returns-clause-least : goal.returns-clause-least
 returns-clause-least g c =
     subst (IsLeast (g.C.PartCounts.counts c.args.counts.now) c.args.tau c.args.parts) (sym c.solve-least.ensures.cost)
-      (least_is (g.C.PartCounts.counts c.args.counts.now) c.args.tau c.args.parts (split_at c.solve-least.new.picks c.args.parts (c.args.tau + 1)) c.solve-least.ensures.best)
+    (least_is (g.C.PartCounts.counts c.args.counts.now) c.args.tau c.args.parts (split_at c.solve-least.new.picks c.args.parts (c.args.tau + 1)) c.solve-least.ensures.best)

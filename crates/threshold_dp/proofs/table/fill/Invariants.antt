@@ -1,4 +1,4 @@
-use Rattle.std.proofs.Common.{◌≡◌, ◌<◌, length, drop}
+use Rattle.std.proofs.Common.{◌<◌, length, drop}
 use Rattle.threshold_dp.specs.Table.{rows_of, KeepWidths, IsSolved}
 use Rattle.threshold_dp.proofs.table.fill.Given as goal
 
