@@ -1,1 +1,5 @@
 pub mod SplitLemmas
+pub mod PositionLemmas
+pub mod FindingLemmas
+pub mod MissedLemmas
+pub mod ChoiceLemmas
