@@ -1,9 +1,10 @@
 -- One more part in front of a table: the first least pick gives the first of the cheapest splits.
-use Rattle.std.proofs.Common.{◌≡◌, ℕ, zero, suc, ◌+◌, ◌-◌, ◌<◌, ◌≤◌, inl, inr, List, [], ◌∷◌, length, get_or, set, ◌≢◌, ⊎_elim, sym, refl, ap, ◌∙◌, subst, arith}
+use Rattle.std.proofs.Common.{◌≡◌, ℕ, zero, suc, ◌+◌, ◌-◌, ◌<◌, ◌≤◌, inl, inr, List, [], ◌∷◌, length, get_or, set, ◌≢◌, ⊎_elim, sym, ap, ◌∙◌, subst, arith}
 use Rattle.std.proofs.lemmas.Bool.{cases_eq}
 use Rattle.std.proofs.lemmas.List.{get_or-set_same, get_or-set_other}
-use Rattle.threshold_model.specs.Splits.{units_total, split_cost, StandsBefore, IsSplit}
-use Rattle.threshold_dp.specs.Table.{follow, IsBest, AreAsked, IsFirstLeast, joint_cost, IsRowFrom, IsLastRow, IsSolved}
+use Rattle.threshold_model.specs.Splits.{units_total, split_cost, StandsBefore, IsSplit, IsBest}
+use Rattle.threshold_model.proofs.BestLemmas.{best_last}
+use Rattle.threshold_dp.specs.Table.{follow, AreAsked, IsFirstLeast, joint_cost, IsRowFrom, IsLastRow, IsSolved}
 
 pub same_first : (f g : ℕ → ℕ) (last place : ℕ) → ((x : ℕ) → x ≤ last → f x ≡ g x) → IsFirstLeast f last place → IsFirstLeast g last place
 same_first f g last place same h =
@@ -86,29 +87,6 @@ module _ (units width : ℕ) (asked before costs picks : List ℕ) (cost pick : 
     picked = picked_at;
     added = added_at;
     kept = λ other less. get_or-set_other costs units other cost 0 (omega arith) ∙ rest.kept other (omega arith);
-  }
-
--- the last part takes all units
-module _ (count : ℕ → ℕ → ℕ) (part units : ℕ) where
-  none_cheaper_last : (us : List ℕ) → IsSplit 1 units us → split_cost count part (units ∷ []) ≤ split_cost count part us
-  none_cheaper_last [] split = let size : zero ≡ suc zero = split.size in absurd (omega arith)
-  none_cheaper_last (v ∷ []) split =
-      let sum : v + 0 ≡ units = split.sum in
-      let all : v ≡ units = omega arith in
-      omega (arith, ap (count part) all)
-  none_cheaper_last (v ∷ w ∷ vs) split = let size : suc (suc (length vs)) ≡ suc zero = split.size in absurd (omega arith)
-
-  none_before_last : (us : List ℕ) → IsSplit 1 units us → split_cost count part us ≡ split_cost count part (units ∷ []) → StandsBefore us (units ∷ []) → ⊥
-  none_before_last [] split same before = let size : zero ≡ suc zero = split.size in absurd (omega arith)
-  none_before_last (v ∷ []) split same (inl earlier) = let sum : v + 0 ≡ units = split.sum in omega arith
-  none_before_last (v ∷ []) split same (inr later) = later.1
-  none_before_last (v ∷ w ∷ vs) split same before = let size : suc (suc (length vs)) ≡ suc zero = split.size in absurd (omega arith)
-
-  pub best_last : IsBest count part 1 units (units ∷ [])
-  best_last = record {
-    splits = record { size = refl; sum = omega arith };
-    none_cheaper = none_cheaper_last;
-    none_before = none_before_last;
   }
 
 -- the row of the last part solves it

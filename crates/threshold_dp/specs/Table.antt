@@ -2,7 +2,7 @@
 -- No public clause cites this module.
 use Rattle.std.specs.Prelude.{◌≡◌, ℕ, ◌+◌, ◌-◌, ◌*◌, ◌<◌, ◌≤◌, List, [], ◌∷◌, length, map, take, slice_index, All}
 use Rattle.std.specs.Global.{Vec}
-use Rattle.threshold_model.specs.Splits.{split_cost, StandsBefore, IsSplit}
+use Rattle.threshold_model.specs.Splits.{split_cost, IsBest}
 
 -- the picks of the rows
 abbrev pub rows_of : List (Vec ℕ) → List (List ℕ)
@@ -24,12 +24,6 @@ follow (row ∷ rows) units = slice_index row units ∷ follow rows (units - sli
 -- the split of so many units that the first so many rows lead to
 abbrev pub split_at : List (Vec ℕ) → ℕ → ℕ → List ℕ
 split_at picks parts units = follow (rows_of (take parts picks)) units
-
--- the first of the cheapest splits of so many units over the parts from this one on
-pub record IsBest (count : ℕ → ℕ → ℕ) (part parts units : ℕ) (split : List ℕ) : Type 0 where
-  pub splits : IsSplit parts units split
-  pub none_cheaper : (us : List ℕ) → IsSplit parts units us → split_cost count part split ≤ split_cost count part us
-  pub none_before : (us : List ℕ) → IsSplit parts units us → split_cost count part us ≡ split_cost count part split → StandsBefore us split → ⊥
 
 -- the first of the places up to the last one at which a function is least
 pub record IsFirstLeast (value : ℕ → ℕ) (last place : ℕ) : Type 0 where

@@ -1,8 +1,8 @@
 // The table of the allocation, filled from the last part to the first.
 
 ghost use Rattle.std.specs.Prelude.{◌≡◌, ℕ, ◌+◌, ◌*◌, ◌<◌, ◌≤◌, length, map, slice_index};
-ghost use Rattle.threshold_model.specs.Splits.{threshold_of, units_total, split_cost};
-ghost use Rattle.threshold_dp.specs.Table.{rows_of, HaveWidth, KeepWidths, AreAsked, IsFirstLeast, joint_cost, IsRowFrom, IsLastRow, IsBest, IsSolved, follow, split_at};
+ghost use Rattle.threshold_model.specs.Splits.{threshold_of, units_total, split_cost, IsBest};
+ghost use Rattle.threshold_dp.specs.Table.{rows_of, HaveWidth, KeepWidths, AreAsked, IsFirstLeast, joint_cost, IsRowFrom, IsLastRow, IsSolved, follow, split_at};
 
 use crate::part_counts::PartCounts;
 use crate::thresholds::Thresholds;

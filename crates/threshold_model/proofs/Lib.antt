@@ -3,3 +3,4 @@ pub mod PositionLemmas
 pub mod FindingLemmas
 pub mod MissedLemmas
 pub mod ChoiceLemmas
+pub mod BestLemmas

@@ -1,5 +1,5 @@
 -- Splits of units over parts: a threshold vector with one added to each entry.
-use Rattle.std.specs.Prelude.{◌≡◌, ℕ, zero, suc, ◌+◌, ◌<◌, ◌⊎◌, ℤ, pos, negsuc, List, [], ◌∷◌, length}
+use Rattle.std.specs.Prelude.{◌≡◌, ℕ, zero, suc, ◌+◌, ◌*◌, ◌<◌, ◌≤◌, ◌⊎◌, ℤ, pos, negsuc, List, [], ◌∷◌, length, slice_index}
 
 -- the sum of a split
 abbrev pub units_total : List ℕ → ℕ
@@ -27,3 +27,25 @@ StandsBefore (u ∷ us) (v ∷ vs) = (u < v) ⊎ ((u ≡ v) × StandsBefore us v
 pub record IsSplit (parts units : ℕ) (split : List ℕ) : Type 0 where
   pub size : length split ≡ parts
   pub sum : units_total split ≡ units
+
+-- the first of the cheapest splits of so many units over the parts from this one on
+pub record IsBest (count : ℕ → ℕ → ℕ) (part parts units : ℕ) (split : List ℕ) : Type 0 where
+  pub splits : IsSplit parts units split
+  pub none_cheaper : (us : List ℕ) → IsSplit parts units us → split_cost count part split ≤ split_cost count part us
+  pub none_before : (us : List ℕ) → IsSplit parts units us → split_cost count part us ≡ split_cost count part split → StandsBefore us split → ⊥
+
+-- the units of the first part
+abbrev pub first_units : List ℕ → ℕ
+first_units [] = 0
+first_units (u ∷ us) = u
+
+-- the first of the cheapest among the splits with at most so many units for the first part
+pub record IsBestUpTo (count : ℕ → ℕ → ℕ) (part parts units most : ℕ) (split : List ℕ) : Type 0 where
+  pub splits : IsSplit parts units split
+  pub among : first_units split ≤ most
+  pub none_cheaper : (us : List ℕ) → IsSplit parts units us → first_units us ≤ most → split_cost count part split ≤ split_cost count part us
+  pub none_before : (us : List ℕ) → IsSplit parts units us → first_units us ≤ most → split_cost count part us ≡ split_cost count part split → StandsBefore us split → ⊥
+
+-- a table of counts, one row of so many for each part
+abbrev pub table_count : List ℕ → ℕ → ℕ → ℕ → ℕ
+table_count counts width part units = slice_index counts (part * width + units)

@@ -3,7 +3,7 @@ use Rattle.std.proofs.lemmas.List.{with_items_is}
 use Rattle.threshold_model.specs.Vectors.{IsChoice, IsLeast, cost}
 use Rattle.threshold_model.specs.Splits.{units_total, threshold_of}
 use Rattle.threshold_dp.specs.Table.{split_at}
-use Rattle.threshold_dp.proofs.ChoiceLemmas.{choice_is, cost_is, least_is}
+use Rattle.threshold_model.proofs.BestLemmas.{choice_is, cost_is, least_is}
 use Rattle.threshold_dp.proofs.allocation.allocate.Goals as goal
 
 pub read_out-requires-clause-sum : goal.read_out-requires-clause-sum
