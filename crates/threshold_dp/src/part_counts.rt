@@ -1,0 +1,25 @@
+ghost use Rattle.std.specs.Prelude.{◌≡◌, ℕ, ◌<◌, pos, negsuc, ◌≤ℤ◌};
+ghost use Rattle.threshold_model.specs.Vectors.{units_of, NeverFalls};
+
+/// The counts of the parts round one query: how many codes are within a radius of the query's part.
+pub trait PartCounts {
+    /// How many parts there are.
+    ghost parts: { Self → ℕ };
+
+    /// How many codes are at one of the first so many distances of a part: of the radius e those at
+    /// the distances 0 to e, which are e + 1 units, and of the radius -1 none.
+    ghost counts: { Self → ℕ → ℕ → ℕ };
+
+    /// How many codes are within the radius at a part. The radius is -1 to 512.
+    fn count(&self, part: usize, radius: i32) -> u32
+        requires part { part < parts self.now }
+        requires low { negsuc 0 ≤ℤ radius }
+        requires high { radius ≤ℤ pos 512 }
+        ensures count { result ≡ counts self.now part (units_of radius) };
+
+    /// Within the radius -1 there is no code.
+    ghost starts: { (counter : Self) (part : ℕ) → part < parts counter → counts counter part 0 ≡ 0 };
+
+    /// A greater radius never counts fewer.
+    ghost rises: { (counter : Self) (part : ℕ) → part < parts counter → NeverFalls (counts counter part) };
+}

@@ -1,0 +1,73 @@
+ghost use Rattle.std.specs.Prelude.{◌≡◌, ◌<◌, ◌≤◌, IfOk, vec_len};
+ghost use Rattle.threshold_dp.specs.Table.{HaveWidth};
+
+use read_meter::NoMemory;
+use std::alloc::Global;
+use std::marker::Model;
+
+/// The room in which an allocation works. It is kept between queries, so that an allocation takes
+/// no memory.
+#[derive(Drop)]
+pub struct Scratch {
+    tau: u32,
+    pub(crate) asked: Vec<u32>,
+    pub(crate) costs: Vec<u64>,
+    pub(crate) picks: Vec<Vec<u16>>,
+}
+
+impl Model for Scratch {
+    ghost use Rattle.std.specs.Prelude.{◌≡◌, ◌+◌, ◌≤◌, length, vec_len};
+    ghost use Rattle.threshold_dp.specs.Room.{TableRoom};
+
+    ghost Value = { TableRoom };
+
+    ghost use Rattle.threshold_dp.specs.Layout.{HasRoom};
+
+    ghost view = { λ s. record { parts = vec_len s.picks; tau = s.tau } };
+
+    ghost invariant = { HasRoom };
+}
+
+impl Scratch {
+    /// Room for up to so many parts and for radii up to tau: (tau + 2) * (parts * 2 + 12) bytes.
+    pub fn reserve(alloc: Global, parts: usize, tau: u32) -> Result<Scratch, NoMemory>
+        requires some { 0 < parts }
+        requires few { parts ≤ 64 }
+        requires near { tau ≤ 512 }
+        ensures room { IfOk result (λ scratch. scratch ≡ record { parts = parts; tau = tau }) }
+    {
+        let width = tau as usize + 2;
+        let Ok(asked) = vec![in alloc; 0u32; width] else {
+            return Err(NoMemory);
+        };
+        let Ok(costs) = vec![in alloc; 0u64; width] else {
+            return Err(NoMemory);
+        };
+        let picks = rows(alloc, parts, width)?;
+        Ok(Scratch {
+            tau,
+            asked,
+            costs,
+            picks,
+        })
+    }
+}
+
+// So many rows of so many picks.
+fn rows(alloc: Global, parts: usize, width: usize) -> Result<Vec<Vec<u16>>, NoMemory>
+    ensures size { IfOk result (λ picks. vec_len picks ≡ parts) }
+    ensures widths { IfOk result (λ picks. HaveWidth width picks.items) }
+{
+    let Ok(mut picks) = Vec::with_capacity(alloc, parts) else {
+        return Err(NoMemory);
+    };
+    for _part in 0..parts {
+        let Ok(row) = vec![in alloc; 0u16; width] else {
+            return Err(NoMemory);
+        };
+        let Ok(()) = picks.push(row) else {
+            return Err(NoMemory);
+        };
+    }
+    Ok(picks)
+}
