@@ -1,0 +1,3 @@
+pub mod BallLemmas
+pub mod DigitLemmas
+pub mod SumLemmas
