@@ -6,6 +6,8 @@ use Rattle.std.proofs.lemmas.Nat.{ones-le, xor_lt}
 use Rattle.std.proofs.lemmas.List.{append-nil}
 use Rattle.std.proofs.lemmas.List.Concat.{flat_map-append}
 use Rattle.std.proofs.lemmas.List.Sums.{sum_by-append}
+use Rattle.std.proofs.lemmas.List.Elements.{All-filter, All-nil, All-append}
+use Rattle.std.proofs.lemmas.List.FromFn.{length-range_with_len, get_or-range_with_len}
 use Rattle.std.proofs.lemmas.Bool.{ne_eqb, cases_lt}
 use Rattle.ball_walk.specs.Balls.{value_distance, values, ring, ball, ring_from, is_near, values_near}
 use Rattle.ball_walk.specs.Walk.{rest_of}
@@ -167,3 +169,33 @@ pub ball_items : (items : List ℕ) (value width units : ℕ) → All (λ item. 
     → sum_by (λ other. count_by (λ item. item == other) items) (ball value width units) ≡ count_by (is_near value units) items
 ball_items items value width units below =
     ball_sum (λ other. count_by (λ item. item == other) items) value width units ∙ near_items items value width units below
+
+-- the numbers of a list that counts up are below its end
+range_below : (from n top : ℕ) → from + n ≤ top → All (λ x. x < top) (range_with_len from n)
+range_below from n top h k d in_range =
+    let short : k < n = (let e = length-range_with_len from n in omega arith) in
+    let at = get_or-range_with_len from n k d short in
+    omega arith
+
+-- the values of a width that are near are below the bound of the width
+pub near_below : (value width units : ℕ) → All (λ other. other < 2 ^ width) (values_near value width units)
+unfolding values_near values
+near_below value width units =
+    All-filter (is_near value units) (λ other. other < 2 ^ width) (range_with_len 0 (2 ^ width)) (range_below 0 (2 ^ width) (2 ^ width) (omega arith))
+
+ring_below : (value width apart : ℕ) → All (λ other. other < 2 ^ width) (ring value width apart)
+unfolding ring values
+ring_below value width apart =
+    All-filter (λ other. value_distance other value == apart) (λ other. other < 2 ^ width) (range_with_len 0 (2 ^ width))
+    (range_below 0 (2 ^ width) (2 ^ width) (omega arith))
+
+rings_below : (value width from units : ℕ) → All (λ other. other < 2 ^ width) (flat_map (ring value width) (range_with_len from units))
+rings_below value width from zero = All-nil (λ other. other < 2 ^ width)
+rings_below value width from (suc units) =
+    All-append (λ other. other < 2 ^ width) (ring value width from) (flat_map (ring value width) (range_with_len (from + 1) units))
+    (ring_below value width from) (rings_below value width (from + 1) units)
+
+-- the values of a ball are below the bound of its width
+pub ball_below : (value width units : ℕ) → All (λ other. other < 2 ^ width) (ball value width units)
+unfolding ball
+ball_below value width units = rings_below value width 0 units

@@ -1,4 +1,4 @@
-ghost use Rattle.std.specs.Prelude.{◌≡◌, ℕ, ◌+◌, ◌^◌, ◌<◌, ◌≤◌, List, [], ◌∷◌, MatchOption, negsuc, ◌≤ℤ◌, min};
+ghost use Rattle.std.specs.Prelude.{◌≡◌, ℕ, ◌+◌, ◌^◌, ◌<◌, ◌≤◌, List, [], ◌∷◌, MatchOption, negsuc, ◌≤ℤ◌, min, All};
 ghost use Rattle.std.specs.Prelude.{IfSome};
 ghost use Rattle.ball_walk.specs.Balls.{ball, ring_from, units_of};
 
@@ -38,7 +38,8 @@ impl Ball {
         requires small_width { width ≤ 12 }
         requires in_width { value < 2 ^ width }
         requires radius { negsuc 0 ≤ℤ radius }
-        ensures { result ≡ ball value width (units_of radius) }
+        ensures values { result ≡ ball value width (units_of radius) }
+        ensures in_width { All (λ other. other < 2 ^ width) result }
     {
         let left = distances_within(width, radius);
         Ball {
