@@ -1,9 +1,9 @@
-ghost use Rattle.std.specs.Prelude.{◌≡◌, ℕ, ◌+◌, ◌^◌, ◌<◌, ◌≤◌, IfOk, OnOk, OnErr, negsuc, ◌≤ℤ◌, length, EachIndex, slice_index};
+ghost use Rattle.std.specs.Prelude.{◌≡◌, ℕ, ◌+◌, ◌^◌, ◌<◌, ◌≤◌, IfOk, OnOk, OnErr, negsuc, ◌≤ℤ◌, EachIndex, slice_index, replicate};
 ghost use Rattle.ball_walk.specs.Balls.{units_of};
 ghost use Rattle.count_table.specs.Copies.{empty_table, copies_at, total_of, with_one, without_one, count_near};
 
-use crate::levels::{add_up, count_apart};
-use ball_walk::{ball_sums_add_up, Ball};
+use crate::levels::{add_over, add_up, count_apart};
+use ball_walk::{Ball, ball_sums_add_up};
 use read_meter::NoMemory;
 use std::alloc::Global;
 use std::marker::Model;
@@ -41,15 +41,7 @@ impl Counts {
         requires small_width { width ≤ 12 }
         ensures { IfOk result (λ counts. counts ≡ empty_table width) }
     {
-        let bound: usize = 1 << width;
-        let Ok(mut copies) = Vec::with_capacity(alloc, bound) else {
-            return Err(NoMemory);
-        };
-        for _i in 0..bound {
-            let Ok(()) = copies.push(0) else {
-                return Err(NoMemory);
-            };
-        }
+        let copies = no_copies(alloc, width)?;
         Ok(Counts {
             width,
             total: 0,
@@ -124,12 +116,7 @@ impl Counts {
         ensures { result ≡ count_near self.now value (units_of radius) }
     {
         ball_sums_add_up();
-        let mut ball = Ball::new(value, self.width, radius);
-        let mut count: u32 = 0;
-        while let Some(other) = ball.next() {
-            count += self.copies[usize::from(other)];
-        }
-        count
+        add_over(&self.copies, Ball::new(value, self.width, radius))
     }
 
     /// Writes to each place of `out` how many copies there are of values nearer to `value` than that many
@@ -142,4 +129,29 @@ impl Counts {
         count_apart(&self.copies, value, out);
         add_up(out);
     }
+}
+
+// A zero for each value of this width.
+fn no_copies(alloc: Global, width: u32) -> Result<Vec<u32>, NoMemory>
+    requires { width ≤ 12 }
+    ensures { IfOk result (λ copies. copies.items ≡ replicate (2 ^ width) 0) }
+{
+    let bound = bound_of(width);
+    let Ok(mut copies) = Vec::with_capacity(alloc, bound) else {
+        return Err(NoMemory);
+    };
+    for _i in 0..bound {
+        let Ok(()) = copies.push(0) else {
+            return Err(NoMemory);
+        };
+    }
+    Ok(copies)
+}
+
+// How many values of this width there are.
+fn bound_of(width: u32) -> usize
+    requires { width ≤ 12 }
+    ensures { result ≡ 2 ^ width }
+{
+    1 << width
 }

@@ -16,8 +16,7 @@ pub fn changes_follow_a_list()
         0 < copies_at (table_of width (front ++ value ∷ back)) value }
     ensures one_by_one { (width : ℕ) (items : List ℕ) → All (λ item. item < 2 ^ width) items →
         fold with_one (empty_table width) items ≡ table_of width items }
-{
-}
+{}
 
 /// Law: in the table of a list of values, the copies within a radius are the items within it, and all copies
 /// are all items.
@@ -26,5 +25,4 @@ pub fn counts_are_those_of_a_list()
         count_near (table_of width items) value units ≡ count_by (is_near value units) items }
     ensures total { (width : ℕ) (items : List ℕ) → All (λ item. item < 2 ^ width) items →
         total_of (table_of width items) ≡ length items }
-{
-}
+{}
