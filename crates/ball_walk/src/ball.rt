@@ -2,6 +2,7 @@ ghost use Rattle.std.specs.Prelude.{◌≡◌, ℕ, ◌+◌, ◌^◌, ◌<◌, �
 ghost use Rattle.std.specs.Prelude.{IfSome};
 ghost use Rattle.ball_walk.specs.Balls.{ball, ring_from, units_of};
 
+use crate::next::{is_between, next_after};
 use std::marker::Model;
 
 /// The values of a width within a radius of a value, still to be given: nearest first, and those at one
@@ -102,10 +103,11 @@ fn first_from(value: u16, width: u32, apart: u32, from: u16) -> Option<u16>
     ensures first { MatchOption result (ring_from value width apart from ≡ [])
         (λ found. ring_from value width apart from ≡ found ∷ ring_from value width apart (found + 1)) }
 {
-    for other in from..bound_of(width) {
-        if (other ^ value).count_ones() == apart {
-            return Some(other);
-        }
+    if from >= bound_of(width) {
+        return None;
     }
-    None
+    if is_between(from, value, apart, apart) {
+        return Some(from);
+    }
+    next_after(value, width, from, apart, apart)
 }

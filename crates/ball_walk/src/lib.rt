@@ -4,6 +4,7 @@
 
 mod ball;
 mod laws;
+mod next;
 
 pub use ball::Ball;
 pub use laws::{ball_has_each_once, ball_sums_add_up, distance_counts_digits, items_within_add_up};

@@ -1,4 +1,4 @@
-use Rattle.std.proofs.Common.{◌≡◌, ℕ, ◌<◌, ◌^◌, List, All, rules, ◌∙◌, sym, subst, w32, FitsSigned}
+use Rattle.std.proofs.Common.{ℕ, ◌<◌, ◌^◌, List, All, rules, ◌∙◌, sym, subst, w32, FitsSigned}
 use Rattle.std.proofs.lemmas.Int.{to_z-of_z}
 use Rattle.ball_walk.specs.Balls.{units_of}
 use Rattle.ball_walk.proofs.BallLemmas.{rest_of_ball, ball_cut, ball_below}
