@@ -9,8 +9,8 @@ use Rattle.std.proofs.lemmas.List.Sums.{sum_by-append}
 use Rattle.std.proofs.lemmas.List.Elements.{All-filter, All-nil, All-append}
 use Rattle.std.proofs.lemmas.List.FromFn.{length-range_with_len, get_or-range_with_len}
 use Rattle.std.proofs.lemmas.Bool.{ne_eqb, cases_lt}
-use Rattle.ball_walk.specs.Balls.{value_distance, values, ring, ball, ring_from, is_near, values_near}
-use Rattle.ball_walk.specs.Walk.{rest_of}
+use Rattle.ball_walk.specs.Balls.{value_distance, values, ring, ball, is_near, values_near}
+use Rattle.ball_walk.specs.Walk.{ring_from, rest_of}
 use Rattle.ball_walk.proofs.SumLemmas.{sum_near_more, sum_near_none, count_one, count_items}
 
 -- a list that counts up, where one more number is left

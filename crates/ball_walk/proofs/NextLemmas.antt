@@ -4,8 +4,8 @@ use Rattle.std.specs.Int.RustNames.{count_ones}
 use Rattle.std.proofs.lemmas.Nat.{div-add-mod', pow-add}
 use Rattle.std.proofs.lemmas.Bool.{cases_eq, cases_lt}
 use Rattle.std.proofs.Math.Pow.{pow_mono}
-use Rattle.ball_walk.specs.Balls.{value_distance, ring_from}
-use Rattle.ball_walk.specs.Walk.{IsNextAfter, HasNoneAfter}
+use Rattle.ball_walk.specs.Balls.{value_distance}
+use Rattle.ball_walk.specs.Walk.{ring_from, IsNextAfter, HasNoneAfter}
 use Rattle.ball_walk.proofs.DigitLemmas.{distance_top}
 use Rattle.ball_walk.proofs.BallLemmas.{distance_le, ring_from_here, ring_from_next, ring_from_end}
 

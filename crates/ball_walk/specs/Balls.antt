@@ -1,5 +1,5 @@
 -- Values of so many binary digits, how far two are apart, and the values within a radius of one.
-use Rattle.std.specs.Prelude.{ℕ, ◌+◌, ◌-◌, ◌^◌, ◌==◌, nat_lt, Bool, List, filter, ℤ, pos, negsuc}
+use Rattle.std.specs.Prelude.{ℕ, ◌+◌, ◌^◌, ◌==◌, nat_lt, Bool, List, filter, ℤ, pos, negsuc}
 use Rattle.std.specs.Int.RustNames.{count_ones, bit_xor}
 use Rattle.std.specs.List.{flat_map, range_with_len}
 
@@ -31,7 +31,3 @@ is_near value units other = nat_lt (value_distance other value) units
 -- the values of a width nearer to a value than so many units, ascending
 unfoldable pub values_near : ℕ → ℕ → ℕ → List ℕ
 values_near value width units = filter (is_near value units) (values width)
-
--- the values of a width at one distance from a value, from one on
-unfoldable pub ring_from : ℕ → ℕ → ℕ → ℕ → List ℕ
-ring_from value width apart from = filter (λ other. value_distance other value == apart) (range_with_len from (2 ^ width - from))

@@ -1,7 +1,11 @@
 -- What a walk over a ball keeps, and the values that it still has to give. No public clause cites this module.
-use Rattle.std.specs.Prelude.{ℕ, zero, suc, ◌+◌, ◌^◌, ◌<◌, ◌≤◌, List, [], ◌++◌}
+use Rattle.std.specs.Prelude.{ℕ, zero, suc, ◌+◌, ◌-◌, ◌^◌, ◌<◌, ◌≤◌, ◌==◌, List, [], ◌++◌, filter}
 use Rattle.std.specs.List.{flat_map, range_with_len}
-use Rattle.ball_walk.specs.Balls.{ring, ring_from, value_distance}
+use Rattle.ball_walk.specs.Balls.{ring, value_distance}
+
+-- the values of a width at one distance from a value, from one on
+unfoldable pub ring_from : ℕ → ℕ → ℕ → ℕ → List ℕ
+ring_from value width apart from = filter (λ other. value_distance other value == apart) (range_with_len from (2 ^ width - from))
 
 -- the values at so many distances from this one on, those at this distance from this value on
 abbrev pub rest_of : ℕ → ℕ → ℕ → ℕ → ℕ → List ℕ

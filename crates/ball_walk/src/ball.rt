@@ -1,6 +1,7 @@
 ghost use Rattle.std.specs.Prelude.{◌≡◌, ℕ, ◌+◌, ◌^◌, ◌<◌, ◌≤◌, List, [], ◌∷◌, MatchOption, negsuc, ◌≤ℤ◌, min, All};
 ghost use Rattle.std.specs.Prelude.{IfSome};
-ghost use Rattle.ball_walk.specs.Balls.{ball, ring_from, units_of};
+ghost use Rattle.ball_walk.specs.Balls.{ball, units_of};
+ghost use Rattle.ball_walk.specs.Walk.{ring_from};
 
 use crate::next::{is_between, next_after};
 use std::marker::Model;

@@ -1,11 +1,16 @@
 ghost use Rattle.std.specs.Prelude.{◌≡◌, ℕ, ◌^◌, ◌<◌, ◌==◌, ◌&&◌, nat_lt, if◌then◌else◌, List, All, count_by, sum_by};
-ghost use Rattle.hamming_model.specs.Codes.{bits_of, distance};
+ghost use Rattle.std.specs.Int.Digits.{number_from_digits};
+ghost use Rattle.hamming_model.specs.Codes.{bits_of, distance, IsCode};
 ghost use Rattle.ball_walk.specs.Balls.{value_distance, is_near, values_near, ball};
 
-/// Law: the distance of two values of a width is the Hamming distance of their binary digits.
+/// Law: the distance of two values of a width is the Hamming distance of their binary digits, and that of
+/// the numbers that two codes spell is the distance of the codes.
 pub fn distance_counts_digits()
-    ensures { (width a b : ℕ) → a < 2 ^ width → b < 2 ^ width →
+    ensures of_values { (width a b : ℕ) → a < 2 ^ width → b < 2 ^ width →
         value_distance a b ≡ distance (bits_of width a) (bits_of width b) }
+    ensures of_codes { (width : ℕ) (one other : List ℕ) → IsCode width one → IsCode width other →
+        value_distance (number_from_digits 2 one) (number_from_digits 2 other) ≡ distance one other }
+    ensures in_width { (width : ℕ) (code : List ℕ) → IsCode width code → number_from_digits 2 code < 2 ^ width }
 {}
 
 /// Law: a ball has each value of the width within its radius exactly once, and no other number.
