@@ -1,11 +1,13 @@
--- What a walk over a ball keeps, and the values that it still has to give. No public clause cites this module.
+-- What a walk over a ball keeps, and the values that it still has to give.
+-- No public clause cites this module.
 use Rattle.std.specs.Prelude.{ℕ, zero, suc, ◌+◌, ◌-◌, ◌^◌, ◌<◌, ◌≤◌, ◌==◌, List, [], ◌++◌, filter}
 use Rattle.std.specs.List.{flat_map, range_with_len}
 use Rattle.ball_walk.specs.Balls.{ring, value_distance}
 
 -- the values of a width at one distance from a value, from one on
 unfoldable pub ring_from : ℕ → ℕ → ℕ → ℕ → List ℕ
-ring_from value width apart from = filter (λ other. value_distance other value == apart) (range_with_len from (2 ^ width - from))
+ring_from value width apart from =
+    filter (λ other. value_distance other value == apart) (range_with_len from (2 ^ width - from))
 
 -- the values at so many distances from this one on, those at this distance from this value on
 abbrev pub rest_of : ℕ → ℕ → ℕ → ℕ → ℕ → List ℕ
@@ -26,8 +28,10 @@ pub record IsNextAfter (value width last least most found : ℕ) : Type 0 where
   pub in_width : found < 2 ^ width
   pub enough : least ≤ value_distance found value
   pub near : value_distance found value ≤ most
-  pub first : (other : ℕ) → last < other → other < found → least ≤ value_distance other value → value_distance other value ≤ most → ⊥
+  pub first : (other : ℕ) → last < other → other < found
+      → least ≤ value_distance other value → value_distance other value ≤ most → ⊥
 
 -- there is no such value
 pub record HasNoneAfter (value width last least most : ℕ) : Type 0 where
-  pub none : (other : ℕ) → last < other → other < 2 ^ width → least ≤ value_distance other value → value_distance other value ≤ most → ⊥
+  pub none : (other : ℕ) → last < other → other < 2 ^ width
+      → least ≤ value_distance other value → value_distance other value ≤ most → ⊥

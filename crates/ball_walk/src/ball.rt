@@ -6,10 +6,11 @@ ghost use Rattle.ball_walk.specs.Walk.{ring_from};
 use crate::next::{is_between, next_after};
 use std::marker::Model;
 
-/// The values of a width within a radius of a value, still to be given: nearest first, and those at one
-/// distance ascending.
+/// The values of a width within a radius of a value, still to be given: nearest first, and those at
+/// one distance ascending.
 ///
-/// This is the enumeration of signatures of multi-index hashing (Norouzi, Punjani and Fleet, CVPR 2012).
+/// This is the enumeration of signatures of multi-index hashing (Norouzi, Punjani and Fleet,
+/// CVPR 2012).
 #[derive(Drop)]
 pub struct Ball {
     value: u16,
@@ -33,8 +34,8 @@ impl Model for Ball {
 }
 
 impl Ball {
-    /// The values of `width` binary digits at most `radius` from `value`: none where the radius is -1, and
-    /// all where it is the width or more. It takes no memory.
+    /// The values of `width` binary digits at most `radius` from `value`: none where the radius is
+    /// -1, and all where it is the width or more. It takes no memory.
     pub fn new(value: u16, width: u32, radius: i32) -> Ball
         requires some_width { 0 < width }
         requires small_width { width ≤ 12 }
@@ -55,7 +56,8 @@ impl Ball {
 
     /// The next value, or `None` exactly after the last.
     pub fn next(&mut self) -> Option<u16>
-        ensures { MatchOption result ((self.old ≡ []) × (self.new ≡ [])) (λ first. self.old ≡ first ∷ self.new) }
+        ensures { MatchOption result ((self.old ≡ []) × (self.new ≡ []))
+            (λ first. self.old ≡ first ∷ self.new) }
     {
         while self.left > 0 {
             match first_from(self.value, self.width, self.apart, self.from) {
@@ -102,7 +104,8 @@ fn first_from(value: u16, width: u32, apart: u32, from: u16) -> Option<u16>
     requires from { from ≤ 2 ^ width }
     ensures below { IfSome result (λ found. found < 2 ^ width) }
     ensures first { MatchOption result (ring_from value width apart from ≡ [])
-        (λ found. ring_from value width apart from ≡ found ∷ ring_from value width apart (found + 1)) }
+        (λ found. ring_from value width apart from
+        ≡ found ∷ ring_from value width apart (found + 1)) }
 {
     if from >= bound_of(width) {
         return None;

@@ -9,8 +9,10 @@ pub fn distance_counts_digits()
     ensures of_values { (width a b : ℕ) → a < 2 ^ width → b < 2 ^ width →
         value_distance a b ≡ distance (bits_of width a) (bits_of width b) }
     ensures of_codes { (width : ℕ) (one other : List ℕ) → IsCode width one → IsCode width other →
-        value_distance (number_from_digits 2 one) (number_from_digits 2 other) ≡ distance one other }
-    ensures in_width { (width : ℕ) (code : List ℕ) → IsCode width code → number_from_digits 2 code < 2 ^ width }
+        value_distance (number_from_digits 2 one) (number_from_digits 2 other)
+        ≡ distance one other }
+    ensures in_width { (width : ℕ) (code : List ℕ) → IsCode width code →
+        number_from_digits 2 code < 2 ^ width }
 {}
 
 /// Law: a ball has each value of the width within its radius exactly once, and no other number.

@@ -1,6 +1,6 @@
-ghost use Rattle.std.specs.Prelude.{◌≡◌, ℕ, ◌+◌, ◌^◌, ◌<◌, ◌≤◌, IfOk, OnOk, OnErr, negsuc, ◌≤ℤ◌, EachIndex, slice_index, replicate};
+ghost use Rattle.std.specs.Prelude.{◌≡◌, ℕ, ◌+◌, ◌^◌, ◌<◌, ◌≤◌, IfOk, OnOk, OnErr, negsuc, ◌≤ℤ◌, replicate};
 ghost use Rattle.ball_walk.specs.Balls.{units_of};
-ghost use Rattle.count_table.specs.Copies.{empty_table, copies_at, total_of, with_one, without_one, count_near};
+ghost use Rattle.count_table.specs.Copies.{empty_table, copies_at, total_of, with_one, without_one, count_near, AreLevels};
 
 use crate::levels::{add_over, add_up, count_apart};
 use ball_walk::{Ball, ball_sums_add_up};
@@ -8,7 +8,10 @@ use read_meter::NoMemory;
 use std::alloc::Global;
 use std::marker::Model;
 
-/// How many copies of each value of one part there are, in all at most 1,048,576.
+/// How many copies a table may have in all.
+pub const MOST_COPIES: u32 = 1_048_576;
+
+/// How many copies of each value of one part there are, in all at most `MOST_COPIES`.
 ///
 /// From such counts the threshold allocation of GPH (ICDE 2018) learns what a radius costs.
 #[derive(Drop)]
@@ -67,14 +70,14 @@ impl Counts {
         })
     }
 
-    /// Adds a copy of a value.
+    /// Adds a copy of a value, where there are fewer than `MOST_COPIES`.
     ///
     /// # Errors
     ///
     /// `NoMemory` where there is no memory for it, with all as it was.
     pub fn add(&mut self, value: u16) -> Result<(), NoMemory>
         requires in_width { value < 2 ^ self.old.width }
-        requires room { total_of self.old < 1048576 }
+        requires room { total_of self.old < MOST_COPIES }
         ensures added { OnOk result (self.new ≡ with_one self.old value) }
         ensures unchanged { OnErr result (self.new ≡ self.old) }
     {
@@ -103,7 +106,7 @@ impl Counts {
     /// How many copies there are.
     pub fn total(&self) -> u32
         ensures total { result ≡ total_of self.now }
-        ensures few { result ≤ 1048576 }
+        ensures few { result ≤ MOST_COPIES }
     {
         self.total
     }
@@ -124,7 +127,7 @@ impl Counts {
     /// of the table once, and takes no memory.
     pub fn levels(&self, value: u16, out: &mut [u32])
         requires in_width { value < 2 ^ self.now.width }
-        ensures { EachIndex out.new (λ units. slice_index out.new units ≡ count_near self.now value units) }
+        ensures { AreLevels self.now value out.new }
     {
         count_apart(&self.copies, value, out);
         add_up(out);

@@ -11,7 +11,8 @@ pub fn changes_follow_a_list()
     ensures added { (width value : ℕ) (front back : List ℕ) → value < 2 ^ width →
         with_one (table_of width (front ++ back)) value ≡ table_of width (front ++ value ∷ back) }
     ensures removed { (width value : ℕ) (front back : List ℕ) → value < 2 ^ width →
-        without_one (table_of width (front ++ value ∷ back)) value ≡ table_of width (front ++ back) }
+        without_one (table_of width (front ++ value ∷ back)) value
+        ≡ table_of width (front ++ back) }
     ensures present { (width value : ℕ) (front back : List ℕ) → value < 2 ^ width →
         0 < copies_at (table_of width (front ++ value ∷ back)) value }
     ensures one_by_one { (width : ℕ) (items : List ℕ) → All (λ item. item < 2 ^ width) items →
