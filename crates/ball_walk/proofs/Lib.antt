@@ -1,0 +1,4 @@
+pub mod BallLemmas
+pub mod DigitLemmas
+mod NextLemmas
+pub mod SumLemmas

@@ -1,0 +1,4 @@
+use Rattle.ball_walk.proofs.next.+next_after.Given as goal
+
+abbrev pub decreases-next_after : goal.decreases-next_after
+decreases-next_after l = l.width

@@ -1,0 +1,10 @@
+//! A ball is the list of the values within a radius of a value, by distance and then by value.
+//! `next` gives the first of that list and leaves the rest, so each value comes once.
+#![tactic(auto)]
+
+mod ball;
+mod laws;
+mod next;
+
+pub use ball::Ball;
+pub use laws::{ball_has_each_once, ball_sums_add_up, distance_counts_digits, items_within_add_up};

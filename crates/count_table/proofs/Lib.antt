@@ -1,0 +1,2 @@
+mod CopiesLemmas
+mod LevelLemmas

@@ -1,0 +1,160 @@
+ghost use Rattle.std.specs.Prelude.{◌≡◌, ℕ, ◌+◌, ◌^◌, ◌<◌, ◌≤◌, IfOk, OnOk, OnErr, negsuc, ◌≤ℤ◌, replicate};
+ghost use Rattle.ball_walk.specs.Balls.{units_of};
+ghost use Rattle.count_table.specs.Copies.{empty_table, copies_at, total_of, with_one, without_one, count_near, AreLevels};
+
+use crate::levels::{add_over, add_up, count_apart};
+use ball_walk::{Ball, ball_sums_add_up};
+use read_meter::NoMemory;
+use std::alloc::Global;
+use std::marker::Model;
+
+/// How many copies a table may have in all.
+pub const MOST_COPIES: u32 = 1_048_576;
+
+/// How many copies of each value of one part there are, in all at most `MOST_COPIES`.
+///
+/// From such counts the threshold allocation of GPH (ICDE 2018) learns what a radius costs.
+#[derive(Drop)]
+pub struct Counts {
+    width: u32,
+    total: u32,
+    // the copies of each value, by value
+    copies: Vec<u32>,
+}
+
+impl Model for Counts {
+    ghost use Rattle.count_table.specs.Copies.{CopyTable};
+    ghost use Rattle.count_table.specs.Layout.{IsKept};
+
+    ghost Value = { CopyTable };
+
+    ghost view = { λ c. record { width = c.width; copies = c.copies.items } };
+
+    ghost invariant = { λ c. IsKept c.width c.total c.copies.items };
+}
+
+impl Counts {
+    /// No copies of any value of `width` binary digits.
+    ///
+    /// # Errors
+    ///
+    /// `NoMemory` where there is no memory for `2^width` numbers.
+    pub fn new(alloc: Global, width: u32) -> Result<Counts, NoMemory>
+        requires some_width { 0 < width }
+        requires small_width { width ≤ 12 }
+        ensures { IfOk result (λ counts. counts ≡ empty_table width) }
+    {
+        let copies = no_copies(alloc, width)?;
+        Ok(Counts {
+            width,
+            total: 0,
+            copies,
+        })
+    }
+
+    /// An equal table of its own.
+    ///
+    /// # Errors
+    ///
+    /// `NoMemory` where there is no memory for it.
+    pub fn copy(&self) -> Result<Counts, NoMemory>
+        ensures { IfOk result (λ counts. counts ≡ self.now) }
+    {
+        let Ok(copies) = self.copies.clone() else {
+            return Err(NoMemory);
+        };
+        Ok(Counts {
+            width: self.width,
+            total: self.total,
+            copies,
+        })
+    }
+
+    /// Adds a copy of a value, where there are fewer than `MOST_COPIES`.
+    ///
+    /// # Errors
+    ///
+    /// `NoMemory` where there is no memory for it, with all as it was.
+    pub fn add(&mut self, value: u16) -> Result<(), NoMemory>
+        requires in_width { value < 2 ^ self.old.width }
+        requires room { total_of self.old < MOST_COPIES }
+        ensures added { OnOk result (self.new ≡ with_one self.old value) }
+        ensures unchanged { OnErr result (self.new ≡ self.old) }
+    {
+        let at = usize::from(value);
+        self.copies[at] += 1;
+        self.total += 1;
+        Ok(())
+    }
+
+    /// Removes a copy of a value that has one.
+    ///
+    /// # Errors
+    ///
+    /// `NoMemory` where there is no memory for it, with all as it was.
+    pub fn remove(&mut self, value: u16) -> Result<(), NoMemory>
+        requires { 0 < copies_at self.old value }
+        ensures removed { OnOk result (self.new ≡ without_one self.old value) }
+        ensures unchanged { OnErr result (self.new ≡ self.old) }
+    {
+        let at = usize::from(value);
+        self.copies[at] -= 1;
+        self.total -= 1;
+        Ok(())
+    }
+
+    /// How many copies there are.
+    pub fn total(&self) -> u32
+        ensures total { result ≡ total_of self.now }
+        ensures few { result ≤ MOST_COPIES }
+    {
+        self.total
+    }
+
+    /// How many copies there are of values at most `radius` from `value`: of the radius -1 none. It reads
+    /// one number for each value of the ball, and takes no memory.
+    pub fn within(&self, value: u16, radius: i32) -> u32
+        requires in_width { value < 2 ^ self.now.width }
+        requires radius { negsuc 0 ≤ℤ radius }
+        ensures { result ≡ count_near self.now value (units_of radius) }
+    {
+        ball_sums_add_up();
+        add_over(&self.copies, Ball::new(value, self.width, radius))
+    }
+
+    /// Writes to each place of `out` how many copies there are of values nearer to `value` than that many
+    /// units: to place 0 those within the radius -1, to place 1 within 0, and so on. It reads each number
+    /// of the table once, and takes no memory.
+    pub fn levels(&self, value: u16, out: &mut [u32])
+        requires in_width { value < 2 ^ self.now.width }
+        ensures { AreLevels self.now value out.new }
+    {
+        count_apart(&self.copies, value, out);
+        add_up(out);
+    }
+}
+
+// A zero for each value of this width.
+fn no_copies(alloc: Global, width: u32) -> Result<Vec<u32>, NoMemory>
+    requires { width ≤ 12 }
+    ensures { IfOk result (λ copies. copies.items ≡ replicate (2 ^ width) 0) }
+{
+    let bound = bound_of(width);
+    let Ok(mut copies) = Vec::with_capacity(alloc, bound) else {
+        return Err(NoMemory);
+    };
+    for _i in 0..bound {
+        let Ok(()) = copies.push(0) else {
+            return Err(NoMemory);
+        };
+    }
+    Ok(copies)
+}
+
+// How many values of this width there are.
+fn bound_of(width: u32) -> usize
+    requires { width ≤ 12 }
+    ensures { result ≡ 2 ^ width }
+{
+    1 << width
+}

@@ -1,0 +1,56 @@
+ghost use Rattle.std.specs.Prelude.{◌≡◌, ℕ, ◌+◌, ◌^◌, ◌<◌, ◌≤◌, length, sum, sum_by, take, All, EachIndex, slice_index};
+ghost use Rattle.ball_walk.specs.Balls.{value_distance};
+ghost use Rattle.count_table.specs.Layout.{AreApart};
+
+use crate::counts::MOST_COPIES;
+use ball_walk::Ball;
+
+// Writes to each place of `out` how many copies there are of values one unit nearer than that: to place 0
+// none, to place 1 the copies of the value itself.
+pub(crate) fn count_apart(copies: &[u32], value: u16, out: &mut [u32])
+    requires few { sum copies.now ≤ MOST_COPIES }
+    requires small { length copies.now ≤ 4096 }
+    ensures { AreApart copies.now value out.new }
+{
+    out.fill(0);
+    for (other, count) in copies.iter().enumerate() {
+        let units = distance(other, value) + 1;
+        if units < out.len() {
+            out[units] += *count;
+        }
+    }
+}
+
+// The copies of the values of a ball, added up.
+pub(crate) fn add_over(copies: &[u32], mut ball: Ball) -> u32
+    requires in_range { All (λ other. other < length copies.now) ball }
+    requires few { sum_by (slice_index copies.now) ball ≤ MOST_COPIES }
+    ensures { result ≡ sum_by (slice_index copies.now) ball }
+{
+    let mut count: u32 = 0;
+    while let Some(other) = ball.next() {
+        count += copies[usize::from(other)];
+    }
+    count
+}
+
+// At how many binary digits two values differ.
+fn distance(other: usize, value: u16) -> usize
+    requires { other < 4096 }
+    ensures distance { result ≡ value_distance other value }
+    ensures few { result ≤ 16 }
+{
+    (other as u16 ^ value).count_ones() as usize
+}
+
+// Adds to each number those before it.
+pub(crate) fn add_up(out: &mut [u32])
+    requires { sum out.old ≤ MOST_COPIES }
+    ensures { EachIndex out.new (λ at. slice_index out.new at ≡ sum (take (at + 1) out.old)) }
+{
+    let mut so_far: u32 = 0;
+    for count in out.iter_mut() {
+        so_far += *count;
+        *count = so_far;
+    }
+}
