@@ -101,7 +101,8 @@ impl Cutter {
 
     /// The line that the last call cut, where that was a `Line`.
     pub fn line(&self) -> &[u8]
-        ensures { result.now ≡ self.now.line }
+        ensures value { result.now ≡ self.now.line }
+        ensures short { length self.now.line ≤ LINE_MOST }
     {
         &self.bytes[..self.cut]
     }

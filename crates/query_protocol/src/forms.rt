@@ -13,7 +13,7 @@ use crate::tag::TAG_MOST;
 use gph_codes::Code;
 
 /// The number that one to so many decimal digits write, where it is from `least` to `greatest`.
-pub(crate) fn number_of(digits: usize, least: u64, greatest: u64, word: &[u8]) -> Option<u64>
+pub fn number_of(digits: usize, least: u64, greatest: u64, word: &[u8]) -> Option<u64>
     requires { digits ≤ 20 }
     ensures { result ≡ number_of digits least greatest word.now }
 {

@@ -12,6 +12,7 @@ mod tag;
 mod words;
 
 pub use bad::Bad;
+pub use forms::number_of;
 pub use laws::{lines_of_replies, words_of_joined};
 pub use reading::read_line;
 pub use reply::{Reply, write_hit};

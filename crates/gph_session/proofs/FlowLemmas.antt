@@ -1,0 +1,181 @@
+-- Lemmas on a session that goes on: one line more, the line that ends it, and the line whose reply is refused.
+use Rattle.std.proofs.Common.{◌≡◌, ℕ, ◌<◌, Bool, true, false, cond, List, [], ◌∷◌, ◌++◌, length, map, take, Option, Result, Ok, Err, refl, sym, ap, ◌∙◌, subst, append_assoc, append-nil}
+use Rattle.std.proofs.lemmas.List.{map_push}
+use Rattle.std.specs.Io.KnownBytes.{Appends}
+use Rattle.slab.specs.Slab.{Slab}
+use Rattle.line_io.specs.Kept.{kept}
+use Rattle.line_io.specs.Lines.{ended_lines, unended}
+use Rattle.line_io.specs.declared.source.Failed.{Failed}
+use Rattle.line_io.proofs.LinesLemmas.{ended_lines-append, unended-append}
+use Rattle.hamming_model.specs.History.{JournalEntry}
+use Rattle.query_protocol.specs.Requests.{reading}
+use Rattle.query_protocol.specs.Replies.{text}
+use Rattle.gph_session.specs.declared.open_query.OpenQuery.{OpenQuery}
+use Rattle.gph_session.specs.declared.session.Turn.{Turn}
+use Rattle.gph_session.specs.declared.session.Turn.TheVariants.{Goes, Quits}
+use Rattle.gph_session.specs.State.{State, new_session}
+use Rattle.gph_session.specs.Step.{Exchange, Step}
+use Rattle.gph_session.specs.Run.{Run, commit_of, commits, AreAlone, IsSolo, AnswersLines, written, asks_quit, before_quit, has_quit}
+use Rattle.gph_session.specs.Outcomes.{IsRefused}
+use Rattle.gph_session.specs.Meaning.{Means}
+use Rattle.gph_session.specs.Flow.{OneStep, Stands, HasEnded}
+use Rattle.gph_session.proofs.RunLemmas.{run_more, commits_more, written_more, alone_more, before_answered, quit_answered, before_more, quit_more}
+
+-- the lines of exchanges
+abbrev lines_of : List Exchange → List (List ℕ)
+lines_of exchanges = map (λ (exchange : Exchange). exchange.line) exchanges
+
+module _ (W bits : ℕ) (bytes output : List ℕ) (rows : List (ℕ × List ℕ)) (queries : Slab OpenQuery) (held : Option (List ℕ)) (standing : Stands W bits bytes output rows queries held) where
+  -- the exchanges so far are those of a session that is alone
+  abbrev pub solo_so_far : IsSolo bits standing.exchanges
+  solo_so_far = record {
+    last = standing.state;
+    run = subst (λ h. Run bits h (new_session 0 0) standing.exchanges standing.state) (append-nil (commits bits standing.exchanges)) (standing.run []);
+    alone = standing.alone
+  }
+
+  -- the whole lines so far were answered
+  pub answered_so_far : AnswersLines bits (ended_lines [] bytes) output
+  answered_so_far = record { exchanges = standing.exchanges; solo = solo_so_far; lines_are = standing.lines_are; bytes_are = standing.output_is }
+
+  -- none of them ends the session
+  pub goes_on : has_quit bits (ended_lines [] bytes) ≡ false
+  goes_on =
+      ap (has_quit bits) (sym standing.lines_are ∙ sym (append-nil (lines_of standing.exchanges)))
+      ∙ quit_answered bits (commits bits standing.exchanges) (new_session 0 0) standing.exchanges standing.state solo_so_far.run []
+
+  pub all_before_quit : before_quit bits (ended_lines [] bytes) ≡ ended_lines [] bytes
+  all_before_quit =
+      ap (before_quit bits) (sym standing.lines_are ∙ sym (append-nil (lines_of standing.exchanges)))
+      ∙ before_answered bits (commits bits standing.exchanges) (new_session 0 0) standing.exchanges standing.state solo_so_far.run []
+      ∙ append-nil (lines_of standing.exchanges) ∙ standing.lines_are
+
+  module _ {A : Type 0} (line : List ℕ) (before after : Option (List ℕ)) (result : Result A Failed) (rows' : List (ℕ × List ℕ)) (queries' : Slab OpenQuery)
+      (one : OneStep W bits (commits bits standing.exchanges) standing.state line before after result rows' queries') where
+    -- the run with this exchange, whatever comes later
+    pub run_one_more : (later : List JournalEntry)
+        → Run bits (commits bits (standing.exchanges ++ one.exchange ∷ []) ++ later) (new_session 0 0) (standing.exchanges ++ one.exchange ∷ []) one.state
+    run_one_more later =
+        let past = commits bits standing.exchanges in
+        let now = commit_of bits one.exchange in
+        let run = subst (λ h. Run bits h (new_session 0 0) standing.exchanges standing.state) (sym (append_assoc past now later)) (standing.run (now ++ later)) in
+        subst (λ h. Run bits (h ++ later) (new_session 0 0) (standing.exchanges ++ one.exchange ∷ []) one.state) (sym (commits_more bits standing.exchanges one.exchange))
+        (run_more bits ((past ++ now) ++ later) (new_session 0 0) standing.exchanges one.exchange standing.state one.state run (one.step later))
+
+    pub alone_one_more : AreAlone bits [] (standing.exchanges ++ one.exchange ∷ [])
+    alone_one_more = alone_more bits [] standing.exchanges one.exchange standing.alone one.alone
+
+    abbrev pub solo_one_more : IsSolo bits (standing.exchanges ++ one.exchange ∷ [])
+    solo_one_more = record {
+      last = one.state;
+      run = subst (λ h. Run bits h (new_session 0 0) (standing.exchanges ++ one.exchange ∷ []) one.state) (append-nil (commits bits (standing.exchanges ++ one.exchange ∷ []))) (run_one_more []);
+      alone = alone_one_more
+    }
+
+    -- the lines with this one
+    pub lines_one_more : lines_of (standing.exchanges ++ one.exchange ∷ []) ≡ ended_lines [] bytes ++ line ∷ []
+    lines_one_more =
+        map_push (λ (exchange : Exchange). exchange.line) standing.exchanges one.exchange
+        ∙ ap (λ l. l ++ one.exchange.line ∷ []) standing.lines_are ∙ ap (λ l. ended_lines [] bytes ++ l ∷ []) one.is_line
+
+  -- ---- a line that was answered
+
+  module _ (line : List ℕ) (before after : Option (List ℕ)) (rows' : List (ℕ × List ℕ)) (queries' : Slab OpenQuery)
+      (one : OneStep {A = Turn} W bits (commits bits standing.exchanges) standing.state line before after (Ok Goes) rows' queries') where
+    pub stands_line : (piece : List ℕ) (held' : Option (List ℕ)) → ended_lines (unended [] bytes) piece ≡ line ∷ [] → held' ≡ kept (unended (unended [] bytes) piece)
+        → (more : List ℕ) × Appends before after more × Stands W bits (bytes ++ piece) (output ++ more) rows' queries' held'
+    stands_line piece held' lines_are held_is = (text one.exchange.replies, one.wrote, record {
+      exchanges = standing.exchanges ++ one.exchange ∷ [];
+      state = one.state;
+      run = run_one_more line before after (Ok Goes) rows' queries' one;
+      alone = alone_one_more line before after (Ok Goes) rows' queries' one;
+      lines_are = lines_one_more line before after (Ok Goes) rows' queries' one ∙ ap (λ l. ended_lines [] bytes ++ l) (sym lines_are) ∙ sym (ended_lines-append [] bytes piece);
+      output_is = ap (λ o. o ++ text one.exchange.replies) standing.output_is ∙ sym (written_more standing.exchanges one.exchange);
+      means = subst (λ h. Means W bits rows' queries' h one.state) (sym (commits_more bits standing.exchanges one.exchange)) one.means;
+      held_is = held_is ∙ ap kept (sym (unended-append [] bytes piece))
+    })
+
+    -- where it is the last
+    pub answered_last : (of_lines : List (List ℕ)) → of_lines ≡ ended_lines [] bytes ++ line ∷ []
+        → (more : List ℕ) × Appends before after more × AnswersLines bits (before_quit bits of_lines) (output ++ more)
+    answered_last of_lines is = (text one.exchange.replies, one.wrote, record {
+      exchanges = standing.exchanges ++ one.exchange ∷ [];
+      solo = solo_one_more line before after (Ok Goes) rows' queries' one;
+      lines_are =
+          let all = standing.exchanges ++ one.exchange ∷ [] in
+          let run = (solo_one_more line before after (Ok Goes) rows' queries' one).run in
+          let same = lines_one_more line before after (Ok Goes) rows' queries' one ∙ sym is in
+          sym (ap (before_quit bits) (sym same ∙ sym (append-nil (lines_of all))) ∙ before_answered bits (commits bits all) (new_session 0 0) all one.state run [] ∙ append-nil (lines_of all));
+      bytes_are = ap (λ o. o ++ text one.exchange.replies) standing.output_is ∙ sym (written_more standing.exchanges one.exchange)
+    })
+
+  -- ---- a line whose reply was refused
+
+  pub refused_line : (line : List ℕ) (before after : Option (List ℕ)) (failed : Failed) (rows' : List (ℕ × List ℕ)) (queries' : Slab OpenQuery)
+      → OneStep {A = Turn} W bits (commits bits standing.exchanges) standing.state line before after (Err failed) rows' queries'
+      → (of_lines : List (List ℕ)) → of_lines ≡ ended_lines [] bytes ++ line ∷ []
+      → (more : List ℕ) × Appends before after more × IsRefused bits of_lines (output ++ more)
+  refused_line line before after failed rows' queries' one of_lines is = (take one.wrote.0 (text one.exchange.replies), one.wrote.2, record {
+    answered = standing.exchanges;
+    refused = one.exchange;
+    rest = [];
+    solo = solo_one_more line before after (Err failed) rows' queries' one;
+    lines_are = is ∙ ap (λ l. l ++ line ∷ []) (sym standing.lines_are) ∙ ap (λ l. lines_of standing.exchanges ++ l ∷ []) (sym one.is_line);
+    taken = one.wrote.0;
+    not_all = one.wrote.1;
+    output_is = ap (λ o. o ++ take one.wrote.0 (text one.exchange.replies)) standing.output_is
+  })
+
+  -- ---- the line that ends the session
+
+  pub ended_line : (line : List ℕ) → asks_quit (reading bits line) ≡ true → (of_lines : List (List ℕ)) → of_lines ≡ ended_lines [] bytes ++ line ∷ []
+      → HasEnded bits of_lines output
+  ended_line line quits of_lines is =
+      let run = solo_so_far.run in
+      let past = commits bits standing.exchanges in
+      let same : of_lines ≡ lines_of standing.exchanges ++ line ∷ [] = is ∙ ap (λ l. l ++ line ∷ []) (sym standing.lines_are) in
+      record {
+        quits = ap (has_quit bits) same ∙ quit_answered bits past (new_session 0 0) standing.exchanges standing.state run (line ∷ []) ∙ ap (λ b. cond b true false) quits;
+        answered = record {
+          exchanges = standing.exchanges;
+          solo = solo_so_far;
+          lines_are = sym (ap (before_quit bits) same ∙ before_answered bits past (new_session 0 0) standing.exchanges standing.state run (line ∷ [])
+              ∙ ap (λ b. lines_of standing.exchanges ++ cond b [] (line ∷ [])) quits ∙ append-nil (lines_of standing.exchanges));
+          bytes_are = standing.output_is
+        }
+      }
+
+  -- ---- bytes that end no line
+
+  pub stands_bytes : (piece : List ℕ) (held' : Option (List ℕ)) → ended_lines (unended [] bytes) piece ≡ [] → held' ≡ kept (unended (unended [] bytes) piece)
+      → Stands W bits (bytes ++ piece) output rows queries held'
+  stands_bytes piece held' none held_is = record {
+    exchanges = standing.exchanges;
+    state = standing.state;
+    run = standing.run;
+    alone = standing.alone;
+    lines_are = standing.lines_are ∙ sym (append-nil (ended_lines [] bytes)) ∙ ap (λ l. ended_lines [] bytes ++ l) (sym none) ∙ sym (ended_lines-append [] bytes piece);
+    output_is = standing.output_is;
+    means = standing.means;
+    held_is = held_is ∙ ap kept (sym (unended-append [] bytes piece))
+  }
+
+-- ---- what comes behind
+
+pub refused_more : (bits : ℕ) (of_lines more : List (List ℕ)) (output : List ℕ) → IsRefused bits of_lines output → IsRefused bits (of_lines ++ more) output
+refused_more bits of_lines more output h = record {
+  answered = h.answered;
+  refused = h.refused;
+  rest = h.rest ++ more;
+  solo = h.solo;
+  lines_are = ap (λ l. l ++ more) h.lines_are ∙ append_assoc (lines_of h.answered) (h.refused.line ∷ h.rest) more;
+  taken = h.taken;
+  not_all = h.not_all;
+  output_is = h.output_is
+}
+
+pub ended_more : (bits : ℕ) (of_lines more : List (List ℕ)) (output : List ℕ) → HasEnded bits of_lines output → HasEnded bits (of_lines ++ more) output
+ended_more bits of_lines more output h = record {
+  quits = quit_more bits of_lines more h.quits;
+  answered = subst (λ l. AnswersLines bits l output) (sym (before_more bits of_lines more h.quits)) h.answered
+}

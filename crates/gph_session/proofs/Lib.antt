@@ -1,0 +1,9 @@
+pub mod RunLemmas
+pub mod FlowLemmas
+pub mod ReadingLemmas
+pub mod QueryLemmas
+pub mod StepLemmas
+pub mod WritingLemmas
+pub mod BlockLemmas
+pub mod ServeLemmas
+pub mod TopLemmas

@@ -1,0 +1,19 @@
+use Rattle.std.proofs.Common.{◌≡◌, ℕ, ◌≤◌, ◌-◌, List, ◌++◌, length, take}
+use Rattle.std.specs.Io.KnownBytes.{Appends}
+use Rattle.gph_session.specs.Flow.{Stands}
+use Rattle.gph_session.proofs.block.answer_block.Given as goal
+
+-- the session goes on after the front of the block
+abbrev pub invariant-loop-done : goal.invariant-loop-done
+invariant-loop-done g l = record {
+  within : l.done ≤ length l.block;
+  bits : l.session.bits ≡ l.fn.session.bits;
+  goes : (bytes output : List ℕ)
+      → Stands g.row.W l.fn.session.bits bytes output l.fn.session.rows l.fn.session.queries l.fn.session.cutter.held
+      → (more : List ℕ) × Appends (g.K.Sink.held l.fn.sink) (g.K.Sink.held l.sink) more
+      × Stands g.row.W l.fn.session.bits (bytes ++ take l.done l.block) (output ++ more) l.session.rows l.session.queries l.session.cutter.held;
+  never_falls : g.K.Sink.faults l.fn.sink ≤ g.K.Sink.faults l.sink;
+}
+
+abbrev pub decreases-loop-done : goal.decreases-loop-done
+decreases-loop-done g l = length l.block - l.done

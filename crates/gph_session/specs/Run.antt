@@ -1,0 +1,69 @@
+-- A whole session: its steps in one history, and what is written.
+use Rattle.std.specs.Prelude.{◌≡◌, ℕ, Bool, true, false, if◌then◌else◌, List, [], ◌∷◌, ◌++◌, length, map, Option, Some, None, Result, Ok, Err}
+use Rattle.std.specs.List.{flat_map}
+use Rattle.hamming_model.specs.History.{JournalEntry}
+use Rattle.hamming_model.specs.History as journal
+use Rattle.query_protocol.specs.Requests.{LineRequest, Add, Range, Next, Quit, reading}
+use Rattle.query_protocol.specs.Replies.{text}
+use Rattle.query_protocol.specs.declared.bad.Bad.{Bad}
+use Rattle.query_protocol.specs.declared.reply.Reply.{Reply}
+use Rattle.query_protocol.specs.declared.reply.Reply.TheVariants as reply
+use Rattle.gph_session.specs.State.{State, new_session}
+use Rattle.gph_session.specs.Step.{Exchange, Step}
+
+-- the exchanges are steps one after another, all in one history
+abbrev pub Run : ℕ → List JournalEntry → State → List Exchange → State → Type 0
+Run bits history s [] t = t ≡ s
+Run bits history s (exchange ∷ exchanges) t = (mid : State) × Step bits history s exchange mid × Run bits history mid exchanges t
+
+-- what the session with this number committed, by what a line asked and what it was told
+abbrev pub committed : ℕ → Result (Option LineRequest) Bad → List Reply → List JournalEntry
+committed who (Ok (Some (Add key code))) (reply.Added added at ∷ []) = record { who = who; operation = journal.Add key code } ∷ []
+committed who asked replies = []
+
+-- the entry that an exchange of session 0 committed, if it did
+abbrev pub commit_of : ℕ → Exchange → List JournalEntry
+commit_of bits exchange = committed 0 (reading bits exchange.line) exchange.replies
+
+-- all that the exchanges committed
+abbrev pub commits : ℕ → List Exchange → List JournalEntry
+commits bits exchanges = flat_map (commit_of bits) exchanges
+
+-- each position is the length of the history at that moment, which begins with these entries
+abbrev pub AreAlone : ℕ → List JournalEntry → List Exchange → Type 0
+AreAlone bits history [] = Unit {0}
+AreAlone bits history (exchange ∷ exchanges) =
+    let after = history ++ commit_of bits exchange in
+    (exchange.position ≡ length after) × AreAlone bits after exchanges
+
+-- all that is written
+abbrev pub written : List Exchange → List ℕ
+written exchanges = flat_map (λ exchange. text exchange.replies) exchanges
+
+-- the exchanges are those of a session that is alone: the history is what it commits, and it sees all of it
+pub record IsSolo (bits : ℕ) (exchanges : List Exchange) : Type 0 where
+  pub last : State
+  pub run : Run bits (commits bits exchanges) (new_session 0 0) exchanges last
+  pub alone : AreAlone bits [] exchanges
+
+-- a session alone answers these lines by these bytes
+pub record AnswersLines (bits : ℕ) (lines : List (List ℕ)) (bytes : List ℕ) : Type 0 where
+  pub exchanges : List Exchange
+  pub solo : IsSolo bits exchanges
+  pub lines_are : map (λ exchange. exchange.line) exchanges ≡ lines
+  pub bytes_are : bytes ≡ written exchanges
+
+-- the line ends the session
+abbrev pub asks_quit : Result (Option LineRequest) Bad → Bool
+asks_quit (Ok (Some Quit)) = true
+asks_quit asked = false
+
+-- the lines before the first that ends the session
+abbrev pub before_quit : ℕ → List (List ℕ) → List (List ℕ)
+before_quit bits [] = []
+before_quit bits (line ∷ lines) = if asks_quit (reading bits line) then [] else line ∷ before_quit bits lines
+
+-- one of the lines ends the session
+abbrev pub has_quit : ℕ → List (List ℕ) → Bool
+has_quit bits [] = false
+has_quit bits (line ∷ lines) = if asks_quit (reading bits line) then true else has_quit bits lines

@@ -1,0 +1,78 @@
+//! Bytes as they come.
+
+ghost use Rattle.std.specs.Prelude.{◌≡◌, ℕ, ◌<◌, ◌≤◌, List, ◌++◌, length, take};
+ghost use Rattle.std.specs.Io.KnownBytes.{Appends};
+ghost use Rattle.gph_codes.specs.Allowed.{IsAllowed};
+ghost use Rattle.gph_session.specs.Flow.{IsCaused, Stands, FlowIs, EndIs};
+
+use crate::session::{Session, Turn, answer};
+use line_io::{Failed, Sink};
+
+/// Answers the lines of a block, up to the first that ends the session.
+pub(crate) fn answer_block<const W: usize, K: Sink>(
+    session: &mut Session<W>,
+    block: &[u8],
+    sink: &mut K,
+) -> Result<Turn, Failed>
+    requires few_words { W ≤ 8 }
+    requires allowed { IsAllowed W session.old.bits }
+    ensures flow { (bytes output : List ℕ) →
+        Stands W session.old.bits bytes output session.old.rows session.old.queries session.old.cutter.held →
+        (more : List ℕ) × Appends (K.held sink.old) (K.held sink.new) more
+        × FlowIs result W session.old.bits (bytes ++ block.now) (output ++ more) session.new.rows session.new.queries session.new.cutter.held }
+    ensures bits { session.new.bits ≡ session.old.bits }
+    ensures cause { IsCaused (K.faults sink.old) (K.faults sink.new) result }
+{
+    let mut done = 0;
+    while done < block.len() {
+        let (taken, turn) = answer_line(session, &block[done..], sink);
+        match turn {
+            Ok(Turn::Goes) => done += taken,
+            Ok(Turn::Quits) => return Ok(Turn::Quits),
+            Err(Failed) => return Err(Failed),
+        }
+    }
+    Ok(Turn::Goes)
+}
+
+// Takes the bytes up to and with the next LF, or all, and answers the line that they end: how many bytes, and how it goes on.
+fn answer_line<const W: usize, K: Sink>(
+    session: &mut Session<W>,
+    bytes: &[u8],
+    sink: &mut K,
+) -> (usize, Result<Turn, Failed>)
+    requires few_words { W ≤ 8 }
+    requires allowed { IsAllowed W session.old.bits }
+    requires some { 0 < length bytes.now }
+    ensures progress { (0 < result.0) × (result.0 ≤ length bytes.now) }
+    ensures flow { (before output : List ℕ) →
+        Stands W session.old.bits before output session.old.rows session.old.queries session.old.cutter.held →
+        (more : List ℕ) × Appends (K.held sink.old) (K.held sink.new) more
+        × FlowIs result.1 W session.old.bits (before ++ take result.0 bytes.now) (output ++ more) session.new.rows session.new.queries session.new.cutter.held }
+    ensures bits { session.new.bits ≡ session.old.bits }
+    ensures cause { IsCaused (K.faults sink.old) (K.faults sink.new) result.1 }
+{
+    let (taken, cut) = session.cutter.push(bytes);
+    match cut {
+        None => (taken, Ok(Turn::Goes)),
+        Some(cut) => (taken, answer(session, cut, sink)),
+    }
+}
+
+/// Answers what follows the last LF, where the input has ended.
+pub(crate) fn answer_end<const W: usize, K: Sink>(
+    session: &mut Session<W>,
+    sink: &mut K,
+) -> Result<Turn, Failed>
+    requires few_words { W ≤ 8 }
+    requires allowed { IsAllowed W session.old.bits }
+    ensures flow { (bytes output : List ℕ) →
+        Stands W session.old.bits bytes output session.old.rows session.old.queries session.old.cutter.held →
+        (more : List ℕ) × Appends (K.held sink.old) (K.held sink.new) more × EndIs result session.old.bits bytes (output ++ more) }
+    ensures cause { IsCaused (K.faults sink.old) (K.faults sink.new) result }
+{
+    match session.cutter.finish() {
+        None => Ok(Turn::Goes),
+        Some(cut) => answer(session, cut, sink),
+    }
+}

@@ -1,0 +1,19 @@
+//! A session is the list of its lines, each with its replies, in one history of entries. What `run` writes is the text of the
+//! replies of such a session over the lines that it read, however it ended.
+#![tactic(auto)]
+
+mod adding;
+mod block;
+mod command_words;
+mod giving;
+mod open_query;
+mod opening;
+mod outcome;
+mod output;
+mod rows;
+mod serve;
+mod session;
+mod top;
+
+pub use outcome::Outcome;
+pub use top::run;

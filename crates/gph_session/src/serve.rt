@@ -1,0 +1,58 @@
+//! A session from its first read to its end.
+
+ghost use Rattle.std.specs.Prelude.{◌≡◌, ℕ, ◌<◌, ◌≤◌, [], length};
+ghost use Rattle.gph_codes.specs.Allowed.{IsAllowed};
+ghost use Rattle.gph_session.specs.Flow.{Stands};
+ghost use Rattle.gph_session.specs.Outcomes.{Ends, EndsAs};
+
+use crate::Outcome;
+use crate::block::{answer_block, answer_end};
+use crate::session::{Session, Turn};
+use line_io::{Failed, Sink, Source};
+
+/// The most bytes of a read.
+pub(crate) const BLOCK: usize = 4096;
+
+/// Reads and answers, at most `limit` bytes, until the input ends or a line ends the session.
+pub(crate) fn serve<const W: usize, S: Source, K: Sink>(
+    session: &mut Session<W>,
+    block: &mut [u8],
+    limit: u64,
+    source: &mut S,
+    sink: &mut K,
+) -> Outcome
+    requires few_words { W ≤ 8 }
+    requires allowed { IsAllowed W session.old.bits }
+    requires room { length block.old ≡ BLOCK }
+    requires new { Stands W session.old.bits [] [] session.old.rows session.old.queries session.old.cutter.held }
+    ensures { EndsAs result session.old.bits limit
+        (record { bytes = S.left source.old; faults = S.faults source.old })
+        (record { bytes = S.left source.new; faults = S.faults source.new })
+        (record { bytes = K.held sink.old; faults = K.faults sink.old })
+        (record { bytes = K.held sink.new; faults = K.faults sink.new }) }
+{
+    let mut taken: u64 = 0;
+    loop {
+        let room = (limit - taken).clamp(1, BLOCK as u64) as usize;
+        match source.read(&mut block[..room]) {
+            Err(Failed) => return Outcome::ReadFault,
+            Ok(0) => {
+                return match answer_end(session, sink) {
+                    Ok(_) => Outcome::Done,
+                    Err(Failed) => Outcome::WriteFault,
+                };
+            }
+            Ok(count) => {
+                if taken == limit {
+                    return Outcome::InputLimit;
+                }
+                taken += count as u64;
+                match answer_block(session, &block[..count], sink) {
+                    Ok(Turn::Goes) => {}
+                    Ok(Turn::Quits) => return Outcome::Done,
+                    Err(Failed) => return Outcome::WriteFault,
+                }
+            }
+        }
+    }
+}

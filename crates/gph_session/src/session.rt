@@ -1,0 +1,149 @@
+//! One session: what it holds, and its answer to one line.
+
+ghost use Rattle.std.specs.Prelude.{◌≡◌, ℕ, ◌*◌, ◌≤◌, List, [], ◌∷◌, IfOk, Some, None, Ok, Err};
+ghost use Rattle.hamming_model.specs.Codes.{padded, IsCode};
+ghost use Rattle.hamming_model.specs.History.{JournalEntry};
+ghost use Rattle.query_protocol.specs.Requests.{reading, stored_reading};
+ghost use Rattle.query_protocol.specs.Requests as asks;
+ghost use Rattle.line_io.specs.Kept.{kept, TellsOf};
+ghost use Rattle.gph_codes.specs.Allowed.{IsAllowed};
+ghost use Rattle.gph_session.specs.State.{State};
+ghost use Rattle.gph_session.specs.Meaning.{Means};
+ghost use Rattle.gph_session.specs.Flow.{IsCaused, TurnIs};
+
+use crate::adding::add;
+use crate::giving::give;
+use crate::open_query::{MOST_OPEN, OpenQuery};
+use crate::opening::open;
+use crate::output::say;
+use crate::rows::Rows;
+use line_io::{Cut, Cutter, Failed, LineBuf, Sink};
+use query_protocol::{Bad, Reply, Request, Tag, read_line};
+use gph_codes::Code;
+use read_meter::NoMemory;
+use slab::Slab;
+use std::alloc::Global;
+
+/// Whether a session goes on after a line.
+#[derive(Clone, Copy, Debug, PartialEq, Eq)]
+pub(crate) enum Turn {
+    Goes,
+    Quits,
+}
+
+/// A session that is alone, over codes of `bits` bits.
+#[derive(Drop)]
+pub(crate) struct Session<const W: usize> {
+    pub(crate) bits: u32,
+    pub(crate) alloc: Global,
+    pub(crate) rows: Rows<W>,
+    pub(crate) queries: Slab<OpenQuery>,
+    pub(crate) cutter: Cutter,
+    pub(crate) out: LineBuf,
+}
+
+/// A session that has read nothing, with all the memory that it needs for other lines than `add` and `range`.
+pub(crate) fn new_session<const W: usize>(alloc: Global, bits: u32) -> Result<Session<W>, NoMemory>
+    ensures bits { IfOk result (λ session. session.bits ≡ bits) }
+    ensures rows { IfOk result (λ session. session.rows ≡ []) }
+    ensures queries { IfOk result (λ session. session.queries.slots ≡ []) }
+    ensures cutter { IfOk result (λ session. session.cutter.held ≡ kept []) }
+{
+    let cutter = match Cutter::new(alloc) {
+        Ok(cutter) => cutter,
+        Err(NoMemory) => return Err(NoMemory),
+    };
+    let out = match LineBuf::new(alloc) {
+        Ok(out) => out,
+        Err(NoMemory) => return Err(NoMemory),
+    };
+    match Slab::with_capacity(alloc, MOST_OPEN) {
+        Ok(queries) => Ok(Session {
+            bits,
+            alloc,
+            rows: Rows::new(alloc),
+            queries,
+            cutter,
+            out,
+        }),
+        Err(_) => Err(NoMemory),
+    }
+}
+
+/// Answers the line that was cut last, unless it ends the session.
+pub(crate) fn answer<const W: usize, K: Sink>(
+    session: &mut Session<W>,
+    cut: Cut,
+    sink: &mut K,
+) -> Result<Turn, Failed>
+    requires few_words { W ≤ 8 }
+    requires allowed { IsAllowed W session.old.bits }
+    ensures answers { (history : List JournalEntry) (s : State) →
+        Means W session.old.bits session.old.rows session.old.queries history s →
+        (line : List ℕ) → TellsOf (Some cut) session.old.cutter.line (line ∷ []) →
+        TurnIs result W session.old.bits history s line (K.held sink.old) (K.held sink.new) session.new.rows session.new.queries }
+    ensures cutter { session.new.cutter ≡ session.old.cutter }
+    ensures bits { session.new.bits ≡ session.old.bits }
+    ensures cause { IsCaused (K.faults sink.old) (K.faults sink.new) result }
+{
+    match read_cut(session.bits, &session.cutter, cut) {
+        Err(fault) => say(&mut session.out, sink, &Reply::Bad(fault)),
+        Ok(None) => Ok(Turn::Goes),
+        Ok(Some(request)) => meet(session, request, sink),
+    }
+}
+
+// Meets a request.
+fn meet<const W: usize, K: Sink>(
+    session: &mut Session<W>,
+    request: Request<W>,
+    sink: &mut K,
+) -> Result<Turn, Failed>
+    requires few_words { W ≤ 8 }
+    requires allowed { IsAllowed W session.old.bits }
+    ensures answers { (history : List JournalEntry) (s : State) →
+        Means W session.old.bits session.old.rows session.old.queries history s →
+        (line : List ℕ) → Ok (Some request.entry) ≡ stored_reading W (reading session.old.bits line) →
+        TurnIs result W session.old.bits history s line (K.held sink.old) (K.held sink.new) session.new.rows session.new.queries }
+    ensures cutter { session.new.cutter ≡ session.old.cutter }
+    ensures bits { session.new.bits ≡ session.old.bits }
+    ensures cause { IsCaused (K.faults sink.old) (K.faults sink.new) result }
+{
+    match request {
+        Request::Add { key, code } => {
+            let reply = add(&mut session.rows, key, code);
+            say(&mut session.out, sink, &reply)
+        }
+        Request::Range { tag, tau, code } => {
+            let reply = open(
+                session.alloc,
+                &session.rows,
+                &mut session.queries,
+                tag,
+                tau,
+                &code,
+            );
+            say(&mut session.out, sink, &reply)
+        }
+        Request::Next { tag, count } => give(
+            &mut session.queries,
+            &tag,
+            count,
+            &mut session.out,
+            sink,
+        ),
+        Request::Quit => Ok(Turn::Quits),
+    }
+}
+
+// What the line that was cut last asks.
+fn read_cut<const W: usize>(bits: u32, cutter: &Cutter, cut: Cut) -> Result<Option<Request<W>>, Bad>
+    requires few_words { W ≤ 8 }
+    requires allowed { IsAllowed W bits }
+    ensures { (line : List ℕ) → TellsOf (Some cut) cutter.now.line (line ∷ []) → result ≡ stored_reading W (reading bits line) }
+{
+    match cut {
+        Cut::Line => read_line(bits, cutter.line()),
+        Cut::Long => Err(Bad { number: 1, word: 0 }),
+    }
+}

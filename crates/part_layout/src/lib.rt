@@ -1,0 +1,6 @@
+//! What a session is asked to be: the number of bits of its codes, and the limits of what it takes.
+#![tactic(auto)]
+
+mod config;
+
+pub use config::Config;
