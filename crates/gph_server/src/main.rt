@@ -1,0 +1,65 @@
+//! `gph`: main. It hands the words after the program's name, standard input and standard output to the top call, and tells by
+//! the status and one line on standard error how that ended.
+#![tactic(auto)]
+
+use gph_session::{Outcome, run};
+use line_io::{Gathered, GatheredReader, GatheredWriter};
+use std::env;
+use std::io::ErrorKind;
+use std::process::ExitCode;
+
+fn main(rt: HostRuntime) -> ExitCode {
+    let outcome = outcome_of(&rt);
+    let told = match outcome {
+        Outcome::Done => Ok(()),
+        Outcome::Usage { word } => eprintln!(rt; "gph: usage at word {word}"),
+        Outcome::ReadFault => eprintln!(rt; "gph: read failed"),
+        Outcome::WriteFault => eprintln!(rt; "gph: write failed"),
+        Outcome::NoMemory => eprintln!(rt; "gph: out of memory"),
+        Outcome::InputLimit => eprintln!(rt; "gph: input limit reached"),
+    };
+    // Standard error may be closed: the status tells the outcome all the same.
+    let _ = told;
+    ExitCode::from(status_of(outcome))
+}
+
+// Runs the top call over standard input and output. What it wrote is gathered, and given out before each read and at the end.
+fn outcome_of(rt: &HostRuntime) -> Outcome {
+    let words = match env::args(rt) {
+        Ok(words) => words.skip(1).collect(rt.alloc()),
+        Err(error) => {
+            // A word that is no text is none of the grammar's.
+            return match error.kind() {
+                ErrorKind::OutOfMemory => Outcome::NoMemory,
+                _ => Outcome::Usage { word: 1 },
+            };
+        }
+    };
+    let Ok(words) = words else {
+        return Outcome::NoMemory;
+    };
+    let words: Vec<String> = words;
+    let Ok(gathered) = Gathered::new(rt.alloc(), rt.stdout()) else {
+        return Outcome::NoMemory;
+    };
+    let mut source = GatheredReader::new(rt.stdin(), &gathered);
+    let mut sink = GatheredWriter::new(&gathered);
+    let outcome = run(rt.alloc(), words.as_slice(), &mut source, &mut sink);
+    if gathered.give_out() {
+        outcome
+    } else {
+        Outcome::WriteFault
+    }
+}
+
+// The status of the process.
+fn status_of(outcome: Outcome) -> u8 {
+    match outcome {
+        Outcome::Done => 0,
+        Outcome::Usage { .. } => 2,
+        Outcome::ReadFault => 3,
+        Outcome::WriteFault => 4,
+        Outcome::NoMemory => 5,
+        Outcome::InputLimit => 6,
+    }
+}
