@@ -1,8 +1,8 @@
 -- Posting lists: one list set among all, a key looked for, and an entry taken out.
-use Rattle.std.proofs.Common.{◌≡◌, ◌≢◌, min, ℕ, zero, suc, ◌+◌, ◌-◌, ◌*◌, ◌^◌, ◌<◌, ◌≤◌, ◌==◌, ◌||◌, Bool, true, false, List, [], ◌∷◌, ◌++◌, length, take, map, set, get_or, replicate, All, refl, sym, ap, ◌∙◌, arith, eq-eqb, Vec, Global}
-use Rattle.std.specs.List.{list_any, swap_remove, sum_by}
+use Rattle.std.proofs.Common.{◌≡◌, ◌≢◌, ℕ, zero, suc, ◌+◌, ◌-◌, ◌^◌, ◌<◌, ◌≤◌, ◌==◌, true, false, List, [], ◌∷◌, ◌++◌, length, take, map, set, get_or, replicate, refl, sym, ap, ◌∙◌, arith, eq-eqb, Vec, Global}
+use Rattle.std.specs.List.{swap_remove}
 use Rattle.std.proofs.lemmas.Bool.{ne_eqb, or_left, or_right}
-use Rattle.std.proofs.lemmas.List.{get_or-map, get_or-set_same, length-map, length-take, map-append, length-set, length-replicate, map-set, take_more, take_all}
+use Rattle.std.proofs.lemmas.List.{get_or-map, get_or-set_same, length-map, length-take, map-append, length-set, length-replicate, map-set, take_more}
 use Rattle.std.proofs.lemmas.List.Elements.{All-replicate, All-set}
 use Rattle.std.proofs.lemmas.List.Folds.{list_any-append}
 use Rattle.std.proofs.lemmas.List.Sums.{sum_by-swap_remove}

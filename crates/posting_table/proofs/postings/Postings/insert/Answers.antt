@@ -1,4 +1,4 @@
-use Rattle.std.proofs.Common.{◌≡◌, ◌∙◌, ◌++◌, ◌∷◌, [], ap, sym, arith, length, length-append}
+use Rattle.std.proofs.Common.{◌∙◌, ◌++◌, ◌∷◌, [], ap, sym, arith, length, length-append}
 use Rattle.posting_table.specs.Tables.{posting_list}
 use Rattle.posting_table.proofs.PostingsLemmas.{kept_changed, own_list, own_short, table_changed, table_same}
 use Rattle.posting_table.proofs.postings.Postings.insert.Goals as goal

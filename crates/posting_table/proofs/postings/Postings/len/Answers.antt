@@ -1,4 +1,4 @@
-use Rattle.std.proofs.Common.{rules, ◌≡◌, ◌≤◌, arith, length}
+use Rattle.std.proofs.Common.{rules, ◌≡◌, arith, length}
 use Rattle.posting_table.proofs.PostingsLemmas.{own_short}
 use Rattle.posting_table.proofs.postings.Postings.len.Goals as goal
 

@@ -1,5 +1,4 @@
-use Rattle.std.proofs.Common.{◌≡◌, ◌∙◌, ap, sym, arith, length, refl}
-use Rattle.posting_table.specs.Tables.{Loses}
+use Rattle.std.proofs.Common.{ap, sym, arith, length}
 use Rattle.posting_table.proofs.PostingsLemmas.{has_key-at, kept_changed, list_changed, loses, own_list, own_short, swap_remove_short, table_changed}
 use Rattle.posting_table.proofs.postings.Postings.remove.Goals as goal
 
