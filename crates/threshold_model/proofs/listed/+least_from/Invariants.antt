@@ -1,6 +1,6 @@
 use Rattle.std.proofs.Common.{◌≡◌, ◌-◌, ◌*◌, ◌≤◌}
 use Rattle.threshold_model.specs.Splits.{split_cost, table_count, IsBestUpTo}
-use Rattle.threshold_model.proofs.listing.+least_from.Given as goal
+use Rattle.threshold_model.proofs.listed.+least_from.Given as goal
 
 abbrev pub decreases-least_from : goal.decreases-least_from
 decreases-least_from l = l.parts

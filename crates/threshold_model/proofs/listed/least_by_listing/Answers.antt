@@ -2,7 +2,7 @@ use Rattle.std.proofs.Common.{◌≡◌, ◌+◌, ◌-◌, map, sym, ap, ◌∙�
 use Rattle.threshold_model.specs.Vectors.{IsChoice, cost}
 use Rattle.threshold_model.specs.Splits.{threshold_of, table_count, units_total, IsBest}
 use Rattle.threshold_model.proofs.BestLemmas.{each_few, choice_is, cost_is}
-use Rattle.threshold_model.proofs.listing.least_by_listing.Goals as goal
+use Rattle.threshold_model.proofs.listed.least_by_listing.Goals as goal
 
 pub thresholds_of-requires : goal.thresholds_of-requires
 thresholds_of-requires c =

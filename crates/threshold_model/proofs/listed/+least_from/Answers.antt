@@ -2,9 +2,9 @@ use Rattle.std.proofs.Common.{◌≡◌, ◌+◌, ◌-◌, ◌*◌, ◌<◌, ◌
 use Rattle.std.proofs.lemmas.Bool.{cases_lt}
 use Rattle.std.proofs.lemmas.Result.{IfOk-weaker}
 use Rattle.threshold_model.specs.Splits.{split_cost, table_count, IsBestUpTo}
-use Rattle.threshold_model.specs.declared.listing.Split.{Split}
+use Rattle.threshold_model.specs.declared.listed.Split.{Split}
 use Rattle.threshold_model.proofs.BestLemmas.{best_one, up_to_start, up_to_other, up_to_best}
-use Rattle.threshold_model.proofs.listing.+least_from.Goals as goal
+use Rattle.threshold_model.proofs.listed.+least_from.Goals as goal
 
 pub returns-then-parts-eq1-clause-best : goal.returns-then-parts-eq1-clause-best
 returns-then-parts-eq1-clause-best t c =
