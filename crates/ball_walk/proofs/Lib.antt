@@ -1,4 +1,5 @@
 pub mod BallLemmas
 pub mod DigitLemmas
 mod NextLemmas
+mod OrderLemmas
 pub mod SumLemmas

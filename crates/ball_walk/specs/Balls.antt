@@ -1,5 +1,5 @@
 -- Values of so many binary digits, how far two are apart, and the values within a radius of one.
-use Rattle.std.specs.Prelude.{ℕ, ◌+◌, ◌^◌, ◌==◌, nat_lt, Bool, List, filter, ℤ, pos, negsuc}
+use Rattle.std.specs.Prelude.{◌≡◌, ℕ, ◌+◌, ◌^◌, ◌<◌, ◌⊎◌, ◌==◌, nat_lt, Bool, List, filter, ℤ, pos, negsuc}
 use Rattle.std.specs.Int.RustNames.{count_ones, bit_xor}
 use Rattle.std.specs.List.{flat_map, range_with_len}
 
@@ -31,3 +31,9 @@ is_near value units other = nat_lt (value_distance other value) units
 -- the values of a width nearer to a value than so many units, ascending
 unfoldable pub values_near : ℕ → ℕ → ℕ → List ℕ
 values_near value width units = filter (is_near value units) (values width)
+
+-- one number comes before another: it is nearer to a value, or as near and smaller
+abbrev pub IsBefore : ℕ → ℕ → ℕ → Type 0
+IsBefore value one other =
+    (value_distance one value < value_distance other value)
+    ⊎ ((value_distance one value ≡ value_distance other value) × (one < other))

@@ -1,7 +1,7 @@
-ghost use Rattle.std.specs.Prelude.{◌≡◌, ℕ, ◌^◌, ◌<◌, ◌==◌, ◌&&◌, nat_lt, if◌then◌else◌, List, All, count_by, sum_by};
+ghost use Rattle.std.specs.Prelude.{◌≡◌, ℕ, ◌^◌, ◌<◌, ◌==◌, ◌&&◌, nat_lt, if◌then◌else◌, List, All, count_by, sum_by, length, slice_index};
 ghost use Rattle.std.specs.Int.Digits.{number_from_digits};
 ghost use Rattle.hamming_model.specs.Codes.{bits_of, distance, IsCode};
-ghost use Rattle.ball_walk.specs.Balls.{value_distance, is_near, values_near, ball};
+ghost use Rattle.ball_walk.specs.Balls.{value_distance, is_near, values_near, ball, IsBefore};
 
 /// Law: the distance of two values of a width is the Hamming distance of their binary digits, and that of
 /// the numbers that two codes spell is the distance of the codes.
@@ -20,6 +20,14 @@ pub fn ball_has_each_once()
     ensures { (value width units other : ℕ) →
         count_by (λ x. x == other) (ball value width units)
         ≡ (if nat_lt other (2 ^ width) && is_near value units other then 1 else 0) }
+{}
+
+/// Law: a ball is in order of distance and then of value.
+pub fn ball_is_in_order()
+    ensures { (value width units first second : ℕ) → first < second →
+        second < length (ball value width units) →
+        IsBefore value (slice_index (ball value width units) first)
+        (slice_index (ball value width units) second) }
 {}
 
 /// Law: what is added up over a ball is what is added up over all values of the width that are near.

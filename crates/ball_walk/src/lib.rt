@@ -7,4 +7,7 @@ mod laws;
 mod next;
 
 pub use ball::Ball;
-pub use laws::{ball_has_each_once, ball_sums_add_up, distance_counts_digits, items_within_add_up};
+pub use laws::{
+    ball_has_each_once, ball_is_in_order, ball_sums_add_up, distance_counts_digits,
+    items_within_add_up,
+};

@@ -124,7 +124,8 @@ near_of_list : (width value units : ℕ) (items : List ℕ) → All (λ item. it
 unfolding values_near values
 near_of_list width value units items below = count_items (is_near value units) (2 ^ width) items below
 
-width_of : (width : ℕ) (items : List ℕ) → (table_of width items).width ≡ width
+-- a table of a list is of the width that was asked
+pub width_of : (width : ℕ) (items : List ℕ) → (table_of width items).width ≡ width
 unfolding table_of
 width_of width items = refl
 

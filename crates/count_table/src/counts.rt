@@ -42,7 +42,8 @@ impl Counts {
     pub fn new(alloc: Global, width: u32) -> Result<Counts, NoMemory>
         requires some_width { 0 < width }
         requires small_width { width ≤ 12 }
-        ensures { IfOk result (λ counts. counts ≡ empty_table width) }
+        ensures empty { IfOk result (λ counts. counts ≡ empty_table width) }
+        ensures width { IfOk result (λ counts. counts.width ≡ width) }
     {
         let copies = no_copies(alloc, width)?;
         Ok(Counts {

@@ -7,6 +7,7 @@ ghost use Rattle.count_table.specs.Copies.{empty_table, copies_at, total_of, wit
 /// at any place, and removing one that of the list without it. Added one by one, the values of a list make
 /// its table.
 pub fn changes_follow_a_list()
+    ensures width { (width : ℕ) (items : List ℕ) → (table_of width items).width ≡ width }
     ensures empty { (width : ℕ) → table_of width [] ≡ empty_table width }
     ensures added { (width value : ℕ) (front back : List ℕ) → value < 2 ^ width →
         with_one (table_of width (front ++ back)) value ≡ table_of width (front ++ value ∷ back) }

@@ -1,5 +1,8 @@
-use Rattle.count_table.proofs.CopiesLemmas.{table_empty, table_added, table_removed, table_present, table_one_by_one}
+use Rattle.count_table.proofs.CopiesLemmas.{width_of, table_empty, table_added, table_removed, table_present, table_one_by_one}
 use Rattle.count_table.proofs.laws.changes_follow_a_list.Goals as goal
+
+pub returns-clause-width : goal.returns-clause-width
+returns-clause-width c = width_of
 
 pub returns-clause-empty : goal.returns-clause-empty
 returns-clause-empty c = table_empty
