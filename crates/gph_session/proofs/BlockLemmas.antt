@@ -1,5 +1,5 @@
 -- Lemmas on blocks: what a line, the rest of a block, and the end of the input make of a session.
-use Rattle.std.proofs.Common.{◌≡◌, ℕ, ◌+◌, ◌-◌, ◌<◌, ◌≤◌, Bool, true, false, List, [], ◌∷◌, ◌++◌, length, take, drop, Option, Some, None, Result, Ok, Err, refl, sym, ap, ◌∙◌, subst, arith, inl, inr, append-nil, append_assoc}
+use Rattle.std.proofs.Common.{◌≡◌, ℕ, ◌+◌, ◌-◌, true, List, [], ◌∷◌, ◌++◌, length, take, drop, Option, Some, Result, Ok, Err, sym, ap, ◌∙◌, subst, append-nil, append_assoc}
 use Rattle.std.specs.Io.KnownBytes.{Appends}
 use Rattle.std.proofs.KnownBytes.{Appends-trans, Appends-nil}
 use Rattle.std.proofs.Math.Seq.{take-add}
@@ -12,12 +12,11 @@ use Rattle.line_io.specs.declared.cutter.Cut.TheVariants.{Line, Long}
 use Rattle.line_io.specs.declared.source.Failed.{Failed}
 use Rattle.line_io.proofs.LinesLemmas.{ended_lines-append}
 use Rattle.hamming_model.specs.History.{JournalEntry}
-use Rattle.query_protocol.specs.Requests.{reading}
 use Rattle.gph_session.specs.declared.open_query.OpenQuery.{OpenQuery}
 use Rattle.gph_session.specs.declared.session.Turn.{Turn}
 use Rattle.gph_session.specs.declared.session.Turn.TheVariants.{Goes, Quits}
-use Rattle.gph_session.specs.State.{State, new_session}
-use Rattle.gph_session.specs.Run.{AnswersLines, before_quit, has_quit, commits}
+use Rattle.gph_session.specs.State.{State}
+use Rattle.gph_session.specs.Run.{AnswersLines, before_quit, commits}
 use Rattle.gph_session.specs.Outcomes.{IsRefused}
 use Rattle.gph_session.specs.Meaning.{Means}
 use Rattle.gph_session.specs.Flow.{Stands, HasEnded, FlowIs, TurnIs, EndIs}
@@ -39,9 +38,12 @@ module _ (W bits : ℕ) (bytes output : List ℕ) (rows : List (ℕ × List ℕ)
       → TurnIs result W bits (commits bits standing.exchanges) standing.state line before after rows' queries'
       → (more : List ℕ) × Appends before after more × FlowIs result W bits (bytes ++ piece) (output ++ more) rows' queries' held'
   turn_flow (Ok Goes) line piece one held_is turn = stands_line W bits bytes output rows queries held standing line before after rows' queries' turn piece held' one held_is
-  turn_flow (Ok Quits) line piece one held_is turn =
-      ([], turn.1, subst (HasEnded bits (ended_lines [] (bytes ++ piece))) (nothing_more output)
-          (ended_line W bits bytes output rows queries held standing line turn.0 (ended_lines [] (bytes ++ piece)) (ended_lines-append [] bytes piece ∙ ap (λ l. ended_lines [] bytes ++ l) one)))
+  turn_flow (Ok Quits) line piece one held_is turn = (
+    [],
+    turn.1,
+    subst (HasEnded bits (ended_lines [] (bytes ++ piece))) (nothing_more output)
+        (ended_line W bits bytes output rows queries held standing line turn.0 (ended_lines [] (bytes ++ piece)) (ended_lines-append [] bytes piece ∙ ap (λ l. ended_lines [] bytes ++ l) one)),
+  )
   turn_flow (Err failed) line piece one held_is turn =
       refused_line W bits bytes output rows queries held standing line before after failed rows' queries' turn (ended_lines [] (bytes ++ piece))
       (ended_lines-append [] bytes piece ∙ ap (λ l. ended_lines [] bytes ++ l) one)
@@ -61,9 +63,12 @@ module _ (W bits : ℕ) (bytes output : List ℕ) (rows : List (ℕ × List ℕ)
       → (more : List ℕ) × Appends before after more × EndIs result bits bytes (output ++ more)
   turn_end (Ok Goes) line last turn =
       answered_last W bits bytes output rows queries held standing line before after rows' queries' turn (lines bytes true) (ap (λ l. ended_lines [] bytes ++ l) last)
-  turn_end (Ok Quits) line last turn =
-      ([], turn.1, subst (AnswersLines bits (before_quit bits (lines bytes true))) (nothing_more output)
-          (ended_line W bits bytes output rows queries held standing line turn.0 (lines bytes true) (ap (λ l. ended_lines [] bytes ++ l) last)).answered)
+  turn_end (Ok Quits) line last turn = (
+    [],
+    turn.1,
+    subst (AnswersLines bits (before_quit bits (lines bytes true))) (nothing_more output)
+        (ended_line W bits bytes output rows queries held standing line turn.0 (lines bytes true) (ap (λ l. ended_lines [] bytes ++ l) last)).answered,
+  )
   turn_end (Err failed) line last turn =
       refused_line W bits bytes output rows queries held standing line before after failed rows' queries' turn (lines bytes true) (ap (λ l. ended_lines [] bytes ++ l) last)
 
@@ -98,11 +103,11 @@ pub flow_after : (bits : ℕ) (a b c : Option (List ℕ)) (bytes output front pi
     → ((more : List ℕ) × Appends b c more × P ((bytes ++ front) ++ piece) ((output ++ first) ++ more)) → whole ≡ front ++ piece
     → (more : List ℕ) × Appends a c more × P (bytes ++ whole) (output ++ more)
 flow_after bits a b c bytes output front piece whole first p P second is = (
-    first ++ second.0,
-    Appends-trans a b c first second.0 p second.1,
-    subst (λ w. P (bytes ++ w) (output ++ (first ++ second.0))) (sym is)
-        (subst (λ x. P x (output ++ (first ++ second.0))) (append_assoc bytes front piece) (subst (P ((bytes ++ front) ++ piece)) (append_assoc output first second.0) second.2)),
-  )
+  first ++ second.0,
+  Appends-trans a b c first second.0 p second.1,
+  subst (λ w. P (bytes ++ w) (output ++ (first ++ second.0))) (sym is)
+      (subst (λ x. P x (output ++ (first ++ second.0))) (append_assoc bytes front piece) (subst (P ((bytes ++ front) ++ piece)) (append_assoc output first second.0) second.2)),
+)
 
 -- what ended a session with a front of some bytes did so with all of them
 pub ended_in_front : (bits : ℕ) (front rest output : List ℕ) → HasEnded bits (ended_lines [] front) output → HasEnded bits (ended_lines [] (front ++ rest)) output
@@ -124,7 +129,7 @@ module _ (W bits bits' done number : ℕ) (block : List ℕ) (result : Result Tu
     (rows' : List (ℕ × List ℕ)) (queries' : Slab OpenQuery) (held' : Option (List ℕ)) (same_bits : bits' ≡ bits)
     (so_far : (bytes output : List ℕ) → Stands W bits bytes output rows0 queries0 held0 → (more : List ℕ) × Appends a b more × Stands W bits (bytes ++ take done block) (output ++ more) rows queries held)
     (next : (bytes output : List ℕ) → Stands W bits' bytes output rows queries held
-        → (more : List ℕ) × Appends b c more × FlowIs result W bits' (bytes ++ take number (take (length block - done) (drop done block))) (output ++ more) rows' queries' held')
+    → (more : List ℕ) × Appends b c more × FlowIs result W bits' (bytes ++ take number (take (length block - done) (drop done block))) (output ++ more) rows' queries' held')
     (bytes output : List ℕ) (standing : Stands W bits bytes output rows0 queries0 held0) where
   pub flow_on : (more : List ℕ) × Appends a c more × FlowIs result W bits (bytes ++ take (done + number) block) (output ++ more) rows' queries' held'
   flow_on =

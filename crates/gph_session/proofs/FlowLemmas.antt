@@ -1,5 +1,5 @@
 -- Lemmas on a session that goes on: one line more, the line that ends it, and the line whose reply is refused.
-use Rattle.std.proofs.Common.{◌≡◌, ℕ, ◌<◌, Bool, true, false, cond, List, [], ◌∷◌, ◌++◌, length, map, take, Option, Result, Ok, Err, refl, sym, ap, ◌∙◌, subst, append_assoc, append-nil}
+use Rattle.std.proofs.Common.{◌≡◌, ℕ, true, false, cond, List, [], ◌∷◌, ◌++◌, map, take, Option, Result, Ok, Err, sym, ap, ◌∙◌, subst, append_assoc, append-nil}
 use Rattle.std.proofs.lemmas.List.{map_push}
 use Rattle.std.specs.Io.KnownBytes.{Appends}
 use Rattle.slab.specs.Slab.{Slab}
@@ -12,10 +12,10 @@ use Rattle.query_protocol.specs.Requests.{reading}
 use Rattle.query_protocol.specs.Replies.{text}
 use Rattle.gph_session.specs.declared.open_query.OpenQuery.{OpenQuery}
 use Rattle.gph_session.specs.declared.session.Turn.{Turn}
-use Rattle.gph_session.specs.declared.session.Turn.TheVariants.{Goes, Quits}
-use Rattle.gph_session.specs.State.{State, new_session}
-use Rattle.gph_session.specs.Step.{Exchange, Step}
-use Rattle.gph_session.specs.Run.{Run, commit_of, commits, AreAlone, IsSolo, AnswersLines, written, asks_quit, before_quit, has_quit}
+use Rattle.gph_session.specs.declared.session.Turn.TheVariants.{Goes}
+use Rattle.gph_session.specs.State.{new_session}
+use Rattle.gph_session.specs.Step.{Exchange}
+use Rattle.gph_session.specs.Run.{Run, commit_of, commits, AreAlone, IsSolo, AnswersLines, asks_quit, before_quit, has_quit}
 use Rattle.gph_session.specs.Outcomes.{IsRefused}
 use Rattle.gph_session.specs.Meaning.{Means}
 use Rattle.gph_session.specs.Flow.{OneStep, Stands, HasEnded}
@@ -31,7 +31,7 @@ module _ (W bits : ℕ) (bytes output : List ℕ) (rows : List (ℕ × List ℕ)
   solo_so_far = record {
     last = standing.state;
     run = subst (λ h. Run bits h (new_session 0 0) standing.exchanges standing.state) (append-nil (commits bits standing.exchanges)) (standing.run []);
-    alone = standing.alone
+    alone = standing.alone;
   }
 
   -- the whole lines so far were answered
@@ -69,7 +69,7 @@ module _ (W bits : ℕ) (bytes output : List ℕ) (rows : List (ℕ × List ℕ)
     solo_one_more = record {
       last = one.state;
       run = subst (λ h. Run bits h (new_session 0 0) (standing.exchanges ++ one.exchange ∷ []) one.state) (append-nil (commits bits (standing.exchanges ++ one.exchange ∷ []))) (run_one_more []);
-      alone = alone_one_more
+      alone = alone_one_more;
     }
 
     -- the lines with this one
@@ -84,30 +84,38 @@ module _ (W bits : ℕ) (bytes output : List ℕ) (rows : List (ℕ × List ℕ)
       (one : OneStep {A = Turn} W bits (commits bits standing.exchanges) standing.state line before after (Ok Goes) rows' queries') where
     pub stands_line : (piece : List ℕ) (held' : Option (List ℕ)) → ended_lines (unended [] bytes) piece ≡ line ∷ [] → held' ≡ kept (unended (unended [] bytes) piece)
         → (more : List ℕ) × Appends before after more × Stands W bits (bytes ++ piece) (output ++ more) rows' queries' held'
-    stands_line piece held' lines_are held_is = (text one.exchange.replies, one.wrote, record {
-      exchanges = standing.exchanges ++ one.exchange ∷ [];
-      state = one.state;
-      run = run_one_more line before after (Ok Goes) rows' queries' one;
-      alone = alone_one_more line before after (Ok Goes) rows' queries' one;
-      lines_are = lines_one_more line before after (Ok Goes) rows' queries' one ∙ ap (λ l. ended_lines [] bytes ++ l) (sym lines_are) ∙ sym (ended_lines-append [] bytes piece);
-      output_is = ap (λ o. o ++ text one.exchange.replies) standing.output_is ∙ sym (written_more standing.exchanges one.exchange);
-      means = subst (λ h. Means W bits rows' queries' h one.state) (sym (commits_more bits standing.exchanges one.exchange)) one.means;
-      held_is = held_is ∙ ap kept (sym (unended-append [] bytes piece))
-    })
+    stands_line piece held' lines_are held_is = (
+      text one.exchange.replies,
+      one.wrote,
+      record {
+        exchanges = standing.exchanges ++ one.exchange ∷ [];
+        state = one.state;
+        run = run_one_more line before after (Ok Goes) rows' queries' one;
+        alone = alone_one_more line before after (Ok Goes) rows' queries' one;
+        lines_are = lines_one_more line before after (Ok Goes) rows' queries' one ∙ ap (λ l. ended_lines [] bytes ++ l) (sym lines_are) ∙ sym (ended_lines-append [] bytes piece);
+        output_is = ap (λ o. o ++ text one.exchange.replies) standing.output_is ∙ sym (written_more standing.exchanges one.exchange);
+        means = subst (λ h. Means W bits rows' queries' h one.state) (sym (commits_more bits standing.exchanges one.exchange)) one.means;
+        held_is = held_is ∙ ap kept (sym (unended-append [] bytes piece));
+      },
+    )
 
     -- where it is the last
     pub answered_last : (of_lines : List (List ℕ)) → of_lines ≡ ended_lines [] bytes ++ line ∷ []
         → (more : List ℕ) × Appends before after more × AnswersLines bits (before_quit bits of_lines) (output ++ more)
-    answered_last of_lines is = (text one.exchange.replies, one.wrote, record {
-      exchanges = standing.exchanges ++ one.exchange ∷ [];
-      solo = solo_one_more line before after (Ok Goes) rows' queries' one;
-      lines_are =
-          let all = standing.exchanges ++ one.exchange ∷ [] in
-          let run = (solo_one_more line before after (Ok Goes) rows' queries' one).run in
-          let same = lines_one_more line before after (Ok Goes) rows' queries' one ∙ sym is in
-          sym (ap (before_quit bits) (sym same ∙ sym (append-nil (lines_of all))) ∙ before_answered bits (commits bits all) (new_session 0 0) all one.state run [] ∙ append-nil (lines_of all));
-      bytes_are = ap (λ o. o ++ text one.exchange.replies) standing.output_is ∙ sym (written_more standing.exchanges one.exchange)
-    })
+    answered_last of_lines is = (
+      text one.exchange.replies,
+      one.wrote,
+      record {
+        exchanges = standing.exchanges ++ one.exchange ∷ [];
+        solo = solo_one_more line before after (Ok Goes) rows' queries' one;
+        lines_are =
+            let all = standing.exchanges ++ one.exchange ∷ [] in
+            let run = (solo_one_more line before after (Ok Goes) rows' queries' one).run in
+            let same = lines_one_more line before after (Ok Goes) rows' queries' one ∙ sym is in
+            sym (ap (before_quit bits) (sym same ∙ sym (append-nil (lines_of all))) ∙ before_answered bits (commits bits all) (new_session 0 0) all one.state run [] ∙ append-nil (lines_of all));
+        bytes_are = ap (λ o. o ++ text one.exchange.replies) standing.output_is ∙ sym (written_more standing.exchanges one.exchange);
+      },
+    )
 
   -- ---- a line whose reply was refused
 
@@ -115,16 +123,20 @@ module _ (W bits : ℕ) (bytes output : List ℕ) (rows : List (ℕ × List ℕ)
       → OneStep {A = Turn} W bits (commits bits standing.exchanges) standing.state line before after (Err failed) rows' queries'
       → (of_lines : List (List ℕ)) → of_lines ≡ ended_lines [] bytes ++ line ∷ []
       → (more : List ℕ) × Appends before after more × IsRefused bits of_lines (output ++ more)
-  refused_line line before after failed rows' queries' one of_lines is = (take one.wrote.0 (text one.exchange.replies), one.wrote.2, record {
-    answered = standing.exchanges;
-    refused = one.exchange;
-    rest = [];
-    solo = solo_one_more line before after (Err failed) rows' queries' one;
-    lines_are = is ∙ ap (λ l. l ++ line ∷ []) (sym standing.lines_are) ∙ ap (λ l. lines_of standing.exchanges ++ l ∷ []) (sym one.is_line);
-    taken = one.wrote.0;
-    not_all = one.wrote.1;
-    output_is = ap (λ o. o ++ take one.wrote.0 (text one.exchange.replies)) standing.output_is
-  })
+  refused_line line before after failed rows' queries' one of_lines is = (
+    take one.wrote.0 (text one.exchange.replies),
+    one.wrote.2,
+    record {
+      answered = standing.exchanges;
+      refused = one.exchange;
+      rest = [];
+      solo = solo_one_more line before after (Err failed) rows' queries' one;
+      lines_are = is ∙ ap (λ l. l ++ line ∷ []) (sym standing.lines_are) ∙ ap (λ l. lines_of standing.exchanges ++ l ∷ []) (sym one.is_line);
+      taken = one.wrote.0;
+      not_all = one.wrote.1;
+      output_is = ap (λ o. o ++ take one.wrote.0 (text one.exchange.replies)) standing.output_is;
+    },
+  )
 
   -- ---- the line that ends the session
 
@@ -141,8 +153,8 @@ module _ (W bits : ℕ) (bytes output : List ℕ) (rows : List (ℕ × List ℕ)
           solo = solo_so_far;
           lines_are = sym (ap (before_quit bits) same ∙ before_answered bits past (new_session 0 0) standing.exchanges standing.state run (line ∷ [])
               ∙ ap (λ b. lines_of standing.exchanges ++ cond b [] (line ∷ [])) quits ∙ append-nil (lines_of standing.exchanges));
-          bytes_are = standing.output_is
-        }
+          bytes_are = standing.output_is;
+        };
       }
 
   -- ---- bytes that end no line
@@ -157,7 +169,7 @@ module _ (W bits : ℕ) (bytes output : List ℕ) (rows : List (ℕ × List ℕ)
     lines_are = standing.lines_are ∙ sym (append-nil (ended_lines [] bytes)) ∙ ap (λ l. ended_lines [] bytes ++ l) (sym none) ∙ sym (ended_lines-append [] bytes piece);
     output_is = standing.output_is;
     means = standing.means;
-    held_is = held_is ∙ ap kept (sym (unended-append [] bytes piece))
+    held_is = held_is ∙ ap kept (sym (unended-append [] bytes piece));
   }
 
 -- ---- what comes behind
@@ -171,11 +183,11 @@ refused_more bits of_lines more output h = record {
   lines_are = ap (λ l. l ++ more) h.lines_are ∙ append_assoc (lines_of h.answered) (h.refused.line ∷ h.rest) more;
   taken = h.taken;
   not_all = h.not_all;
-  output_is = h.output_is
+  output_is = h.output_is;
 }
 
 pub ended_more : (bits : ℕ) (of_lines more : List (List ℕ)) (output : List ℕ) → HasEnded bits of_lines output → HasEnded bits (of_lines ++ more) output
 ended_more bits of_lines more output h = record {
   quits = quit_more bits of_lines more h.quits;
-  answered = subst (λ l. AnswersLines bits l output) (sym (before_more bits of_lines more h.quits)) h.answered
+  answered = subst (λ l. AnswersLines bits l output) (sym (before_more bits of_lines more h.quits)) h.answered;
 }

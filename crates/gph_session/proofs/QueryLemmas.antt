@@ -1,5 +1,5 @@
 -- Lemmas on the open queries in memory: what they are to a longer history, and after one is put or changed.
-use Rattle.std.proofs.Common.{◌≡◌, ◌≢◌, ℕ, ◌+◌, ◌≤◌, ◌<◌, ◌==◌, Bool, true, false, cond, List, [], ◌∷◌, ◌++◌, length, take, Option, Some, None, refl, sym, ap, ◌∙◌, subst, arith, inl, inr, ◌⊎◌, length-append, slice_index_or, count_by, is_some, get_or}
+use Rattle.std.proofs.Common.{◌≡◌, ◌≢◌, ℕ, ◌≤◌, ◌<◌, Bool, true, false, cond, List, ◌++◌, length, Option, Some, None, refl, sym, ap, ◌∙◌, subst, arith, inl, inr, ◌⊎◌, length-append, slice_index_or, count_by, is_some, get_or}
 use Rattle.std.specs.Str.{bytes_eq}
 use Rattle.std.proofs.lemmas.Slice.Eq.{bytes_eq-Decides}
 use Rattle.std.proofs.lemmas.List.{take-append-le, get_or_past, get_or-set_same, get_or-set_other}
@@ -21,7 +21,7 @@ keeps_later bits history later held query keeps =
       within = omega (arith, length-append history later);
       hits_are = keeps.hits_are ∙ ap (λ h. answer bits (rows_of h) query.ask) (sym (take-append-le query.position history later within));
       given_is = keeps.given_is;
-      given_within = keeps.given_within
+      given_within = keeps.given_within;
     }
 
 found_later : (bits : ℕ) (history later : List JournalEntry) (queries : Slab OpenQuery) (tag : List ℕ) (query : Option Query)
@@ -35,7 +35,7 @@ pub holds_later : (bits : ℕ) (history later : List JournalEntry) (queries : Sl
 holds_later bits history later queries s at holds = record {
   found = λ tag. found_later bits history later queries tag (s.query tag) (holds.found tag);
   alone = holds.alone;
-  count = holds.count
+  count = holds.count;
 }
 
 -- ---- the same queries in a slab with other room
@@ -50,7 +50,7 @@ pub holds_same : (bits : ℕ) (history : List JournalEntry) (old new : Slab Open
 holds_same bits history old new s same holds = record {
   found = λ tag. found_same bits history old new same tag (s.query tag) (holds.found tag);
   alone = λ j k x y is_x is_y. holds.alone j k x y (ap (λ slots. slice_index_or slots j None) (sym same) ∙ is_x) (ap (λ slots. slice_index_or slots k None) (sym same) ∙ is_y);
-  count = holds.count ∙ ap (count_by is_some) (sym same)
+  count = holds.count ∙ ap (count_by is_some) (sym same);
 }
 
 -- ---- the query of a tag
@@ -79,15 +79,15 @@ module _ (bits : ℕ) (history : List JournalEntry) (old new : Slab OpenQuery) (
   -- what the new slab has at a place, it has by this change or had before
   new_at : (other : ℕ) (x : OpenQuery) → get new other ≡ Some x → ((other ≡ place) × (x ≡ held)) ⊎ ((other ≢ place) × (get old other ≡ Some x))
   new_at other x is = elim (cases_eq other place) [
-      inl same ↦ inl (same, new_here other x is same)
+    | inl same ↦ inl (same, new_here other x is same)
     | inr differs ↦ inr (differs, sym (updates.others other differs) ∙ is)
-    ]
+  ]
 
   found_other : (that : List ℕ) → that ≢ tag → (query' : Option Query) → FoundAs bits history old that query' → FoundAs bits history new that query'
   found_other that differs None found = λ other x is. elim (new_at other x is) [
-      inl here ↦ λ tagged. differs (sym tagged ∙ ap (λ (h : OpenQuery). h.tag) here.1 ∙ has_tag)
+    | inl here ↦ λ tagged. differs (sym tagged ∙ ap (λ (h : OpenQuery). h.tag) here.1 ∙ has_tag)
     | inr there ↦ found other x there.1
-    ]
+  ]
   found_other that differs (Some query') found =
       let elsewhere : found.0 ≢ place = λ same. differs (sym found.1.has_tag ∙ before found.1.held (ap (get old) (sym same) ∙ found.1.is_there)) in
       (found.0, record { held = found.1.held; is_there = updates.others found.0 elsewhere ∙ found.1.is_there; has_tag = found.1.has_tag }, found.2)
@@ -100,21 +100,21 @@ module _ (bits : ℕ) (history : List JournalEntry) (old new : Slab OpenQuery) (
 
   alone_new : (j k : ℕ) (x y : OpenQuery) → get new j ≡ Some x → get new k ≡ Some y → x.tag ≡ y.tag → j ≡ k
   alone_new j k x y is_x is_y tags = elim (new_at j x is_x) [
-      inl here ↦ elim (new_at k y is_y) [
-          inl here_too ↦ here.0 ∙ sym here_too.0
-        | inr there ↦ here.0 ∙ sym (own k y there.1 (sym tags ∙ ap (λ (h : OpenQuery). h.tag) here.1 ∙ has_tag))
-        ]
-    | inr there ↦ elim (new_at k y is_y) [
-          inl here ↦ own j x there.1 (tags ∙ ap (λ (h : OpenQuery). h.tag) here.1 ∙ has_tag) ∙ sym here.0
-        | inr there_too ↦ holds.alone j k x y there.1 there_too.1 tags
-        ]
+    | inl here ↦ elim (new_at k y is_y) [
+      | inl here_too ↦ here.0 ∙ sym here_too.0
+      | inr there ↦ here.0 ∙ sym (own k y there.1 (sym tags ∙ ap (λ (h : OpenQuery). h.tag) here.1 ∙ has_tag))
     ]
+    | inr there ↦ elim (new_at k y is_y) [
+      | inl here ↦ own j x there.1 (tags ∙ ap (λ (h : OpenQuery). h.tag) here.1 ∙ has_tag) ∙ sym here.0
+      | inr there_too ↦ holds.alone j k x y there.1 there_too.1 tags
+    ]
+  ]
 
   pub holds_put : (t : State) → ((that : List ℕ) → t.query that ≡ with_query s.query tag query that) → t.open_count ≡ slab_len new → HoldsQueries bits history new t
   holds_put t queries count = record {
     found = λ that. subst (FoundAs bits history new that) (sym (queries that)) (found_by that (bytes_eq that tag) refl);
     alone = alone_new;
-    count = count
+    count = count;
   }
 
 -- ---- a query written back
@@ -126,14 +126,14 @@ filled slot = cond (is_some slot) 1 0
 module _ (queries : Slab OpenQuery) (place : ℕ) (held changed : OpenQuery) (is_there : get queries place ≡ Some held) where
   place_within : place < length queries.slots
   place_within = elim (cases_lt place (length queries.slots)) [
-      inl lt ↦ lt
+    | inl lt ↦ lt
     | inr past ↦ let never : None ≡ Some held = sym (get_or_past queries.slots place None past) ∙ is_there in cc
-    ]
+  ]
 
   pub updates_back : Updates queries (with_value queries place changed) place (Some changed)
   updates_back = record {
     changed = get_or-set_same queries.slots place (Some changed) None place_within;
-    others = λ other differs. get_or-set_other queries.slots place other (Some changed) None differs
+    others = λ other differs. get_or-set_other queries.slots place other (Some changed) None differs;
   }
 
   pub number_back : slab_len (with_value queries place changed) ≡ slab_len queries

@@ -1,7 +1,5 @@
 -- Lemmas on whole sessions: one more exchange at the end, and the lines that end one.
-use Rattle.std.proofs.Common.{◌≡◌, ℕ, Bool, true, false, cond, List, [], ◌∷◌, ◌++◌, length, map, Option, Some, None, Result, Ok, Err, refl, sym, ap, ◌∙◌, subst, append_assoc, append-nil, inl, inr}
-use Rattle.std.specs.List.{flat_map}
-use Rattle.std.proofs.lemmas.List.{map_push}
+use Rattle.std.proofs.Common.{◌≡◌, ℕ, Bool, true, false, cond, List, [], ◌∷◌, ◌++◌, length, map, Option, Some, None, Result, Ok, Err, refl, sym, ap, ◌∙◌, subst, append_assoc, append-nil}
 use Rattle.std.proofs.lemmas.List.Concat.{flat_map-append}
 use Rattle.hamming_model.specs.History.{JournalEntry}
 use Rattle.query_protocol.specs.Requests.{LineRequest, Add, Range, Next, Quit, reading}
@@ -37,9 +35,11 @@ alone_more bits history [] exchange alone at =
     (subst (λ l. exchange.position ≡ length (l ++ commit_of bits exchange)) (append-nil history) at, tt)
 alone_more bits history (first ∷ exchanges) exchange alone at =
     let regrouped : (history ++ commit_of bits first) ++ commits bits exchanges ≡ history ++ (commit_of bits first ++ commits bits exchanges) =
-    append_assoc history (commit_of bits first) (commits bits exchanges) in
-    (alone.0, alone_more bits (history ++ commit_of bits first) exchanges exchange alone.1
-        (subst (λ l. exchange.position ≡ length (l ++ commit_of bits exchange)) (sym regrouped) at))
+    append_assoc history (commit_of bits first) (commits bits exchanges) in (
+      alone.0,
+      alone_more bits (history ++ commit_of bits first) exchanges exchange alone.1
+          (subst (λ l. exchange.position ≡ length (l ++ commit_of bits exchange)) (sym regrouped) at),
+    )
 
 -- ---- the lines that end a session
 

@@ -1,13 +1,13 @@
 -- Lemmas on the loop over reads: one more block, and the ways in which it ends.
-use Rattle.std.proofs.Common.{◌≡◌, ℕ, ◌+◌, ◌<◌, ◌≤◌, Bool, true, false, List, [], ◌∷◌, ◌++◌, length, take, get_or, Option, refl, sym, ap, ◌∙◌, subst, arith, inl, inr, ◌⊎◌, append-nil, append_assoc, length-append}
+use Rattle.std.proofs.Common.{◌≡◌, ℕ, ◌+◌, ◌<◌, ◌≤◌, true, false, List, [], ◌∷◌, ◌++◌, length, take, get_or, Option, refl, sym, ◌∙◌, subst, arith, inl, inr, append-nil, length-append}
 use Rattle.std.specs.Io.KnownBytes.{Appends, Consumes, Keeps, IsAtEnd}
 use Rattle.std.proofs.KnownBytes.{Appends-trans, Consumes-trans, Consumes-kept}
 use Rattle.slab.specs.Slab.{Slab}
 use Rattle.line_io.specs.Faults.{Rose}
 use Rattle.line_io.specs.Lines.{ended_lines, unended, last_line, lines}
 use Rattle.gph_session.specs.declared.open_query.OpenQuery.{OpenQuery}
-use Rattle.gph_session.specs.Run.{AnswersLines, before_quit, has_quit}
-use Rattle.gph_session.specs.Outcomes.{Ends, ends, IsDone, IsReadFault, IsWriteFault, IsInputLimit, IsRefused}
+use Rattle.gph_session.specs.Run.{AnswersLines, before_quit}
+use Rattle.gph_session.specs.Outcomes.{ends, IsDone, IsReadFault, IsWriteFault, IsInputLimit, IsRefused}
 use Rattle.gph_session.specs.Flow.{Stands, HasEnded}
 use Rattle.gph_session.proofs.RunLemmas.{before_more, quit_more}
 use Rattle.gph_session.proofs.FlowLemmas.{answered_so_far, goes_on}
@@ -30,7 +30,7 @@ module _ (W bits limit taken : ℕ) (left0 left1 left2 held0 held1 held2 : Optio
     output = goes.1;
     moved = record { read = Consumes-kept left0 left1 left2 goes.0 goes.2 keeps; few = omega (arith, goes.4); wrote = goes.3 };
     goes_on = goes_on W bits goes.0 goes.1 rows queries held goes.5;
-    answered = answered_so_far W bits goes.0 goes.1 rows queries held goes.5
+    answered = answered_so_far W bits goes.0 goes.1 rows queries held goes.5;
   }
 
   pub limit_reached : (past : ℕ) → Consumes left1 left2 (past ∷ []) → taken ≡ limit → IsInputLimit bits limit (ends left0 f0) (ends left2 f2) (ends held0 k0) (ends held1 k1)
@@ -42,7 +42,7 @@ module _ (W bits limit taken : ℕ) (left0 left1 left2 held0 held1 held2 : Optio
     full = goes.4 ∙ full;
     wrote = goes.3;
     goes_on = goes_on W bits goes.0 goes.1 rows queries held goes.5;
-    answered = answered_so_far W bits goes.0 goes.1 rows queries held goes.5
+    answered = answered_so_far W bits goes.0 goes.1 rows queries held goes.5;
   }
 
   module _ (bits' : ℕ) (same : bits' ≡ bits) where
@@ -64,7 +64,7 @@ module _ (W bits limit taken : ℕ) (left0 left1 left2 held0 held1 held2 : Optio
           output = goes.1 ++ last.0;
           moved = record { read = read_all none; few = omega (arith, goes.4); wrote = Appends-trans held0 held1 held2 goes.1 last.0 goes.3 last.1 };
           ended = inl at_end;
-          answered = subst (λ b. AnswersLines b (before_quit b (lines goes.0 true)) (goes.1 ++ last.0)) same last.2
+          answered = subst (λ b. AnswersLines b (before_quit b (lines goes.0 true)) (goes.1 ++ last.0)) same last.2;
         }
 
     pub refused_at_end : Consumes left1 left2 [] → IsAtEnd left2 → k0 ≤ k1 → Rose k1 k2
@@ -79,7 +79,7 @@ module _ (W bits limit taken : ℕ) (left0 left1 left2 held0 held1 held2 : Optio
           moved = record { read = read_all none; few = omega (arith, goes.4); wrote = Appends-trans held0 held1 held2 goes.1 last.0 goes.3 last.1 };
           ended = true;
           ended_at = λ _. at_end;
-          refused = subst (λ b. IsRefused b (lines goes.0 true) (goes.1 ++ last.0)) same last.2
+          refused = subst (λ b. IsRefused b (lines goes.0 true) (goes.1 ++ last.0)) same last.2;
         }
 
     -- ---- one more block
@@ -112,7 +112,7 @@ module _ (W bits limit taken : ℕ) (left0 left1 left2 held0 held1 held2 : Optio
             output = goes.1 ++ next.0;
             moved = record { read = read_more; few = omega (arith, length-append goes.0 piece, goes.4); wrote = Appends-trans held0 held1 held2 goes.1 next.0 goes.3 next.1 };
             ended = inr (quit_more bits (ended_lines [] all) (last_line (unended [] all)) ended.quits);
-            answered = subst (λ l. AnswersLines bits l (goes.1 ++ next.0)) (sym (before_more bits (ended_lines [] all) (last_line (unended [] all)) ended.quits)) ended.answered
+            answered = subst (λ l. AnswersLines bits l (goes.1 ++ next.0)) (sym (before_more bits (ended_lines [] all) (last_line (unended [] all)) ended.quits)) ended.answered;
           }
 
       pub refused_in_block : k0 ≤ k1 → Rose k1 k2
@@ -128,5 +128,5 @@ module _ (W bits limit taken : ℕ) (left0 left1 left2 held0 held1 held2 : Optio
             moved = record { read = read_more; few = omega (arith, length-append goes.0 piece, goes.4); wrote = Appends-trans held0 held1 held2 goes.1 next.0 goes.3 next.1 };
             ended = false;
             ended_at = λ never. cc;
-            refused = subst (λ b. IsRefused b (ended_lines [] all) (goes.1 ++ next.0)) same next.2
+            refused = subst (λ b. IsRefused b (ended_lines [] all) (goes.1 ++ next.0)) same next.2;
           }

@@ -1,5 +1,5 @@
 -- Lemmas on one line: what the code answers and leaves is a step of a session that is alone.
-use Rattle.std.proofs.Common.{◌≡◌, ℕ, ◌+◌, ◌-◌, ◌*◌, ◌%◌, ◌≤◌, ◌<◌, nat_le, min, Bool, true, false, List, [], ◌∷◌, ◌++◌, length, map, take, slice_get, Option, Some, None, is_some, Result, Ok, Err, IfOk, OnOk, refl, sym, ap, ◌∙◌, subst, arith, inl, inr, ◌⊎◌, append_assoc, append-nil, length-append}
+use Rattle.std.proofs.Common.{◌≡◌, ℕ, ◌+◌, ◌-◌, ◌*◌, ◌%◌, ◌≤◌, ◌<◌, nat_le, min, Bool, true, false, List, [], ◌∷◌, ◌++◌, length, take, slice_get, Option, Some, None, is_some, Result, Ok, Err, IfOk, OnOk, refl, sym, ap, ◌∙◌, subst, arith, inl, inr, ◌⊎◌, append_assoc, append-nil, length-append}
 use Rattle.std.specs.Option.{option_map}
 use Rattle.std.specs.Ordering.{nat_cmp}
 use Rattle.std.specs.BTreeMap.{insert_entry}
@@ -16,7 +16,7 @@ use Rattle.hamming_model.specs.Scan as ask
 use Rattle.hamming_model.specs.declared.hit.Hit.{Hit}
 use Rattle.hamming_model.specs.Stored.{stored_rows, AreCodeRows}
 use Rattle.hamming_model.proofs.RowLemmas.{code_at_stored, insert_stored, length_inserted, rows_of_append, codes_inserted, scan_of_stored_codes}
-use Rattle.query_protocol.specs.Requests.{LineRequest, Add, Range, Next, Quit, reading, stored_reading, bad}
+use Rattle.query_protocol.specs.Requests.{LineRequest, Add, Range, Next, reading, stored_reading, bad}
 use Rattle.query_protocol.specs.Replies.{text, reply_line}
 use Rattle.query_protocol.specs.declared.bad.Bad.{Bad}
 use Rattle.query_protocol.specs.declared.reply.Reply.{Reply}
@@ -25,9 +25,9 @@ use Rattle.gph_session.specs.declared.open_query.OpenQuery.{OpenQuery}
 use Rattle.gph_session.specs.declared.session.Turn.{Turn}
 use Rattle.gph_session.specs.declared.session.Turn.TheVariants.{Goes, Quits}
 use Rattle.gph_session.specs.State.{Query, State, with_query}
-use Rattle.gph_session.specs.Step.{Exchange, Step, Answers, Stays, Adds, Takes, Opens, Gives, OpensUnlessUsed, OpensUnlessMany, GivesIfOpen, next_replies, most_open}
+use Rattle.gph_session.specs.Step.{Exchange, Answers, Adds, OpensUnlessUsed, OpensUnlessMany, GivesIfOpen, next_replies, most_open}
 use Rattle.gph_session.specs.Run.{committed, commit_of, asks_quit}
-use Rattle.gph_session.specs.Meaning.{AddsAs, OpensAs, PutsQuery, IsFree, StandsAt, Keeps, FoundAs, HoldsQueries, HoldsRows, Means}
+use Rattle.gph_session.specs.Meaning.{AddsAs, OpensAs, IsFree, StandsAt, Keeps, FoundAs, HoldsRows, Means}
 use Rattle.gph_session.specs.Flow.{Writes, OneStep, TurnIs, GivesAs, GivesHits}
 use Rattle.gph_session.proofs.ReadingLemmas.{add_kept, range_kept, next_kept, quit_kept, kept_fault, kept_nothing, kept_add, kept_range, kept_next, kept_quit, code_read, HasCode}
 use Rattle.gph_session.proofs.QueryLemmas.{holds_later, holds_same, is_open, is_not_open, holds_put}
@@ -83,7 +83,7 @@ module _ (W bits : ℕ) (history : List JournalEntry) (rows : List (ℕ × List 
         rows_are = is ∙ ap (λ r. insert_entry nat_cmp r key (padded (64 * W) code)) holds.rows_are ∙ insert_stored (64 * W) (rows_of history) key code
             ∙ ap (stored_rows (64 * W)) (sym longer);
         number = omega (arith, ap length longer, number, holds.number, length-append history (entry ∷ []));
-        codes = subst (AreCodeRows bits) (sym longer) (codes_inserted bits (rows_of history) key code holds.codes is_code)
+        codes = subst (AreCodeRows bits) (sym longer) (codes_inserted bits (rows_of history) key code holds.codes is_code);
       }
 
 -- an answer that ends no session is one step
@@ -114,7 +114,7 @@ module _ (W bits : ℕ) (history : List JournalEntry) (s : State) (rows : List (
             (subst (λ h. Answers asked bits (h ++ later) s replies at t) (sym same) (answers later));
         alone = at_is ∙ ap length (sym same);
         wrote = wrote;
-        means = subst (λ h. OnOk result (Means W bits rows' queries' h t)) (sym same) means'
+        means = subst (λ h. OnOk result (Means W bits rows' queries' h t)) (sym same) means';
       }
 
   quiet : (result : Result Turn Failed) (asked : Result (Option LineRequest) Bad) (replies : List Reply) (at : ℕ) (t : State) (rows' : List (ℕ × List ℕ)) (queries' : Slab OpenQuery)
@@ -130,7 +130,7 @@ module _ (W bits : ℕ) (history : List JournalEntry) (s : State) (rows : List (
     rows_hold = means.rows_hold;
     queries_hold = record { found = means.queries_hold.found; alone = means.queries_hold.alone; count = means.queries_hold.count };
     position = at_is;
-    who = means.who
+    who = means.who;
   }
 
   first : (later : List JournalEntry) (at : ℕ) → at ≡ length history → take at (history ++ later) ≡ history
@@ -143,7 +143,7 @@ module _ (W bits : ℕ) (history : List JournalEntry) (s : State) (rows : List (
   fault_turn fault result read goes wrote =
       turn_is result W bits history s line before after rows queries goes
       (quiet result (Err fault) (reply.Bad fault ∷ []) s.position s rows queries (kept_fault W (reading bits line) fault read) refl means.position
-          (λ later. record { said_is = refl; position = refl; same = refl }) (writes_one before after result (reply.Bad fault) wrote) means)
+      (λ later. record { said_is = refl; position = refl; same = refl }) (writes_one before after result (reply.Bad fault) wrote) means)
 
   pub nothing_turn : Ok None ≡ stored_reading W (reading bits line) → Appends before after [] → TurnIs (Ok Goes) W bits history s line before after rows queries
   nothing_turn read wrote =
@@ -176,7 +176,7 @@ module _ (W bits : ℕ) (history : List JournalEntry) (s : State) (rows : List (
               ∙ slice_get_at history entry later ∙ ap (λ (w : ℕ). Some (record { who = w; operation = journal.Add key code })) (sym means.who);
           absent = ap (λ h. code_at (rows_of h) key) (ap (λ h. take (at - 1) h) (append_assoc history (entry ∷ []) later) ∙ first (entry ∷ later) (at - 1) at_before) ∙ absent;
           said_is = ap (λ (k : ℕ). reply.Added k at ∷ []) adds.0;
-          position = refl
+          position = refl;
         } in
         record {
           exchange = exchange;
@@ -191,8 +191,8 @@ module _ (W bits : ℕ) (history : List JournalEntry) (s : State) (rows : List (
                 rows_hold = new_rows;
                 queries_hold = holds_later bits history (entry ∷ []) queries s at means.queries_hold;
                 position = at_is;
-                who = means.who
-              }))
+                who = means.who;
+              }));
         }
 
     add_step : (this : Reply) (rows' : List (ℕ × List ℕ)) (result : Result Turn Failed) → AddsAs rows key stored this rows'
@@ -203,18 +203,18 @@ module _ (W bits : ℕ) (history : List JournalEntry) (s : State) (rows : List (
         let at_is : at ≡ length history = adds.3 ∙ rows_length W bits history rows means.rows_hold in
         subst (λ r. OneStep {A = Turn} W bits history s line before after result r queries) (sym adds.2)
         (quiet result (Ok (Some (Add key kept.0))) (reply.Taken taken at ∷ []) at (record s { position = at }) rows queries kept.1 refl at_is
-            (λ later. inr (inr (record {
-              not_before = omega (arith, at_is, means.position);
-              within = omega (arith, at_is, length-append history later);
-              present = ap (λ h. is_some (code_at (rows_of h) key)) (first later at at_is) ∙ present_before W bits history rows means.rows_hold key adds.1;
-              said_is = ap (λ (k : ℕ). reply.Taken k at ∷ []) adds.0;
-              position = refl
-            }))) wrote (moved at at_is))
+        (λ later. inr (inr (record {
+          not_before = omega (arith, at_is, means.position);
+          within = omega (arith, at_is, length-append history later);
+          present = ap (λ h. is_some (code_at (rows_of h) key)) (first later at at_is) ∙ present_before W bits history rows means.rows_hold key adds.1;
+          said_is = ap (λ (k : ℕ). reply.Taken k at ∷ []) adds.0;
+          position = refl;
+        }))) wrote (moved at at_is))
     add_step reply.NoMemory rows' result adds wrote =
         let kept = kept_add W (reading bits line) key stored read in
         subst (λ r. OneStep {A = Turn} W bits history s line before after result r queries) (sym adds)
         (quiet result (Ok (Some (Add key kept.0))) (reply.NoMemory ∷ []) s.position s rows queries kept.1 refl means.position
-            (λ later. inl (record { said_is = refl; position = refl; same = refl })) wrote means)
+        (λ later. inl (record { said_is = refl; position = refl; same = refl })) wrote means)
     add_step (reply.Open tag at) rows' result adds wrote = absurd adds
     add_step (reply.Hit tag dist other) rows' result adds wrote = absurd adds
     add_step (reply.More tag) rows' result adds wrote = absurd adds
@@ -232,11 +232,11 @@ module _ (W bits : ℕ) (history : List JournalEntry) (s : State) (rows : List (
     -- the state with the query that is opened at a position
     abbrev opened_at : ℕ → List ℕ → State
     opened_at at code = record s {
-        position = at;
-        opened = s.opened + 1;
-        open_count = s.open_count + 1;
-        query = with_query s.query tag (record { ordinal = s.opened; position = at; ask = ask.Range tau code; given = 0 })
-      }
+      position = at;
+      opened = s.opened + 1;
+      open_count = s.open_count + 1;
+      query = with_query s.query tag (record { ordinal = s.opened; position = at; ask = ask.Range tau code; given = 0 });
+    }
 
     opened_step : (opened : List ℕ) (at : ℕ) (queries' : Slab OpenQuery) (result : Result Turn Failed) → OpensAs rows queries tag tau stored (reply.Open opened at) queries'
         → Writes before after result (text (reply.Open opened at ∷ [])) → OneStep {A = Turn} W bits history s line before after result rows queries'
@@ -260,13 +260,13 @@ module _ (W bits : ℕ) (history : List JournalEntry) (s : State) (rows : List (
         record { within = omega (arith, at_is); hits_are = hits; given_is = puts.none_given; given_within = omega (arith, puts.none_given) } in
         quiet result (Ok (Some (Range tag tau code))) (reply.Open opened at ∷ []) at (opened_at at code) rows queries' kept.1 refl at_is
         (λ later. subst (λ o. OpensUnlessUsed o (history ++ later) s tag (ask.Range tau code) (reply.Open opened at ∷ []) at (opened_at at code)) (sym not_open)
-            (subst (λ b. OpensUnlessMany b (history ++ later) s tag (ask.Range tau code) (reply.Open opened at ∷ []) at (opened_at at code)) (sym not_many)
-            (inr (record {
-              not_before = omega (arith, at_is, means.position);
-              within = omega (arith, at_is, length-append history later);
-              said_is = ap (λ (t : List ℕ). reply.Open t at ∷ []) opens.0;
-              opened = refl
-            }))))
+        (subst (λ b. OpensUnlessMany b (history ++ later) s tag (ask.Range tau code) (reply.Open opened at ∷ []) at (opened_at at code)) (sym not_many)
+        (inr (record {
+          not_before = omega (arith, at_is, means.position);
+          within = omega (arith, at_is, length-append history later);
+          said_is = ap (λ (t : List ℕ). reply.Open t at ∷ []) opens.0;
+          opened = refl;
+        }))))
         wrote
         (record {
           rows_hold = means.rows_hold;
@@ -275,7 +275,7 @@ module _ (W bits : ℕ) (history : List JournalEntry) (s : State) (rows : List (
               (λ x is. let never : None ≡ Some x = sym puts.puts.was_empty ∙ is in cc)
               (opened_at at code) (λ that. refl) (omega (arith, holds.count, puts.puts.one_more));
           position = at_is;
-          who = means.who
+          who = means.who;
         })
 
     -- an opening that is refused
@@ -303,12 +303,12 @@ module _ (W bits : ℕ) (history : List JournalEntry) (s : State) (rows : List (
         let this = is_open bits history queries tag used.1 (s.query tag) (holds.found tag) used.2 in
         unopened result (reply.Bad fault) queries' same
         (λ code later. subst (λ o. OpensUnlessUsed o (history ++ later) s tag (ask.Range tau code) (reply.Bad fault ∷ []) s.position s) (sym this.1)
-            (record { said_is = ap (λ (f : Bad). reply.Bad f ∷ []) used.0; position = refl; same = refl })) wrote
+        (record { said_is = ap (λ (f : Bad). reply.Bad f ∷ []) used.0; position = refl; same = refl })) wrote
     refused_step fault queries' result (inr full) same wrote =
         let many : nat_le most_open s.open_count ≡ true = le-leb most_open s.open_count (omega (arith, means.queries_hold.count, full.2)) in
         unopened result (reply.Bad fault) queries' same
         (λ code later. where_free true full.1 many (history ++ later) code (reply.Bad fault)
-            (record { said_is = ap (λ (f : Bad). reply.Bad f ∷ []) full.0; position = refl; same = refl })) wrote
+        (record { said_is = ap (λ (f : Bad). reply.Bad f ∷ []) full.0; position = refl; same = refl })) wrote
 
     open_step : (this : Reply) (queries' : Slab OpenQuery) (result : Result Turn Failed) → OpensAs rows queries tag tau stored this queries'
         → Writes before after result (text (this ∷ [])) → OneStep {A = Turn} W bits history s line before after result rows queries'
@@ -354,7 +354,7 @@ module _ (W bits : ℕ) (history : List JournalEntry) (s : State) (rows : List (
             within = keeps.within;
             hits_are = keeps.hits_are;
             given_is = ap (λ (n : ℕ). min (n + count) (length found.held.hits.items)) keeps.given_is ∙ ap (λ (l : List Hit). min (query.given + count) (length l)) keeps.hits_are;
-            given_within = omega arith
+            given_within = omega arith;
           } in
           record {
             rows_hold = means.rows_hold;
@@ -363,7 +363,7 @@ module _ (W bits : ℕ) (history : List JournalEntry) (s : State) (rows : List (
                 (λ x is. let both : Some x ≡ Some found.held = sym is ∙ found.is_there in let same : x ≡ found.held = cc in ap (λ (h : OpenQuery). h.tag) same ∙ found.has_tag)
                 (given_to query (length whole_answer)) (λ that. refl) (holds.count ∙ sym gives.same_number);
             position = means.position;
-            who = means.who
+            who = means.who;
           }
 
       given_step : OneStep {A = Turn} W bits history s line before after result rows queries'
@@ -374,13 +374,13 @@ module _ (W bits : ℕ) (history : List JournalEntry) (s : State) (rows : List (
           let within : query.position ≤ length history = keeps.within in
           quiet_by result (Ok (Some (Next tag count))) replies s.position (given_to query (length whole_answer)) rows queries' (kept_next W (reading bits line) tag count read) refl means.position
           (λ later.
-            let same : answer bits (rows_of (take query.position (history ++ later))) query.ask ≡ whole_answer =
-            ap (λ h. answer bits (rows_of h) query.ask) (take-append-le query.position history later within) in
-            subst (λ o. GivesIfOpen o bits (history ++ later) s tag count replies s.position (given_to query (length whole_answer))) (sym open_query) (record {
-              said_is = ap (next_replies tag count query.given) (sym same);
-              position = refl;
-              given = ap (λ (l : List Hit). given_to query (length l)) (sym same)
-            }))
+          let same : answer bits (rows_of (take query.position (history ++ later))) query.ask ≡ whole_answer =
+          ap (λ h. answer bits (rows_of h) query.ask) (take-append-le query.position history later within) in
+          subst (λ o. GivesIfOpen o bits (history ++ later) s tag count replies s.position (given_to query (length whole_answer))) (sym open_query) (record {
+            said_is = ap (next_replies tag count query.given) (sym same);
+            position = refl;
+            given = ap (λ (l : List Hit). given_to query (length l)) (sym same);
+          }))
           (subst (λ r. Writes before after result (text r)) said (gives.wrote keeps.given_within))
           (on_ok_then result _ _ given_means (gives.updates keeps.given_within))
 
@@ -401,8 +401,8 @@ module _ (W bits : ℕ) (history : List JournalEntry) (s : State) (rows : List (
         let not_open : s.query tag ≡ None = is_not_open bits history queries tag (s.query tag) (means.queries_hold.found tag) free in
         subst (OneStep {A = Turn} W bits history s line before after result rows) (sym same)
         (quiet result (Ok (Some (Next tag count))) (reply.Bad (bad 8) ∷ []) s.position s rows queries (kept_next W (reading bits line) tag count read) refl means.position
-            (λ later. subst (λ o. GivesIfOpen o bits (history ++ later) s tag count (reply.Bad (bad 8) ∷ []) s.position s) (sym not_open) (record { said_is = refl; position = refl; same = refl }))
-            (writes_one before after result (reply.Bad (bad 8)) wrote) means)
+        (λ later. subst (λ o. GivesIfOpen o bits (history ++ later) s tag count (reply.Bad (bad 8) ∷ []) s.position s) (sym not_open) (record { said_is = refl; position = refl; same = refl }))
+        (writes_one before after result (reply.Bad (bad 8)) wrote) means)
 
     pub next_turn : (queries' : Slab OpenQuery) (result : Result Turn Failed) → GivesAs queries tag count before after result queries'
         → TurnIs result W bits history s line before after rows queries'

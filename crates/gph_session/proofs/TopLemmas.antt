@@ -1,8 +1,8 @@
 -- Lemmas on the top call: a new session, the words, and that no input within the limit is turned away.
-use Rattle.std.proofs.Common.{◌≡◌, ℕ, ◌+◌, ◌%◌, ◌==◌, ◌&&◌, ◌≤◌, ◌<◌, Bool, true, false, cond, List, [], ◌∷◌, ◌++◌, length, take, Option, Some, None, refl, sym, ap, ◌∙◌, subst, arith, inl, inr, ◌⊎◌, append_assoc, length-append, suc, get_or, count_by, is_some}
+use Rattle.std.proofs.Common.{◌≡◌, ℕ, ◌≤◌, ◌<◌, true, false, List, [], ◌∷◌, ◌++◌, length, take, Option, Some, None, refl, sym, ap, ◌∙◌, arith, inl, inr, append_assoc, length-append, suc, get_or, count_by, is_some}
 use Rattle.std.specs.Io.KnownBytes.{Consumes}
 use Rattle.std.proofs.lemmas.List.{take_at}
-use Rattle.slab.specs.Slab.{Slab, get, slab_len}
+use Rattle.slab.specs.Slab.{Slab, get}
 use Rattle.line_io.specs.Faults.{Rose}
 use Rattle.line_io.specs.Kept.{kept}
 use Rattle.line_io.specs.Lines.{lines}
@@ -12,7 +12,6 @@ use Rattle.gph_session.specs.declared.outcome.Outcome.TheVariants.{Done, Usage, 
 use Rattle.gph_session.specs.State.{new_session}
 use Rattle.gph_session.specs.Run.{has_quit}
 use Rattle.gph_session.specs.Outcomes.{Ends, ends, EndsAs, Untouched, IsWithin, IsDoneOrNoMemory, IsUnread, IsInputLimit}
-use Rattle.gph_session.specs.Meaning.{Means, HoldsRows, HoldsQueries}
 use Rattle.gph_session.specs.Flow.{Stands}
 
 -- a session before its first byte
@@ -31,12 +30,12 @@ stands_new W bits rows queries held no_rows no_queries nothing =
         queries_hold = record {
           found = λ tag place query is. let never : None ≡ Some query = sym (vacant place) ∙ is in cc;
           alone = λ j k x y is_x is_y tags. let never : None ≡ Some x = sym (vacant j) ∙ is_x in cc;
-          count = sym (ap (λ (slots : List (Option OpenQuery)). count_by is_some slots) no_queries)
+          count = sym (ap (λ (slots : List (Option OpenQuery)). count_by is_some slots) no_queries);
         };
         position = refl;
-        who = refl
+        who = refl;
       };
-      held_is = nothing
+      held_is = nothing;
     }
 
 -- a session that was served has read
@@ -52,9 +51,9 @@ nothing_unread InputLimit bits limit source source' sink sink' ended unread = ab
 front_taken : (input : List ℕ) (left' : Option (List ℕ)) (bytes : List ℕ) (past : ℕ) → Consumes (Some input) left' (bytes ++ past ∷ []) → (length bytes < length input) × (take (length bytes) input ≡ bytes)
 front_taken input None bytes past taken = absurd taken
 front_taken input (Some rest) bytes past taken = (
-    omega (arith, ap length taken, length-append (bytes ++ past ∷ []) rest, length-append bytes (past ∷ [])),
-    ap (take (length bytes)) (taken ∙ append_assoc bytes (past ∷ []) rest) ∙ take_at bytes (past ∷ rest) (length bytes) refl,
-  )
+  omega (arith, ap length taken, length-append (bytes ++ past ∷ []) rest, length-append bytes (past ∷ [])),
+  ap (take (length bytes)) (taken ∙ append_assoc bytes (past ∷ []) rest) ∙ take_at bytes (past ∷ rest) (length bytes) refl,
+)
 
 not_within : (bits limit : ℕ) (input : List ℕ) (source' sink sink' : Ends) (faults : ℕ) → IsInputLimit bits limit (ends (Some input) faults) source' sink sink' → IsWithin bits limit input → ⊥
 not_within bits limit input source' sink sink' faults reached (inl short) =

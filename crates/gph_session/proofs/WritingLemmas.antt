@@ -1,6 +1,5 @@
 -- Lemmas on what is written piece by piece, and on the text of hits.
-use Rattle.std.proofs.Common.{◌≡◌, ℕ, ◌+◌, ◌-◌, ◌≤◌, ◌<◌, min, nat_lt, Bool, true, false, if◌then◌else◌, List, [], ◌∷◌, ◌++◌, length, map, take, drop, get_or, Option, Result, Ok, Err, refl, sym, ap, ◌∙◌, subst, arith, inl, inr, append-nil, length-append}
-use Rattle.std.specs.List.{flat_map}
+use Rattle.std.proofs.Common.{◌≡◌, ℕ, ◌+◌, ◌-◌, ◌≤◌, ◌<◌, min, nat_lt, Bool, if◌then◌else◌, List, [], ◌∷◌, ◌++◌, length, take, drop, get_or, Option, Result, Ok, Err, sym, ap, ◌∙◌, subst, arith, inl, inr, append-nil, length-append}
 use Rattle.std.specs.Io.KnownBytes.{Appends}
 use Rattle.std.proofs.KnownBytes.{Appends-trans}
 use Rattle.std.proofs.Math.Seq.{take-append-add}
@@ -63,9 +62,9 @@ end_reply tag number more = if more then reply.More tag else reply.Done tag numb
 
 same_test : (given count number m : ℕ) → given ≤ number → m ≡ min (number - given) count → nat_lt (given + m) number ≡ nat_lt (given + count) number
 same_test given count number m within is = elim (cases_lt (given + count) number) [
-      inl lt ↦ let fewer : given + m < number = omega arith in lt-ltb (given + m) number fewer ∙ sym (lt-ltb (given + count) number lt)
-    | inr ge ↦ let all : number ≤ given + m = omega arith in le-ltb (given + m) number all ∙ sym (le-ltb (given + count) number ge)
-    ]
+  | inl lt ↦ let fewer : given + m < number = omega arith in lt-ltb (given + m) number fewer ∙ sym (lt-ltb (given + count) number lt)
+  | inr ge ↦ let all : number ≤ given + m = omega arith in le-ltb (given + m) number all ∙ sym (le-ltb (given + count) number ge)
+]
 
 pub next_text : (tag : List ℕ) (hits : List Hit) (given count start m : ℕ) → given ≤ length hits → start ≡ min given (length hits) → m ≡ min (length hits - start) count
     → text (hit_replies tag (take ((start + m) - start) (drop start hits))) ++ reply_line (if nat_lt (start + m) (length hits) then reply.More tag else reply.Done tag (length hits))

@@ -1,7 +1,7 @@
 -- What a session has written for what it has read, while it goes on. No public clause cites this module.
-use Rattle.std.specs.Prelude.{◌≡◌, ℕ, ◌<◌, ◌≤◌, ◌+◌, ◌⊎◌, min, true, List, [], ◌∷◌, ◌++◌, length, map, take, Option, Some, Result, Ok, Err, OnOk, OnErr, IfOk}
+use Rattle.std.specs.Prelude.{◌≡◌, ℕ, ◌<◌, ◌≤◌, ◌+◌, ◌⊎◌, min, true, List, [], ◌++◌, length, map, take, Option, Some, Result, Ok, Err, OnOk, OnErr, IfOk}
 use Rattle.std.specs.Io.KnownBytes.{Appends}
-use Rattle.slab.specs.Slab.{Slab, get, slab_len, Updates}
+use Rattle.slab.specs.Slab.{Slab, slab_len, Updates}
 use Rattle.line_io.specs.Faults.{Rose}
 use Rattle.line_io.specs.Kept.{kept}
 use Rattle.line_io.specs.Lines.{ended_lines, unended, lines}

@@ -1,21 +1,18 @@
 -- How the session's fields mean a state. No public clause cites this module.
-use Rattle.std.specs.Prelude.{◌≡◌, ◌≢◌, ℕ, ◌+◌, ◌*◌, ◌<◌, ◌≤◌, ◌⊎◌, min, Bool, true, false, List, [], ◌∷◌, length, take, Option, Some, None, is_some, Result, Ok, Err, OnOk}
+use Rattle.std.specs.Prelude.{◌≡◌, ◌≢◌, ℕ, ◌+◌, ◌*◌, ◌<◌, ◌≤◌, ◌⊎◌, Bool, true, false, List, length, take, Option, Some, None, is_some, Result, Ok, Err}
 use Rattle.std.specs.Ordering.{nat_cmp}
 use Rattle.std.specs.BTreeMap.{insert_entry}
 use Rattle.slab.specs.Slab.{Slab, get, slab_len, Updates}
 use Rattle.read_meter.specs.declared.NoMemory.{NoMemory}
-use Rattle.line_io.specs.declared.source.Failed.{Failed}
-use Rattle.hamming_model.specs.Codes.{IsCode}
 use Rattle.hamming_model.specs.Stored.{stored_rows, AreCodeRows}
 use Rattle.hamming_model.specs.History.{JournalEntry, code_at, rows_of}
 use Rattle.hamming_model.specs.Scan.{scan, answer}
 use Rattle.query_protocol.specs.Requests.{bad}
-use Rattle.query_protocol.specs.Replies.{text, reply_line}
 use Rattle.query_protocol.specs.declared.reply.Reply.{Reply}
 use Rattle.query_protocol.specs.declared.reply.Reply.TheVariants as reply
 use Rattle.gph_session.specs.declared.open_query.OpenQuery.{OpenQuery}
 use Rattle.gph_session.specs.State.{Query, State}
-use Rattle.gph_session.specs.Step.{most_open, next_replies}
+use Rattle.gph_session.specs.Step.{most_open}
 
 -- adding a row: what it answers and leaves
 abbrev pub PutsRow : List (ℕ × List ℕ) → ℕ → List ℕ → Result Bool NoMemory → List (ℕ × List ℕ) → Type 0

@@ -1,7 +1,7 @@
 -- What a whole call has read and written, for each way in which it ends.
 use Rattle.std.specs.Prelude.{◌≡◌, ℕ, ◌<◌, ◌≤◌, ◌⊎◌, Bool, true, false, List, [], ◌∷◌, ◌++◌, length, map, take, Some}
 use Rattle.std.specs.declared.option.Option.{Option}
-use Rattle.std.specs.Io.KnownBytes.{Appends, Consumes, Keeps, IsAtEnd}
+use Rattle.std.specs.Io.KnownBytes.{Appends, Consumes, IsAtEnd}
 use Rattle.line_io.specs.Faults.{Rose}
 use Rattle.line_io.specs.Lines.{lines}
 use Rattle.query_protocol.specs.Replies.{text}

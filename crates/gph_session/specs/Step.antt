@@ -49,11 +49,11 @@ pub record Opens (history : List JournalEntry) (s : State) (tag : List ℕ) (ask
   pub within : at ≤ length history
   pub said_is : replies ≡ reply.Open tag at ∷ []
   pub opened : t ≡ record s {
-      position = at;
-      opened = s.opened + 1;
-      open_count = s.open_count + 1;
-      query = with_query s.query tag (record { ordinal = s.opened; position = at; ask = asked; given = 0 })
-    }
+    position = at;
+    opened = s.opened + 1;
+    open_count = s.open_count + 1;
+    query = with_query s.query tag (record { ordinal = s.opened; position = at; ask = asked; given = 0 });
+  }
 
 -- the replies that give hits
 abbrev pub hit_replies : List ℕ → List Hit → List Reply

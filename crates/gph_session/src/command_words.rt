@@ -13,7 +13,9 @@ pub(crate) fn bits_of(words: &[String]) -> Option<u32>
 {
     match words {
         [command, option, value] => {
-            if command.as_bytes() != b"run".as_slice() || option.as_bytes() != b"--bits".as_slice() {
+            if command.as_bytes() != b"run".as_slice()
+                || option.as_bytes() != b"--bits".as_slice()
+            {
                 return None;
             }
             bits_named(value.as_bytes())
@@ -28,5 +30,9 @@ fn bits_named(value: &[u8]) -> Option<u32>
     ensures allowed { IfSome result (λ bits. IsAllowed 1 bits) }
 {
     let bits = number_of(20, 8, 64, value)?;
-    if bits % 8 == 0 { Some(bits as u32) } else { None }
+    if bits % 8 == 0 {
+        Some(bits as u32)
+    } else {
+        None
+    }
 }

@@ -60,7 +60,12 @@ impl<const W: usize> Rows<W> {
     }
 
     /// All rows at most `radius` away from the query, by distance and then by key.
-    pub(crate) fn scan(&self, alloc: Global, query: &Code<W>, radius: u32) -> Result<Vec<Hit>, NoMemory>
+    pub(crate) fn scan(
+        &self,
+        alloc: Global,
+        query: &Code<W>,
+        radius: u32,
+    ) -> Result<Vec<Hit>, NoMemory>
         requires { W ≤ 8 }
         ensures { IfOk result (λ hits. hits.items ≡ scan self.now query.now radius) }
     {
@@ -74,21 +79,28 @@ impl<const W: usize> Rows<W> {
     }
 
     // The rows at most `radius` away from the query, by key.
-    fn hits_within(&self, alloc: Global, query: &Code<W>, radius: u32) -> Result<Vec<Hit>, AllocError>
+    fn hits_within(
+        &self,
+        alloc: Global,
+        query: &Code<W>,
+        radius: u32,
+    ) -> Result<Vec<Hit>, AllocError>
         requires { W ≤ 8 }
         ensures { IfOk result (λ hits. hits.items ≡ hits_within self.now query.now radius) }
     {
         self.by_key
             .iter()
-            .map(|row| -> Hit
-                requires { W ≤ 8 }
-                ensures { result ≡ record { dist = distance row.entry.1.now query.entry.now; key = row.entry.0.now } }
-            {
-                Hit {
-                    dist: dist(row.1, query),
-                    key: *row.0,
-                }
-            })
+            .map(
+                |row| -> Hit
+                    requires { W ≤ 8 }
+                    ensures { result ≡ record { dist = distance row.entry.1.now query.entry.now; key = row.entry.0.now } }
+                {
+                    Hit {
+                        dist: dist(row.1, query),
+                        key: *row.0,
+                    }
+                },
+            )
             .filter(|hit| hit.dist <= radius)
             .collect(alloc)
     }

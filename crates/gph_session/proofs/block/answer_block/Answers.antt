@@ -1,5 +1,4 @@
-use Rattle.std.proofs.Common.{◌≡◌, ◌-◌, ◌++◌, List, [], length, take, drop, Ok, sym, ap, ◌∙◌, subst, append-nil, arith, rules}
-use Rattle.std.proofs.KnownBytes.{Appends-nil}
+use Rattle.std.proofs.Common.{◌≡◌, ◌-◌, ◌++◌, length, take, drop, ◌∙◌, subst, arith, rules}
 use Rattle.std.proofs.lemmas.List.{take_all, length-drop, length-take}
 use Rattle.gph_session.specs.Flow.{Stands}
 use Rattle.gph_session.proofs.BlockLemmas.{goes_on_by, quits_by, refused_by, still_stands}
@@ -18,10 +17,10 @@ loop-done-preserved g c = record {
   within = omega (arith, c.answer_line-taken.ensures.progress.1, length-take (length c.args.block.now - c.loop-done.done) (drop c.loop-done.done c.args.block.now), length-drop c.loop-done.done c.args.block.now);
   bits = c.answer_line-taken.ensures.bits ∙ c.loop-done.invariant.bits;
   goes = λ bytes output standing. goes_on_by g.row.W c.args.session.now.bits c.loop-done.session.bits c.loop-done.done c.answer_line-taken.result.0 c.args.block.now c.answer_line-taken.result.1
-    (g.K.Sink.held c.args.sink.now) (g.K.Sink.held c.loop-done.sink) (g.K.Sink.held c.answer_line-taken.new.sink)
-    c.args.session.now.rows c.args.session.now.queries c.args.session.now.cutter.held c.loop-done.session.rows c.loop-done.session.queries c.loop-done.session.cutter.held
-    c.answer_line-taken.new.session.rows c.answer_line-taken.new.session.queries c.answer_line-taken.new.session.cutter.held
-    c.loop-done.invariant.bits c.loop-done.invariant.goes c.answer_line-taken.ensures.flow bytes output standing (search rules);
+      (g.K.Sink.held c.args.sink.now) (g.K.Sink.held c.loop-done.sink) (g.K.Sink.held c.answer_line-taken.new.sink)
+      c.args.session.now.rows c.args.session.now.queries c.args.session.now.cutter.held c.loop-done.session.rows c.loop-done.session.queries c.loop-done.session.cutter.held
+      c.answer_line-taken.new.session.rows c.answer_line-taken.new.session.queries c.answer_line-taken.new.session.cutter.held
+      c.loop-done.invariant.bits c.loop-done.invariant.goes c.answer_line-taken.ensures.flow bytes output standing (search rules);
   never_falls = omega (arith, c.loop-done.invariant.never_falls, c.answer_line-taken.ensures.cause.never_falls);
 }
 

@@ -1,4 +1,4 @@
-use Rattle.std.proofs.Common.{[], take, ap, ◌∙◌}
+use Rattle.std.proofs.Common.{[]}
 use Rattle.line_io.specs.Lines.{unended}
 use Rattle.gph_session.proofs.BlockLemmas.{cut_end, no_end}
 use Rattle.gph_session.proofs.block.answer_end.Goals as goal

@@ -19,14 +19,18 @@ returns-in-Some-get_mut-clause-gives g c =
     let both : Some found.held ≡ Some held = sym found.is_there ∙ is_there in
     let same : found.held ≡ held = cc in
     let hits : c.deref.result.now ≡ held.hits.items = c.deref.ensures.value in
-    inr (place, record { held = held; is_there = is_there; has_tag = ap (λ (q : OpenQuery). q.tag) (sym same) ∙ found.has_tag }, record {
-      wrote = λ within. subst (λ (l : List Hit). Writes (g.K.Sink.held c.args.sink.now) (g.K.Sink.held c.give_hits.new.sink) c.give_hits.result (text (next_replies c.args.tag.now c.args.count held.given l))) hits
-          (c.give_hits.ensures.written (subst (λ (l : List Hit). held.given ≤ length l) (sym hits) within));
-      updates = λ within. on_ok_then c.give_hits.result _ _
-          (λ given. subst (λ (n : ℕ). Updates queries (with_value queries place (record held { given = c.give_hits.new.given })) place (Some (record held { given = n })))
-              (given ∙ ap (λ (l : List Hit). min (held.given + c.args.count) (length l)) hits)
-              (updates_back queries place held (record held { given = c.give_hits.new.given }) is_there))
-          (c.give_hits.ensures.given (subst (λ (l : List Hit). held.given ≤ length l) (sym hits) within));
-      goes = c.give_hits.ensures.goes;
-      same_number = number_back queries place held (record held { given = c.give_hits.new.given }) is_there
-    })
+    inr (
+      place,
+      record { held = held; is_there = is_there; has_tag = ap (λ (q : OpenQuery). q.tag) (sym same) ∙ found.has_tag },
+      record {
+        wrote = λ within. subst (λ (l : List Hit). Writes (g.K.Sink.held c.args.sink.now) (g.K.Sink.held c.give_hits.new.sink) c.give_hits.result (text (next_replies c.args.tag.now c.args.count held.given l))) hits
+            (c.give_hits.ensures.written (subst (λ (l : List Hit). held.given ≤ length l) (sym hits) within));
+        updates = λ within. on_ok_then c.give_hits.result _ _
+            (λ given. subst (λ (n : ℕ). Updates queries (with_value queries place (record held { given = c.give_hits.new.given })) place (Some (record held { given = n })))
+            (given ∙ ap (λ (l : List Hit). min (held.given + c.args.count) (length l)) hits)
+            (updates_back queries place held (record held { given = c.give_hits.new.given }) is_there))
+            (c.give_hits.ensures.given (subst (λ (l : List Hit). held.given ≤ length l) (sym hits) within));
+        goes = c.give_hits.ensures.goes;
+        same_number = number_back queries place held (record held { given = c.give_hits.new.given }) is_there;
+      },
+    )

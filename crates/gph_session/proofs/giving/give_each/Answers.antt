@@ -39,6 +39,6 @@ loop-hit-preserved g c =
     record {
       given = subst (λ t. Appends (held c.args.sink.now) (held c.write_all.new.sink) t) (sym (hits_more tag hits at no_hit within))
           (Appends-trans (held c.args.sink.now) (held c.loop-hit.sink) (held c.write_all.new.sink) (text (hit_replies tag (take at hits))) (reply_line (reply.Hit tag hit.dist hit.key))
-              c.loop-hit.invariant.given wrote);
+          c.loop-hit.invariant.given wrote);
       never_falls = omega (arith, c.loop-hit.invariant.never_falls, c.in-Ok.ensures.cause.never_falls);
     }

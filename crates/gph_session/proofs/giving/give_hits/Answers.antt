@@ -1,4 +1,4 @@
-use Rattle.std.proofs.Common.{◌+◌, ◌-◌, length, take, drop, ap, subst}
+use Rattle.std.proofs.Common.{◌+◌, ◌-◌, take, drop, subst}
 use Rattle.query_protocol.specs.Replies.{text, reply_line}
 use Rattle.gph_session.specs.Step.{hit_replies}
 use Rattle.gph_session.specs.Flow.{Writes}

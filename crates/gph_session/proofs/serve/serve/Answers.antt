@@ -76,9 +76,9 @@ loop-session-preserved g c =
     (g.K.Sink.faults c.args.sink.now) (g.K.Sink.faults c.loop-session.sink) (g.K.Sink.faults c.answer_block.new.sink)
     c.loop-session.session.rows c.loop-session.session.queries c.loop-session.session.cutter.held c.loop-session.invariant.within c.loop-session.invariant.goes
     c.loop-session.session.bits c.loop-session.invariant.bits piece read fits c.answer_block.new.session.rows c.answer_block.new.session.queries c.answer_block.new.session.cutter.held (λ bytes output standing.
-        let is : c.answer_block.result ≡ Ok Goes = search rules in
-        let f = c.answer_block.ensures.flow bytes output standing in
-        (f.0, f.1, subst (λ r. FlowIs r g.row.W c.loop-session.session.bits (bytes ++ piece) (output ++ f.0) c.answer_block.new.session.rows c.answer_block.new.session.queries c.answer_block.new.session.cutter.held) is f.2)) in
+    let is : c.answer_block.result ≡ Ok Goes = search rules in
+    let f = c.answer_block.ensures.flow bytes output standing in
+    (f.0, f.1, subst (λ r. FlowIs r g.row.W c.loop-session.session.bits (bytes ++ piece) (output ++ f.0) c.answer_block.new.session.rows c.answer_block.new.session.queries c.answer_block.new.session.cutter.held) is f.2)) in
     record {
       within = omega (arith, long, fits);
       bits = c.answer_block.ensures.bits ∙ c.loop-session.invariant.bits;
@@ -104,9 +104,9 @@ returns-in-Ok-Quits g c =
     (g.K.Sink.faults c.args.sink.now) (g.K.Sink.faults c.loop-session.sink) (g.K.Sink.faults c.answer_block.new.sink)
     c.loop-session.session.rows c.loop-session.session.queries c.loop-session.session.cutter.held c.loop-session.invariant.within c.loop-session.invariant.goes
     c.loop-session.session.bits c.loop-session.invariant.bits piece read fits (λ bytes output standing.
-        let is : c.answer_block.result ≡ Ok Quits = search rules in
-        let f = c.answer_block.ensures.flow bytes output standing in
-        (f.0, f.1, subst (λ r. FlowIs r g.row.W c.loop-session.session.bits (bytes ++ piece) (output ++ f.0) c.answer_block.new.session.rows c.answer_block.new.session.queries c.answer_block.new.session.cutter.held) is f.2))
+    let is : c.answer_block.result ≡ Ok Quits = search rules in
+    let f = c.answer_block.ensures.flow bytes output standing in
+    (f.0, f.1, subst (λ r. FlowIs r g.row.W c.loop-session.session.bits (bytes ++ piece) (output ++ f.0) c.answer_block.new.session.rows c.answer_block.new.session.queries c.answer_block.new.session.cutter.held) is f.2))
 
 pub returns-in-Err-answer_block : goal.returns-in-Err-answer_block
 returns-in-Err-answer_block g c =

@@ -1,4 +1,4 @@
-use Rattle.std.proofs.Common.{◌≡◌, Ok, Some, ap, sym, ◌∙◌}
+use Rattle.std.proofs.Common.{Ok, Some, ap, sym, ◌∙◌}
 use Rattle.gph_session.proofs.StepLemmas.{add_turn, range_turn, next_turn}
 use Rattle.gph_session.proofs.session.meet.Goals as goal
 

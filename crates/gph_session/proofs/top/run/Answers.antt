@@ -6,8 +6,19 @@ use Rattle.gph_session.proofs.TopLemmas.{stands_new, nothing_unread, is_complete
 use Rattle.gph_session.proofs.top.run.Goals as goal
 
 pub serve-requires : goal.serve-requires
-serve-requires g c = (search rules, (search rules, (subst (IsAllowed 1) (sym c.in-Ok.ensures.bits) c.in-Some.ensures.allowed, (search rules,
-    stands_new 1 c.in-Ok.session.bits c.in-Ok.session.rows c.in-Ok.session.queries c.in-Ok.session.cutter.held c.in-Ok.ensures.rows c.in-Ok.ensures.queries c.in-Ok.ensures.cutter))))
+serve-requires g c = (
+  search rules,
+  (
+    search rules,
+    (
+      subst (IsAllowed 1) (sym c.in-Ok.ensures.bits) c.in-Some.ensures.allowed,
+      (
+        search rules,
+        stands_new 1 c.in-Ok.session.bits c.in-Ok.session.rows c.in-Ok.session.queries c.in-Ok.session.cutter.held c.in-Ok.ensures.rows c.in-Ok.ensures.queries c.in-Ok.ensures.cutter,
+      ),
+    ),
+  ),
+)
 
 pub returns-clause-unread : goal.returns-clause-unread
 returns-clause-unread g c = nothing_unread c.serve.result c.in-Ok.session.bits INPUT_MOST
