@@ -1,3 +1,5 @@
-pub mod FormLemmas
-pub mod WordLemmas
 pub mod CodeLemmas
+pub mod FeedLemmas
+pub mod FormLemmas
+pub mod JoinedLemmas
+pub mod WordLemmas

@@ -1,6 +1,7 @@
 -- The text of replies: a line each.
-use Rattle.std.specs.Prelude.{ℕ, ◌==◌, if◌then◌else◌, List, [], ◌∷◌, ◌++◌, codes, decimal}
-use Rattle.std.specs.List.{flat_map}
+use Rattle.std.specs.Prelude.{◌≡◌, ℕ, ◌<◌, ◌^◌, ◌==◌, not, Bool, true, if◌then◌else◌, List, [], ◌∷◌, ◌++◌, codes, decimal}
+use Rattle.std.specs.List.{flat_map, list_all}
+use Rattle.query_protocol.specs.Forms.{is_tag}
 use Rattle.query_protocol.specs.declared.bad.Bad.{Bad}
 use Rattle.query_protocol.specs.declared.reply.Reply.{Reply}
 use Rattle.query_protocol.specs.declared.reply.Reply.TheVariants as reply
@@ -28,3 +29,22 @@ reply_line reply = reply_text reply ++ 10 ∷ []
 -- the text of replies
 abbrev pub text : List Reply → List ℕ
 text replies = flat_map reply_line replies
+
+-- no byte is a line feed
+abbrev pub has_no_feed : List ℕ → Bool
+has_no_feed bytes = list_all (λ byte. not (byte == 10)) bytes
+
+-- a number of at most 64 bits
+abbrev pub IsWord64 : ℕ → Type 0
+IsWord64 number = number < 2 ^ 64
+
+-- what a reply may hold: numbers of at most 64 bits, and tags of the form of tags
+abbrev pub IsWritten : Reply → Type 0
+IsWritten (reply.Added key at) = IsWord64 key × IsWord64 at
+IsWritten (reply.Taken key at) = IsWord64 key × IsWord64 at
+IsWritten (reply.Open tag at) = (is_tag tag ≡ true) × IsWord64 at
+IsWritten (reply.Hit tag dist key) = (is_tag tag ≡ true) × IsWord64 dist × IsWord64 key
+IsWritten (reply.More tag) = is_tag tag ≡ true
+IsWritten (reply.Done tag count) = (is_tag tag ≡ true) × IsWord64 count
+IsWritten (reply.Bad fault) = IsWord64 fault.number × IsWord64 fault.word
+IsWritten reply.NoMemory = Unit {0}

@@ -25,3 +25,9 @@ is_printable line = list_all (λ byte. nat_le 32 byte && nat_le byte 126) line
 abbrev pub IsBegun : List ℕ → Type 0
 IsBegun [] = Unit {0}
 IsBegun (byte ∷ bytes) = byte ≢ 32
+
+-- words joined by single spaces
+abbrev pub joined : List (List ℕ) → List ℕ
+joined [] = []
+joined (word ∷ []) = word
+joined (word ∷ next ∷ words) = word ++ 32 ∷ joined (next ∷ words)

@@ -4,6 +4,7 @@
 
 mod bad;
 mod forms;
+mod laws;
 mod reading;
 mod reply;
 mod request;
@@ -11,6 +12,7 @@ mod tag;
 mod words;
 
 pub use bad::Bad;
+pub use laws::{lines_of_replies, words_of_joined};
 pub use reading::read_line;
 pub use reply::{Reply, write_hit};
 pub use request::{Request, RequestWord};

@@ -1,0 +1,112 @@
+-- No line feed stands within a reply.
+use Rattle.std.proofs.Common.{◌≡◌, ℕ, ◌<◌, ◌^◌, ◌≤◌, ◌==◌, ◌&&◌, not, nat_lt, nat_le, Bool, true, false, List, [], ◌∷◌, ◌++◌, if◌then◌else◌, length, codes, decimal, refl, subst, arith}
+use Rattle.std.proofs.lemmas.Bool.Decides.{nat_tests}
+use Rattle.std.proofs.lemmas.Fmt.{digits_decimal}
+use Rattle.std.proofs.lemmas.List.Folds.{list_all-append}
+use Rattle.std.proofs.lemmas.Str.Parse.{numerals_by_value, tells_digits, digit_from_value}
+use Rattle.std.specs.Char.{digit_value}
+use Rattle.std.specs.Int.{IsInRange}
+use Rattle.std.specs.List.{list_all}
+use Rattle.std.specs.Str.Parse.{AllDigits}
+use Rattle.query_protocol.specs.Forms.{is_tag, is_letter_or_digit}
+use Rattle.query_protocol.specs.Replies.{has_no_feed, IsWritten, reply_text, fault_text}
+use Rattle.query_protocol.specs.declared.bad.Bad.{Bad}
+use Rattle.query_protocol.specs.declared.reply.Reply.{Reply}
+use Rattle.query_protocol.specs.declared.reply.Reply.TheVariants as reply
+
+-- two tests that are true
+both : (a b : Bool) → a ≡ true → b ≡ true → (a && b) ≡ true
+both true true first second = refl
+both true false first second = second
+both false b first second = first
+
+-- one text after another
+pub no_feed_joined : (a b : List ℕ) → has_no_feed a ≡ true → has_no_feed b ≡ true → has_no_feed (a ++ b) ≡ true
+no_feed_joined a b first second =
+    rw (list_all-append (λ byte. not (byte == 10)) a b) (both (has_no_feed a) (has_no_feed b) first second)
+
+-- a digit is no line feed
+digit_no_feed : (byte : ℕ) → IsInRange 48 57 byte → not (byte == 10) ≡ true
+digit_no_feed byte range = grind (arith, nat_tests)
+
+-- digits
+digits_no_feed : (digits : List ℕ) → AllDigits 10 digits → has_no_feed digits ≡ true
+digits_no_feed [] all = refl
+digits_no_feed (byte ∷ bytes) all =
+    both (not (byte == 10)) (has_no_feed bytes) (digit_no_feed byte (digit_from_value byte all.0)) (digits_no_feed bytes all.1)
+
+-- a number
+pub number_no_feed : (number : ℕ) → number < 2 ^ 64 → has_no_feed (decimal number) ≡ true
+number_no_feed number small =
+    digits_no_feed (decimal number) (digits_decimal (numerals_by_value (AllDigits 10) tells_digits) number small)
+
+-- a byte that passes the test for a line feed
+feed_is : (byte : ℕ) → (byte == 10) ≡ true → byte ≡ 10
+feed_is byte passed = grind (arith, nat_tests)
+
+-- a letter or a digit, by whether it is a line feed
+letter_step : (byte : ℕ) (feed : Bool) → (byte == 10) ≡ feed → is_letter_or_digit byte ≡ true → not feed ≡ true
+letter_step byte true passed letter =
+    let IsLetter : ℕ → Type 0 = λ (n : ℕ). is_letter_or_digit n ≡ true in subst IsLetter (feed_is byte passed) letter
+letter_step byte false passed letter = refl
+
+-- a letter or a digit is no line feed
+letter_no_feed : (byte : ℕ) → is_letter_or_digit byte ≡ true → not (byte == 10) ≡ true
+letter_no_feed byte letter = letter_step byte (byte == 10) refl letter
+
+-- two tests that are true together
+parts : (a b : Bool) → (a && b) ≡ true → (a ≡ true) × (b ≡ true)
+parts true b all = (refl, all)
+parts false b all = (all, cc)
+
+-- letters and digits
+letters_no_feed : (bytes : List ℕ) → list_all is_letter_or_digit bytes ≡ true → has_no_feed bytes ≡ true
+letters_no_feed [] all = refl
+letters_no_feed (byte ∷ bytes) all =
+    let split = parts (is_letter_or_digit byte) (list_all is_letter_or_digit bytes) all in
+    both (not (byte == 10)) (has_no_feed bytes) (letter_no_feed byte split.0) (letters_no_feed bytes split.1)
+
+-- a tag
+pub tag_no_feed : (tag : List ℕ) → is_tag tag ≡ true → has_no_feed tag ≡ true
+tag_no_feed tag is =
+    letters_no_feed tag
+    (parts (nat_le 1 (length tag) && nat_le (length tag) 16) (list_all is_letter_or_digit tag) is).1
+
+-- a text with three parts of its own, in the order word, text, word, text
+four : (a b c d : List ℕ) → has_no_feed a ≡ true → has_no_feed b ≡ true → has_no_feed c ≡ true → has_no_feed d ≡ true
+    → has_no_feed (a ++ b ++ c ++ d) ≡ true
+four a b c d first second third fourth =
+    no_feed_joined (a ++ b ++ c) d (no_feed_joined (a ++ b) c (no_feed_joined a b first second) third) fourth
+
+-- the text of a fault
+fault_no_feed : (fault : Bad) → fault.number < 2 ^ 64 → fault.word < 2 ^ 64 → has_no_feed (fault_text fault) ≡ true
+fault_no_feed fault number word = step (fault.number == 5)
+  where
+    front : has_no_feed (codes "bad " ++ decimal fault.number) ≡ true
+    front = no_feed_joined (codes "bad ") (decimal fault.number) refl (number_no_feed fault.number number)
+
+    back : has_no_feed (codes " " ++ decimal fault.word) ≡ true
+    back = no_feed_joined (codes " ") (decimal fault.word) refl (number_no_feed fault.word word)
+
+    step : (five : Bool) → has_no_feed (codes "bad " ++ decimal fault.number ++ (if five then codes " " ++ decimal fault.word else [])) ≡ true
+    step true = no_feed_joined (codes "bad " ++ decimal fault.number) (codes " " ++ decimal fault.word) front back
+    step false = no_feed_joined (codes "bad " ++ decimal fault.number) [] front refl
+
+-- the text of a reply
+pub reply_no_feed : (one : Reply) → IsWritten one → has_no_feed (reply_text one) ≡ true
+reply_no_feed (reply.Added key at) is =
+    four (codes "added ") (decimal key) (codes " at ") (decimal at) refl (number_no_feed key is.0) refl (number_no_feed at is.1)
+reply_no_feed (reply.Taken key at) is =
+    four (codes "taken ") (decimal key) (codes " at ") (decimal at) refl (number_no_feed key is.0) refl (number_no_feed at is.1)
+reply_no_feed (reply.Open tag at) is =
+    four (codes "open ") tag (codes " at ") (decimal at) refl (tag_no_feed tag is.0) refl (number_no_feed at is.1)
+reply_no_feed (reply.Hit tag dist key) is =
+    no_feed_joined (codes "hit " ++ tag ++ codes " " ++ decimal dist ++ codes " ") (decimal key)
+    (no_feed_joined (codes "hit " ++ tag ++ codes " " ++ decimal dist) (codes " ")
+    (four (codes "hit ") tag (codes " ") (decimal dist) refl (tag_no_feed tag is.0) refl (number_no_feed dist is.1)) refl)
+    (number_no_feed key is.2)
+reply_no_feed (reply.More tag) is = no_feed_joined (codes "more ") tag refl (tag_no_feed tag is)
+reply_no_feed (reply.Done tag count) is =
+    four (codes "done ") tag (codes " ") (decimal count) refl (tag_no_feed tag is.0) refl (number_no_feed count is.1)
+reply_no_feed (reply.Bad fault) is = fault_no_feed fault is.0 is.1
+reply_no_feed reply.NoMemory is = refl
