@@ -28,6 +28,10 @@ radius_of bits word = number_of 3 0 bits word
 abbrev pub count_of : List ℕ → Option ℕ
 count_of word = number_of 5 1 65536 word
 
+-- a shard's number
+abbrev pub shard_of : List ℕ → Option ℕ
+shard_of word = number_of 2 0 99 word
+
 -- a code of so many bits
 abbrev pub code_of : ℕ → List ℕ → Option (List ℕ)
 code_of bits word =

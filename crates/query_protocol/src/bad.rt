@@ -13,7 +13,7 @@ pub struct Bad {
 impl Bad {
     /// The fault of a line of more than 4,096 bytes, which is judged first.
     pub fn line_too_long() -> Bad
-        ensures { (bits : ℕ) (line : List ℕ) → 4096 < length line → reading bits line ≡ Err result }
+        ensures { (bits shards : ℕ) (line : List ℕ) → 4096 < length line → reading bits shards line ≡ Err result }
     {
         Bad::of_line(1)
     }

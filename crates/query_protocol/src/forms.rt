@@ -6,7 +6,7 @@ ghost use Rattle.std.specs.Char.{digit_value};
 ghost use Rattle.std.specs.Str.Parse.{digits_value, AllDigits};
 ghost use Rattle.hamming_model.specs.Codes.{padded};
 ghost use Rattle.gph_codes.specs.Allowed.{IsAllowed};
-ghost use Rattle.query_protocol.specs.Forms.{is_decimal, number_of, key_of, radius_of, count_of, code_of, is_letter_or_digit, is_tag};
+ghost use Rattle.query_protocol.specs.Forms.{is_decimal, number_of, key_of, radius_of, count_of, code_of, shard_of, is_letter_or_digit, is_tag};
 ghost use Rattle.query_protocol.specs.declared.tag.TheConstants.{TAG_MOST};
 
 use crate::tag::TAG_MOST;
@@ -50,6 +50,16 @@ pub(crate) fn count_of(word: &[u8]) -> Option<u32>
     ensures { result ≡ count_of word.now }
 {
     match number_of(5, 1, 65536, word) {
+        None => None,
+        Some(value) => Some(value as u32),
+    }
+}
+
+/// A shard's number.
+pub(crate) fn shard_of(word: &[u8]) -> Option<u32>
+    ensures { result ≡ shard_of word.now }
+{
+    match number_of(2, 0, 99, word) {
         None => None,
         Some(value) => Some(value as u32),
     }

@@ -5,56 +5,68 @@ ghost use Rattle.gph_codes.specs.Allowed.{IsAllowed};
 ghost use Rattle.line_io.specs.declared.cutter.TheConstants.{LINE_MOST};
 ghost use Rattle.query_protocol.specs.Words.{words};
 ghost use Rattle.query_protocol.specs.Requests.{reading, of_words, stored_reading, request_word, with_words};
-ghost use Rattle.query_protocol.specs.declared.request.RequestWord.TheVariants.{AddWord, RangeWord, NextWord, QuitWord};
+ghost use Rattle.query_protocol.specs.declared.request.RequestWord.TheVariants.{AddWord, RangeWord, NextWord, LayoutWord, QuitWord};
 
-use crate::forms::{code_of, count_of, key_of, radius_of};
+use crate::forms::{code_of, count_of, key_of, radius_of, shard_of};
 use crate::words::{is_printable, next_word};
 use crate::{Bad, Request, RequestWord, Tag};
 
-/// What a line asks, where codes have `bits` bits: None where the line has no word, else a request or
-/// the line's first fault. The line comes without its end; for a longer one see `Bad::line_too_long`.
+/// What a line asks, where codes have `bits` bits and there are `shards` shards, 1 to 16: None where the
+/// line has no word, else a request or the line's first fault. The line comes without its end; for a
+/// longer one see `Bad::line_too_long`.
 ///
 /// The faults, each judged where none before it was found: 2, a byte is no printable ASCII; 3, the first
-/// word is no request word; 4, the request has another number of words; 5, a word is not of its form.
-pub fn read_line<const W: usize>(bits: u32, line: &[u8]) -> Result<Option<Request<W>>, Bad>
+/// word is no request word; 4, the request has another number of words; 5, a word is not of its form;
+/// 6, there is no shard of this number.
+pub fn read_line<const W: usize>(
+    bits: u32,
+    shards: u32,
+    line: &[u8],
+) -> Result<Option<Request<W>>, Bad>
     requires few_words { W ≤ 8 }
     requires allowed { IsAllowed W bits }
     requires short { length line.now ≤ LINE_MOST }
-    ensures { result ≡ stored_reading W (reading bits line.now) }
+    ensures { result ≡ stored_reading W (reading bits shards line.now) }
 {
     if !is_printable(line) {
         return Err(Bad::of_line(2));
     }
-    read_words(bits, line)
+    read_words(bits, shards, line)
 }
 
 // The words of a line.
-fn read_words<const W: usize>(bits: u32, line: &[u8]) -> Result<Option<Request<W>>, Bad>
+fn read_words<const W: usize>(
+    bits: u32,
+    shards: u32,
+    line: &[u8],
+) -> Result<Option<Request<W>>, Bad>
     requires few_words { W ≤ 8 }
     requires allowed { IsAllowed W bits }
-    ensures { result ≡ stored_reading W (of_words bits (words line.now)) }
+    ensures { result ≡ stored_reading W (of_words bits shards (words line.now)) }
 {
     match next_word(line) {
         None => Ok(None),
-        Some((word, after)) => read_after(bits, request_word(word), after),
+        Some((word, after)) => read_after(bits, shards, request_word(word), after),
     }
 }
 
 // A request word and the words after it.
 fn read_after<const W: usize>(
     bits: u32,
+    shards: u32,
     word: Option<RequestWord>,
     after: &[u8],
 ) -> Result<Option<Request<W>>, Bad>
     requires few_words { W ≤ 8 }
     requires allowed { IsAllowed W bits }
-    ensures { result ≡ stored_reading W (with_words bits word (words after.now)) }
+    ensures { result ≡ stored_reading W (with_words bits shards word (words after.now)) }
 {
     match word {
         None => Err(Bad::of_line(3)),
         Some(RequestWord::AddWord) => read_add(bits, after),
         Some(RequestWord::RangeWord) => read_range(bits, after),
         Some(RequestWord::NextWord) => read_next(after),
+        Some(RequestWord::LayoutWord) => read_layout(shards, after),
         Some(RequestWord::QuitWord) => read_quit(after),
     }
 }
@@ -63,12 +75,18 @@ fn read_after<const W: usize>(
 fn request_word(word: &[u8]) -> Option<RequestWord>
     ensures { result ≡ request_word word.now }
 {
-    match word {
-        b"add" => Some(RequestWord::AddWord),
-        b"range" => Some(RequestWord::RangeWord),
-        b"next" => Some(RequestWord::NextWord),
-        b"quit" => Some(RequestWord::QuitWord),
-        _ => None,
+    if word == b"add".as_slice() {
+        Some(RequestWord::AddWord)
+    } else if word == b"range".as_slice() {
+        Some(RequestWord::RangeWord)
+    } else if word == b"next".as_slice() {
+        Some(RequestWord::NextWord)
+    } else if word == b"layout".as_slice() {
+        Some(RequestWord::LayoutWord)
+    } else if word == b"quit".as_slice() {
+        Some(RequestWord::QuitWord)
+    } else {
+        None
     }
 }
 
@@ -76,7 +94,7 @@ fn request_word(word: &[u8]) -> Option<RequestWord>
 fn read_add<const W: usize>(bits: u32, after: &[u8]) -> Result<Option<Request<W>>, Bad>
     requires few_words { W ≤ 8 }
     requires allowed { IsAllowed W bits }
-    ensures { result ≡ stored_reading W (with_words bits (Some AddWord) (words after.now)) }
+    ensures { (shards : ℕ) → result ≡ stored_reading W (with_words bits shards (Some AddWord) (words after.now)) }
 {
     let Some((key, after)) = next_word(after) else {
         return Err(Bad::of_line(4));
@@ -100,7 +118,7 @@ fn read_add<const W: usize>(bits: u32, after: &[u8]) -> Result<Option<Request<W>
 fn read_range<const W: usize>(bits: u32, after: &[u8]) -> Result<Option<Request<W>>, Bad>
     requires few_words { W ≤ 8 }
     requires allowed { IsAllowed W bits }
-    ensures { result ≡ stored_reading W (with_words bits (Some RangeWord) (words after.now)) }
+    ensures { (shards : ℕ) → result ≡ stored_reading W (with_words bits shards (Some RangeWord) (words after.now)) }
 {
     let Some((tag, after)) = next_word(after) else {
         return Err(Bad::of_line(4));
@@ -128,7 +146,7 @@ fn read_range<const W: usize>(bits: u32, after: &[u8]) -> Result<Option<Request<
 
 // The words after `next`.
 fn read_next<const W: usize>(after: &[u8]) -> Result<Option<Request<W>>, Bad>
-    ensures { (bits : ℕ) → result ≡ stored_reading W (with_words bits (Some NextWord) (words after.now)) }
+    ensures { (bits shards : ℕ) → result ≡ stored_reading W (with_words bits shards (Some NextWord) (words after.now)) }
 {
     let Some((tag, after)) = next_word(after) else {
         return Err(Bad::of_line(4));
@@ -148,9 +166,29 @@ fn read_next<const W: usize>(after: &[u8]) -> Result<Option<Request<W>>, Bad>
     Ok(Some(Request::Next { tag, count }))
 }
 
+// The words after `layout`.
+fn read_layout<const W: usize>(shards: u32, after: &[u8]) -> Result<Option<Request<W>>, Bad>
+    ensures { (bits : ℕ) → result ≡ stored_reading W (with_words bits shards (Some LayoutWord) (words after.now)) }
+{
+    let Some((shard, after)) = next_word(after) else {
+        return Err(Bad::of_line(4));
+    };
+    if next_word(after).is_some() {
+        return Err(Bad::of_line(4));
+    }
+    let Some(shard) = shard_of(shard) else {
+        return Err(Bad::of_word(2));
+    };
+    if shard < shards {
+        Ok(Some(Request::Layout { shard }))
+    } else {
+        Err(Bad::of_line(6))
+    }
+}
+
 // The words after `quit`.
 fn read_quit<const W: usize>(after: &[u8]) -> Result<Option<Request<W>>, Bad>
-    ensures { (bits : ℕ) → result ≡ stored_reading W (with_words bits (Some QuitWord) (words after.now)) }
+    ensures { (bits shards : ℕ) → result ≡ stored_reading W (with_words bits shards (Some QuitWord) (words after.now)) }
 {
     if next_word(after).is_some() {
         return Err(Bad::of_line(4));

@@ -7,6 +7,7 @@ pub enum RequestWord {
     AddWord,
     RangeWord,
     NextWord,
+    LayoutWord,
     QuitWord,
 }
 
@@ -19,6 +20,8 @@ pub enum Request<const W: usize> {
     Range { tag: Tag, tau: u32, code: Code<W> },
     /// Asks for the next hits of a query, at most `count`.
     Next { tag: Tag, count: u32 },
+    /// Asks for the present layout of a shard.
+    Layout { shard: u32 },
     /// Ends the session.
     Quit,
 }
