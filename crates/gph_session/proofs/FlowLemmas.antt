@@ -8,6 +8,7 @@ use Rattle.line_io.specs.Lines.{ended_lines, unended}
 use Rattle.line_io.specs.declared.source.Failed.{Failed}
 use Rattle.line_io.proofs.LinesLemmas.{ended_lines-append, unended-append}
 use Rattle.hamming_model.specs.History.{JournalEntry}
+use Rattle.part_layout.specs.declared.config.Config.{Config}
 use Rattle.query_protocol.specs.Requests.{reading}
 use Rattle.query_protocol.specs.Replies.{text}
 use Rattle.gph_session.specs.declared.open_query.OpenQuery.{OpenQuery}
@@ -25,50 +26,50 @@ use Rattle.gph_session.proofs.RunLemmas.{run_more, commits_more, written_more, a
 abbrev lines_of : List Exchange → List (List ℕ)
 lines_of exchanges = map (λ (exchange : Exchange). exchange.line) exchanges
 
-module _ (W bits : ℕ) (bytes output : List ℕ) (rows : List (ℕ × List ℕ)) (queries : Slab OpenQuery) (held : Option (List ℕ)) (standing : Stands W bits bytes output rows queries held) where
+module _ (W : ℕ) (config : Config) (bytes output : List ℕ) (rows : List (ℕ × List ℕ)) (queries : Slab OpenQuery) (held : Option (List ℕ)) (standing : Stands W config bytes output rows queries held) where
   -- the exchanges so far are those of a session that is alone
-  abbrev pub solo_so_far : IsSolo bits standing.exchanges
+  abbrev pub solo_so_far : IsSolo config standing.exchanges
   solo_so_far = record {
     last = standing.state;
-    run = subst (λ h. Run bits h (new_session 0 0) standing.exchanges standing.state) (append-nil (commits bits standing.exchanges)) (standing.run []);
+    run = subst (λ h. Run config h (new_session 0 0) standing.exchanges standing.state) (append-nil (commits config standing.exchanges)) (standing.run []);
     alone = standing.alone;
   }
 
   -- the whole lines so far were answered
-  pub answered_so_far : AnswersLines bits (ended_lines [] bytes) output
+  pub answered_so_far : AnswersLines config (ended_lines [] bytes) output
   answered_so_far = record { exchanges = standing.exchanges; solo = solo_so_far; lines_are = standing.lines_are; bytes_are = standing.output_is }
 
   -- none of them ends the session
-  pub goes_on : has_quit bits (ended_lines [] bytes) ≡ false
+  pub goes_on : has_quit config (ended_lines [] bytes) ≡ false
   goes_on =
-      ap (has_quit bits) (sym standing.lines_are ∙ sym (append-nil (lines_of standing.exchanges)))
-      ∙ quit_answered bits (commits bits standing.exchanges) (new_session 0 0) standing.exchanges standing.state solo_so_far.run []
+      ap (has_quit config) (sym standing.lines_are ∙ sym (append-nil (lines_of standing.exchanges)))
+      ∙ quit_answered config (commits config standing.exchanges) (new_session 0 0) standing.exchanges standing.state solo_so_far.run []
 
-  pub all_before_quit : before_quit bits (ended_lines [] bytes) ≡ ended_lines [] bytes
+  pub all_before_quit : before_quit config (ended_lines [] bytes) ≡ ended_lines [] bytes
   all_before_quit =
-      ap (before_quit bits) (sym standing.lines_are ∙ sym (append-nil (lines_of standing.exchanges)))
-      ∙ before_answered bits (commits bits standing.exchanges) (new_session 0 0) standing.exchanges standing.state solo_so_far.run []
+      ap (before_quit config) (sym standing.lines_are ∙ sym (append-nil (lines_of standing.exchanges)))
+      ∙ before_answered config (commits config standing.exchanges) (new_session 0 0) standing.exchanges standing.state solo_so_far.run []
       ∙ append-nil (lines_of standing.exchanges) ∙ standing.lines_are
 
   module _ {A : Type 0} (line : List ℕ) (before after : Option (List ℕ)) (result : Result A Failed) (rows' : List (ℕ × List ℕ)) (queries' : Slab OpenQuery)
-      (one : OneStep W bits (commits bits standing.exchanges) standing.state line before after result rows' queries') where
+      (one : OneStep W config (commits config standing.exchanges) standing.state line before after result rows' queries') where
     -- the run with this exchange, whatever comes later
     pub run_one_more : (later : List JournalEntry)
-        → Run bits (commits bits (standing.exchanges ++ one.exchange ∷ []) ++ later) (new_session 0 0) (standing.exchanges ++ one.exchange ∷ []) one.state
+        → Run config (commits config (standing.exchanges ++ one.exchange ∷ []) ++ later) (new_session 0 0) (standing.exchanges ++ one.exchange ∷ []) one.state
     run_one_more later =
-        let past = commits bits standing.exchanges in
-        let now = commit_of bits one.exchange in
-        let run = subst (λ h. Run bits h (new_session 0 0) standing.exchanges standing.state) (sym (append_assoc past now later)) (standing.run (now ++ later)) in
-        subst (λ h. Run bits (h ++ later) (new_session 0 0) (standing.exchanges ++ one.exchange ∷ []) one.state) (sym (commits_more bits standing.exchanges one.exchange))
-        (run_more bits ((past ++ now) ++ later) (new_session 0 0) standing.exchanges one.exchange standing.state one.state run (one.step later))
+        let past = commits config standing.exchanges in
+        let now = commit_of config one.exchange in
+        let run = subst (λ h. Run config h (new_session 0 0) standing.exchanges standing.state) (sym (append_assoc past now later)) (standing.run (now ++ later)) in
+        subst (λ h. Run config (h ++ later) (new_session 0 0) (standing.exchanges ++ one.exchange ∷ []) one.state) (sym (commits_more config standing.exchanges one.exchange))
+        (run_more config ((past ++ now) ++ later) (new_session 0 0) standing.exchanges one.exchange standing.state one.state run (one.step later))
 
-    pub alone_one_more : AreAlone bits [] (standing.exchanges ++ one.exchange ∷ [])
-    alone_one_more = alone_more bits [] standing.exchanges one.exchange standing.alone one.alone
+    pub alone_one_more : AreAlone config [] (standing.exchanges ++ one.exchange ∷ [])
+    alone_one_more = alone_more config [] standing.exchanges one.exchange standing.alone one.alone
 
-    abbrev pub solo_one_more : IsSolo bits (standing.exchanges ++ one.exchange ∷ [])
+    abbrev pub solo_one_more : IsSolo config (standing.exchanges ++ one.exchange ∷ [])
     solo_one_more = record {
       last = one.state;
-      run = subst (λ h. Run bits h (new_session 0 0) (standing.exchanges ++ one.exchange ∷ []) one.state) (append-nil (commits bits (standing.exchanges ++ one.exchange ∷ []))) (run_one_more []);
+      run = subst (λ h. Run config h (new_session 0 0) (standing.exchanges ++ one.exchange ∷ []) one.state) (append-nil (commits config (standing.exchanges ++ one.exchange ∷ []))) (run_one_more []);
       alone = alone_one_more;
     }
 
@@ -81,9 +82,9 @@ module _ (W bits : ℕ) (bytes output : List ℕ) (rows : List (ℕ × List ℕ)
   -- ---- a line that was answered
 
   module _ (line : List ℕ) (before after : Option (List ℕ)) (rows' : List (ℕ × List ℕ)) (queries' : Slab OpenQuery)
-      (one : OneStep {A = Turn} W bits (commits bits standing.exchanges) standing.state line before after (Ok Goes) rows' queries') where
+      (one : OneStep {A = Turn} W config (commits config standing.exchanges) standing.state line before after (Ok Goes) rows' queries') where
     pub stands_line : (piece : List ℕ) (held' : Option (List ℕ)) → ended_lines (unended [] bytes) piece ≡ line ∷ [] → held' ≡ kept (unended (unended [] bytes) piece)
-        → (more : List ℕ) × Appends before after more × Stands W bits (bytes ++ piece) (output ++ more) rows' queries' held'
+        → (more : List ℕ) × Appends before after more × Stands W config (bytes ++ piece) (output ++ more) rows' queries' held'
     stands_line piece held' lines_are held_is = (
       text one.exchange.replies,
       one.wrote,
@@ -94,14 +95,14 @@ module _ (W bits : ℕ) (bytes output : List ℕ) (rows : List (ℕ × List ℕ)
         alone = alone_one_more line before after (Ok Goes) rows' queries' one;
         lines_are = lines_one_more line before after (Ok Goes) rows' queries' one ∙ ap (λ l. ended_lines [] bytes ++ l) (sym lines_are) ∙ sym (ended_lines-append [] bytes piece);
         output_is = ap (λ o. o ++ text one.exchange.replies) standing.output_is ∙ sym (written_more standing.exchanges one.exchange);
-        means = subst (λ h. Means W bits rows' queries' h one.state) (sym (commits_more bits standing.exchanges one.exchange)) one.means;
+        means = subst (λ h. Means W config.bits rows' queries' h one.state) (sym (commits_more config standing.exchanges one.exchange)) one.means;
         held_is = held_is ∙ ap kept (sym (unended-append [] bytes piece));
       },
     )
 
     -- where it is the last
     pub answered_last : (of_lines : List (List ℕ)) → of_lines ≡ ended_lines [] bytes ++ line ∷ []
-        → (more : List ℕ) × Appends before after more × AnswersLines bits (before_quit bits of_lines) (output ++ more)
+        → (more : List ℕ) × Appends before after more × AnswersLines config (before_quit config of_lines) (output ++ more)
     answered_last of_lines is = (
       text one.exchange.replies,
       one.wrote,
@@ -112,7 +113,7 @@ module _ (W bits : ℕ) (bytes output : List ℕ) (rows : List (ℕ × List ℕ)
             let all = standing.exchanges ++ one.exchange ∷ [] in
             let run = (solo_one_more line before after (Ok Goes) rows' queries' one).run in
             let same = lines_one_more line before after (Ok Goes) rows' queries' one ∙ sym is in
-            sym (ap (before_quit bits) (sym same ∙ sym (append-nil (lines_of all))) ∙ before_answered bits (commits bits all) (new_session 0 0) all one.state run [] ∙ append-nil (lines_of all));
+            sym (ap (before_quit config) (sym same ∙ sym (append-nil (lines_of all))) ∙ before_answered config (commits config all) (new_session 0 0) all one.state run [] ∙ append-nil (lines_of all));
         bytes_are = ap (λ o. o ++ text one.exchange.replies) standing.output_is ∙ sym (written_more standing.exchanges one.exchange);
       },
     )
@@ -120,9 +121,9 @@ module _ (W bits : ℕ) (bytes output : List ℕ) (rows : List (ℕ × List ℕ)
   -- ---- a line whose reply was refused
 
   pub refused_line : (line : List ℕ) (before after : Option (List ℕ)) (failed : Failed) (rows' : List (ℕ × List ℕ)) (queries' : Slab OpenQuery)
-      → OneStep {A = Turn} W bits (commits bits standing.exchanges) standing.state line before after (Err failed) rows' queries'
+      → OneStep {A = Turn} W config (commits config standing.exchanges) standing.state line before after (Err failed) rows' queries'
       → (of_lines : List (List ℕ)) → of_lines ≡ ended_lines [] bytes ++ line ∷ []
-      → (more : List ℕ) × Appends before after more × IsRefused bits of_lines (output ++ more)
+      → (more : List ℕ) × Appends before after more × IsRefused config of_lines (output ++ more)
   refused_line line before after failed rows' queries' one of_lines is = (
     take one.wrote.0 (text one.exchange.replies),
     one.wrote.2,
@@ -140,18 +141,18 @@ module _ (W bits : ℕ) (bytes output : List ℕ) (rows : List (ℕ × List ℕ)
 
   -- ---- the line that ends the session
 
-  pub ended_line : (line : List ℕ) → asks_quit (reading bits line) ≡ true → (of_lines : List (List ℕ)) → of_lines ≡ ended_lines [] bytes ++ line ∷ []
-      → HasEnded bits of_lines output
+  pub ended_line : (line : List ℕ) → asks_quit (reading config.bits config.shards line) ≡ true → (of_lines : List (List ℕ)) → of_lines ≡ ended_lines [] bytes ++ line ∷ []
+      → HasEnded config of_lines output
   ended_line line quits of_lines is =
       let run = solo_so_far.run in
-      let past = commits bits standing.exchanges in
+      let past = commits config standing.exchanges in
       let same : of_lines ≡ lines_of standing.exchanges ++ line ∷ [] = is ∙ ap (λ l. l ++ line ∷ []) (sym standing.lines_are) in
       record {
-        quits = ap (has_quit bits) same ∙ quit_answered bits past (new_session 0 0) standing.exchanges standing.state run (line ∷ []) ∙ ap (λ b. cond b true false) quits;
+        quits = ap (has_quit config) same ∙ quit_answered config past (new_session 0 0) standing.exchanges standing.state run (line ∷ []) ∙ ap (λ b. cond b true false) quits;
         answered = record {
           exchanges = standing.exchanges;
           solo = solo_so_far;
-          lines_are = sym (ap (before_quit bits) same ∙ before_answered bits past (new_session 0 0) standing.exchanges standing.state run (line ∷ [])
+          lines_are = sym (ap (before_quit config) same ∙ before_answered config past (new_session 0 0) standing.exchanges standing.state run (line ∷ [])
               ∙ ap (λ b. lines_of standing.exchanges ++ cond b [] (line ∷ [])) quits ∙ append-nil (lines_of standing.exchanges));
           bytes_are = standing.output_is;
         };
@@ -160,7 +161,7 @@ module _ (W bits : ℕ) (bytes output : List ℕ) (rows : List (ℕ × List ℕ)
   -- ---- bytes that end no line
 
   pub stands_bytes : (piece : List ℕ) (held' : Option (List ℕ)) → ended_lines (unended [] bytes) piece ≡ [] → held' ≡ kept (unended (unended [] bytes) piece)
-      → Stands W bits (bytes ++ piece) output rows queries held'
+      → Stands W config (bytes ++ piece) output rows queries held'
   stands_bytes piece held' none held_is = record {
     exchanges = standing.exchanges;
     state = standing.state;
@@ -174,8 +175,8 @@ module _ (W bits : ℕ) (bytes output : List ℕ) (rows : List (ℕ × List ℕ)
 
 -- ---- what comes behind
 
-pub refused_more : (bits : ℕ) (of_lines more : List (List ℕ)) (output : List ℕ) → IsRefused bits of_lines output → IsRefused bits (of_lines ++ more) output
-refused_more bits of_lines more output h = record {
+pub refused_more : (config : Config) (of_lines more : List (List ℕ)) (output : List ℕ) → IsRefused config of_lines output → IsRefused config (of_lines ++ more) output
+refused_more config of_lines more output h = record {
   answered = h.answered;
   refused = h.refused;
   rest = h.rest ++ more;
@@ -186,8 +187,8 @@ refused_more bits of_lines more output h = record {
   output_is = h.output_is;
 }
 
-pub ended_more : (bits : ℕ) (of_lines more : List (List ℕ)) (output : List ℕ) → HasEnded bits of_lines output → HasEnded bits (of_lines ++ more) output
-ended_more bits of_lines more output h = record {
-  quits = quit_more bits of_lines more h.quits;
-  answered = subst (λ l. AnswersLines bits l output) (sym (before_more bits of_lines more h.quits)) h.answered;
+pub ended_more : (config : Config) (of_lines more : List (List ℕ)) (output : List ℕ) → HasEnded config of_lines output → HasEnded config (of_lines ++ more) output
+ended_more config of_lines more output h = record {
+  quits = quit_more config of_lines more h.quits;
+  answered = subst (λ l. AnswersLines config l output) (sym (before_more config of_lines more h.quits)) h.answered;
 }

@@ -5,13 +5,13 @@ use Rattle.std.specs.Char.{digit_value}
 use Rattle.std.proofs.lemmas.Bool.Decides.{Decides-eqb}
 use Rattle.hamming_model.specs.Codes.{bits_of, hex_code, padded, IsCode}
 use Rattle.query_protocol.specs.Words.{words, is_printable}
-use Rattle.query_protocol.specs.Forms.{key_of, radius_of, count_of, code_of, tag_of}
-use Rattle.query_protocol.specs.Requests.{LineRequest, Add, Range, Next, Quit, request_word, add_of, range_of, next_of, with_words, of_words, reading, stored_reading, bad}
+use Rattle.query_protocol.specs.Forms.{key_of, radius_of, count_of, shard_of, code_of, tag_of}
+use Rattle.query_protocol.specs.Requests.{LineRequest, Add, Range, Next, Layout, Quit, request_word, add_of, range_of, next_of, layout_of, with_words, of_words, reading, stored_reading, bad}
 use Rattle.query_protocol.specs.declared.bad.Bad.{Bad}
 use Rattle.query_protocol.specs.declared.request.Request.{Request}
 use Rattle.query_protocol.specs.declared.request.Request.TheVariants as kept
 use Rattle.query_protocol.specs.declared.request.RequestWord.{RequestWord}
-use Rattle.query_protocol.specs.declared.request.RequestWord.TheVariants.{AddWord, RangeWord, NextWord, QuitWord}
+use Rattle.query_protocol.specs.declared.request.RequestWord.TheVariants.{AddWord, RangeWord, NextWord, LayoutWord, QuitWord}
 
 -- ---- from what words keep
 
@@ -45,6 +45,7 @@ kept_add W (Ok None) key stored e = cc
 kept_add W (Ok (Some (Add other code))) key stored e = let same : key ≡ other = cc in (code, ap (λ (k : ℕ). Ok (Some (Add k code))) (sym same), cc)
 kept_add W (Ok (Some (Range tag tau code))) key stored e = cc
 kept_add W (Ok (Some (Next tag count))) key stored e = cc
+kept_add W (Ok (Some (Layout shard))) key stored e = cc
 kept_add W (Ok (Some Quit)) key stored e = cc
 
 pub kept_range : (W : ℕ) (asked : Result (Option LineRequest) Bad) (tag : List ℕ) (tau : ℕ) (stored : List ℕ) → Ok (Some (range_kept W tag tau stored)) ≡ stored_reading W asked
@@ -57,6 +58,7 @@ kept_range W (Ok (Some (Range other radius code))) tag tau stored e =
     let same_tau : tau ≡ radius = cc in
     (code, ap (λ (t : List ℕ). Ok (Some (Range t radius code))) (sym same_tag) ∙ ap (λ (r : ℕ). Ok (Some (Range tag r code))) (sym same_tau), cc)
 kept_range W (Ok (Some (Next other count))) tag tau stored e = cc
+kept_range W (Ok (Some (Layout shard))) tag tau stored e = cc
 kept_range W (Ok (Some Quit)) tag tau stored e = cc
 
 pub kept_next : (W : ℕ) (asked : Result (Option LineRequest) Bad) (tag : List ℕ) (count : ℕ) → Ok (Some (next_kept W tag count)) ≡ stored_reading W asked
@@ -69,6 +71,7 @@ kept_next W (Ok (Some (Next other number))) tag count e =
     let same_tag : tag ≡ other = cc in
     let same_count : count ≡ number = cc in
     ap (λ (t : List ℕ). Ok (Some (Next t number))) (sym same_tag) ∙ ap (λ (n : ℕ). Ok (Some (Next tag n))) (sym same_count)
+kept_next W (Ok (Some (Layout shard))) tag count e = cc
 kept_next W (Ok (Some Quit)) tag count e = cc
 
 pub kept_quit : (W : ℕ) (asked : Result (Option LineRequest) Bad) → Ok (Some (quit_kept W)) ≡ stored_reading W asked → asked ≡ Ok (Some Quit)
@@ -77,7 +80,20 @@ kept_quit W (Ok None) e = cc
 kept_quit W (Ok (Some (Add key code))) e = cc
 kept_quit W (Ok (Some (Range tag tau code))) e = cc
 kept_quit W (Ok (Some (Next tag count))) e = cc
+kept_quit W (Ok (Some (Layout shard))) e = cc
 kept_quit W (Ok (Some Quit)) e = refl
+
+abbrev pub layout_kept : (W : ℕ) → ℕ → Request W
+layout_kept W shard = kept.Layout shard
+
+pub kept_layout : (W : ℕ) (asked : Result (Option LineRequest) Bad) (shard : ℕ) → Ok (Some (layout_kept W shard)) ≡ stored_reading W asked → asked ≡ Ok (Some (Layout shard))
+kept_layout W (Err fault) shard e = cc
+kept_layout W (Ok None) shard e = cc
+kept_layout W (Ok (Some (Add key code))) shard e = cc
+kept_layout W (Ok (Some (Range tag tau code))) shard e = cc
+kept_layout W (Ok (Some (Next tag count))) shard e = cc
+kept_layout W (Ok (Some (Layout other))) shard e = let same : shard ≡ other = cc in ap (λ (n : ℕ). Ok (Some (Layout n))) (sym same)
+kept_layout W (Ok (Some Quit)) shard e = cc
 
 -- ---- each code has its bits
 
@@ -139,35 +155,42 @@ next_code bits None count = tt
 next_code bits (Some tag) None = tt
 next_code bits (Some tag) (Some count) = tt
 
-words_code : (bits : ℕ) → bits % 8 ≡ 0 → (word : Option RequestWord) (after : List (List ℕ)) → HasCode bits (with_words bits word after)
-words_code bits whole None after = tt
-words_code bits whole (Some AddWord) [] = tt
-words_code bits whole (Some AddWord) (key ∷ []) = tt
-words_code bits whole (Some AddWord) (key ∷ code ∷ []) =
-    add_code bits (key_of key) (code_of bits code) (code_if bits code whole (length code == bits / 4) (list_all (λ byte. nat_lt (digit_value byte) 16) code) refl)
-words_code bits whole (Some AddWord) (key ∷ code ∷ more ∷ rest) = tt
-words_code bits whole (Some RangeWord) [] = tt
-words_code bits whole (Some RangeWord) (tag ∷ []) = tt
-words_code bits whole (Some RangeWord) (tag ∷ tau ∷ []) = tt
-words_code bits whole (Some RangeWord) (tag ∷ tau ∷ code ∷ []) =
-    range_code bits (tag_of tag) (radius_of bits tau) (code_of bits code) (code_if bits code whole (length code == bits / 4) (list_all (λ byte. nat_lt (digit_value byte) 16) code) refl)
-words_code bits whole (Some RangeWord) (tag ∷ tau ∷ code ∷ more ∷ rest) = tt
-words_code bits whole (Some NextWord) [] = tt
-words_code bits whole (Some NextWord) (tag ∷ []) = tt
-words_code bits whole (Some NextWord) (tag ∷ count ∷ []) = next_code bits (tag_of tag) (count_of count)
-words_code bits whole (Some NextWord) (tag ∷ count ∷ more ∷ rest) = tt
-words_code bits whole (Some QuitWord) [] = tt
-words_code bits whole (Some QuitWord) (more ∷ rest) = tt
+layout_code : (bits shards : ℕ) (shard : Option ℕ) → HasCode bits (layout_of shards shard)
+layout_code bits shards None = tt
+layout_code bits shards (Some shard) = elim (nat_lt shard shards) as (λ t. HasCode bits (cond t (Ok (Some (Layout shard))) (Err (bad 6)))) [ true ↦ tt | false ↦ tt ]
 
-line_words_code : (bits : ℕ) → bits % 8 ≡ 0 → (all : List (List ℕ)) → HasCode bits (of_words bits all)
-line_words_code bits whole [] = tt
-line_words_code bits whole (word ∷ after) = words_code bits whole (request_word word) after
+words_code : (bits shards : ℕ) → bits % 8 ≡ 0 → (word : Option RequestWord) (after : List (List ℕ)) → HasCode bits (with_words bits shards word after)
+words_code bits shards whole None after = tt
+words_code bits shards whole (Some AddWord) [] = tt
+words_code bits shards whole (Some AddWord) (key ∷ []) = tt
+words_code bits shards whole (Some AddWord) (key ∷ code ∷ []) =
+    add_code bits (key_of key) (code_of bits code) (code_if bits code whole (length code == bits / 4) (list_all (λ byte. nat_lt (digit_value byte) 16) code) refl)
+words_code bits shards whole (Some AddWord) (key ∷ code ∷ more ∷ rest) = tt
+words_code bits shards whole (Some RangeWord) [] = tt
+words_code bits shards whole (Some RangeWord) (tag ∷ []) = tt
+words_code bits shards whole (Some RangeWord) (tag ∷ tau ∷ []) = tt
+words_code bits shards whole (Some RangeWord) (tag ∷ tau ∷ code ∷ []) =
+    range_code bits (tag_of tag) (radius_of bits tau) (code_of bits code) (code_if bits code whole (length code == bits / 4) (list_all (λ byte. nat_lt (digit_value byte) 16) code) refl)
+words_code bits shards whole (Some RangeWord) (tag ∷ tau ∷ code ∷ more ∷ rest) = tt
+words_code bits shards whole (Some NextWord) [] = tt
+words_code bits shards whole (Some NextWord) (tag ∷ []) = tt
+words_code bits shards whole (Some NextWord) (tag ∷ count ∷ []) = next_code bits (tag_of tag) (count_of count)
+words_code bits shards whole (Some NextWord) (tag ∷ count ∷ more ∷ rest) = tt
+words_code bits shards whole (Some LayoutWord) [] = tt
+words_code bits shards whole (Some LayoutWord) (shard ∷ []) = layout_code bits shards (shard_of shard)
+words_code bits shards whole (Some LayoutWord) (shard ∷ more ∷ rest) = tt
+words_code bits shards whole (Some QuitWord) [] = tt
+words_code bits shards whole (Some QuitWord) (more ∷ rest) = tt
+
+line_words_code : (bits shards : ℕ) → bits % 8 ≡ 0 → (all : List (List ℕ)) → HasCode bits (of_words bits shards all)
+line_words_code bits shards whole [] = tt
+line_words_code bits shards whole (word ∷ after) = words_code bits shards whole (request_word word) after
 
 chosen_code : (bits : ℕ) (test : Bool) (fault : Bad) (asked : Result (Option LineRequest) Bad) → HasCode bits asked → HasCode bits (cond test (Err fault) asked)
 chosen_code bits true fault asked h = tt
 chosen_code bits false fault asked h = h
 
-pub code_read : (bits : ℕ) → bits % 8 ≡ 0 → (line : List ℕ) → HasCode bits (reading bits line)
-code_read bits whole line =
+pub code_read : (bits shards : ℕ) → bits % 8 ≡ 0 → (line : List ℕ) → HasCode bits (reading bits shards line)
+code_read bits shards whole line =
     chosen_code bits (nat_lt 4096 (length line)) (bad 1) _
-    (chosen_code bits (not (is_printable line)) (bad 2) (of_words bits (words line)) (line_words_code bits whole (words line)))
+    (chosen_code bits (not (is_printable line)) (bad 2) (of_words bits shards (words line)) (line_words_code bits shards whole (words line)))

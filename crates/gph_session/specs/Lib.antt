@@ -1,4 +1,3 @@
-pub mod CommandWords
 pub mod State
 pub mod Step
 pub mod Run

@@ -7,6 +7,10 @@ use Rattle.read_meter.specs.declared.NoMemory.{NoMemory}
 use Rattle.hamming_model.specs.Stored.{stored_rows, AreCodeRows}
 use Rattle.hamming_model.specs.History.{JournalEntry, code_at, rows_of}
 use Rattle.hamming_model.specs.Scan.{scan, answer}
+use Rattle.part_layout.specs.declared.config.Config.{Config}
+use Rattle.part_layout.specs.Laid.{Laid}
+use Rattle.part_layout.specs.Contiguous.{contiguous}
+use Rattle.gph_codes.specs.Allowed.{IsAllowed}
 use Rattle.query_protocol.specs.Requests.{bad}
 use Rattle.query_protocol.specs.declared.reply.Reply.{Reply}
 use Rattle.query_protocol.specs.declared.reply.Reply.TheVariants as reply
@@ -94,3 +98,8 @@ pub record Means (W bits : ℕ) (rows : List (ℕ × List ℕ)) (queries : Slab 
   pub queries_hold : HoldsQueries bits history queries s
   pub position : s.position ≡ length history
   pub who : s.who ≡ 0
+
+-- what a session was asked to be fits its words, and its layout is the contiguous one
+pub record IsReady (W : ℕ) (config : Config) (layout : Laid) : Type 0 where
+  pub allowed : IsAllowed W config.bits
+  pub laid : layout.parts ≡ contiguous config.bits config.parts

@@ -3,6 +3,7 @@ use Rattle.std.specs.Prelude.{◌≡◌, ℕ, Bool, true, false, if◌then◌els
 use Rattle.std.specs.List.{flat_map}
 use Rattle.hamming_model.specs.History.{JournalEntry}
 use Rattle.hamming_model.specs.History as journal
+use Rattle.part_layout.specs.declared.config.Config.{Config}
 use Rattle.query_protocol.specs.Requests.{LineRequest, Add, Quit, reading}
 use Rattle.query_protocol.specs.Replies.{text}
 use Rattle.query_protocol.specs.declared.bad.Bad.{Bad}
@@ -12,9 +13,9 @@ use Rattle.gph_session.specs.State.{State, new_session}
 use Rattle.gph_session.specs.Step.{Exchange, Step}
 
 -- the exchanges are steps one after another, all in one history
-abbrev pub Run : ℕ → List JournalEntry → State → List Exchange → State → Type 0
-Run bits history s [] t = t ≡ s
-Run bits history s (exchange ∷ exchanges) t = (mid : State) × Step bits history s exchange mid × Run bits history mid exchanges t
+abbrev pub Run : Config → List JournalEntry → State → List Exchange → State → Type 0
+Run config history s [] t = t ≡ s
+Run config history s (exchange ∷ exchanges) t = (mid : State) × Step config history s exchange mid × Run config history mid exchanges t
 
 -- what the session with this number committed, by what a line asked and what it was told
 abbrev pub committed : ℕ → Result (Option LineRequest) Bad → List Reply → List JournalEntry
@@ -22,34 +23,34 @@ committed who (Ok (Some (Add key code))) (reply.Added added at ∷ []) = record 
 committed who asked replies = []
 
 -- the entry that an exchange of session 0 committed, if it did
-abbrev pub commit_of : ℕ → Exchange → List JournalEntry
-commit_of bits exchange = committed 0 (reading bits exchange.line) exchange.replies
+abbrev pub commit_of : Config → Exchange → List JournalEntry
+commit_of config exchange = committed 0 (reading config.bits config.shards exchange.line) exchange.replies
 
 -- all that the exchanges committed
-abbrev pub commits : ℕ → List Exchange → List JournalEntry
-commits bits exchanges = flat_map (commit_of bits) exchanges
+abbrev pub commits : Config → List Exchange → List JournalEntry
+commits config exchanges = flat_map (commit_of config) exchanges
 
 -- each position is the length of the history at that moment, which begins with these entries
-abbrev pub AreAlone : ℕ → List JournalEntry → List Exchange → Type 0
-AreAlone bits history [] = Unit {0}
-AreAlone bits history (exchange ∷ exchanges) =
-    let after = history ++ commit_of bits exchange in
-    (exchange.position ≡ length after) × AreAlone bits after exchanges
+abbrev pub AreAlone : Config → List JournalEntry → List Exchange → Type 0
+AreAlone config history [] = Unit {0}
+AreAlone config history (exchange ∷ exchanges) =
+    let after = history ++ commit_of config exchange in
+    (exchange.position ≡ length after) × AreAlone config after exchanges
 
 -- all that is written
 abbrev pub written : List Exchange → List ℕ
 written exchanges = flat_map (λ exchange. text exchange.replies) exchanges
 
 -- the exchanges are those of a session that is alone: the history is what it commits, and it sees all of it
-pub record IsSolo (bits : ℕ) (exchanges : List Exchange) : Type 0 where
+pub record IsSolo (config : Config) (exchanges : List Exchange) : Type 0 where
   pub last : State
-  pub run : Run bits (commits bits exchanges) (new_session 0 0) exchanges last
-  pub alone : AreAlone bits [] exchanges
+  pub run : Run config (commits config exchanges) (new_session 0 0) exchanges last
+  pub alone : AreAlone config [] exchanges
 
 -- a session alone answers these lines by these bytes
-pub record AnswersLines (bits : ℕ) (lines : List (List ℕ)) (bytes : List ℕ) : Type 0 where
+pub record AnswersLines (config : Config) (lines : List (List ℕ)) (bytes : List ℕ) : Type 0 where
   pub exchanges : List Exchange
-  pub solo : IsSolo bits exchanges
+  pub solo : IsSolo config exchanges
   pub lines_are : map (λ exchange. exchange.line) exchanges ≡ lines
   pub bytes_are : bytes ≡ written exchanges
 
@@ -59,11 +60,11 @@ asks_quit (Ok (Some Quit)) = true
 asks_quit asked = false
 
 -- the lines before the first that ends the session
-abbrev pub before_quit : ℕ → List (List ℕ) → List (List ℕ)
-before_quit bits [] = []
-before_quit bits (line ∷ lines) = if asks_quit (reading bits line) then [] else line ∷ before_quit bits lines
+abbrev pub before_quit : Config → List (List ℕ) → List (List ℕ)
+before_quit config [] = []
+before_quit config (line ∷ lines) = if asks_quit (reading config.bits config.shards line) then [] else line ∷ before_quit config lines
 
 -- one of the lines ends the session
-abbrev pub has_quit : ℕ → List (List ℕ) → Bool
-has_quit bits [] = false
-has_quit bits (line ∷ lines) = if asks_quit (reading bits line) then true else has_quit bits lines
+abbrev pub has_quit : Config → List (List ℕ) → Bool
+has_quit config [] = false
+has_quit config (line ∷ lines) = if asks_quit (reading config.bits config.shards line) then true else has_quit config lines

@@ -5,7 +5,10 @@ use Rattle.hamming_model.specs.History as journal
 use Rattle.hamming_model.specs.Scan.{Ask, answer}
 use Rattle.hamming_model.specs.Scan as ask
 use Rattle.hamming_model.specs.declared.hit.Hit.{Hit}
-use Rattle.query_protocol.specs.Requests.{LineRequest, Add, Range, Next, Quit, reading, bad}
+use Rattle.part_layout.specs.declared.config.Config.{Config}
+use Rattle.part_layout.specs.Contiguous.{contiguous}
+use Rattle.part_layout.specs.Text.{layout_text}
+use Rattle.query_protocol.specs.Requests.{LineRequest, Add, Range, Next, Layout, Quit, reading, bad}
 use Rattle.query_protocol.specs.declared.bad.Bad.{Bad}
 use Rattle.query_protocol.specs.declared.reply.Reply.{Reply}
 use Rattle.query_protocol.specs.declared.reply.Reply.TheVariants as reply
@@ -92,16 +95,18 @@ GivesIfOpen (Some query) bits history s tag count replies at t =
     Gives (answer bits (rows_of (take query.position history)) query.ask) query s tag count replies at t
 
 -- what is answered to what a line asks; `quit` isn't answered
-abbrev pub Answers : Result (Option LineRequest) Bad → ℕ → List JournalEntry → State → List Reply → ℕ → State → Type 0
-Answers (Err fault) bits history s replies at t = Stays (reply.Bad fault ∷ []) s replies at t
-Answers (Ok None) bits history s replies at t = Stays [] s replies at t
-Answers (Ok (Some (Add key code))) bits history s replies at t =
+abbrev pub Answers : Result (Option LineRequest) Bad → Config → List JournalEntry → State → List Reply → ℕ → State → Type 0
+Answers (Err fault) config history s replies at t = Stays (reply.Bad fault ∷ []) s replies at t
+Answers (Ok None) config history s replies at t = Stays [] s replies at t
+Answers (Ok (Some (Add key code))) config history s replies at t =
     Refuses s replies at t ⊎ (Adds history s key code replies at t ⊎ Takes history s key replies at t)
-Answers (Ok (Some (Range tag tau code))) bits history s replies at t =
+Answers (Ok (Some (Range tag tau code))) config history s replies at t =
     OpensUnlessUsed (s.query tag) history s tag (ask.Range tau code) replies at t
-Answers (Ok (Some (Next tag count))) bits history s replies at t = GivesIfOpen (s.query tag) bits history s tag count replies at t
-Answers (Ok (Some Quit)) bits history s replies at t = ⊥
+Answers (Ok (Some (Next tag count))) config history s replies at t = GivesIfOpen (s.query tag) config.bits history s tag count replies at t
+Answers (Ok (Some (Layout shard))) config history s replies at t =
+    Stays (reply.Layout shard (layout_text (contiguous config.bits config.parts)) ∷ []) s replies at t
+Answers (Ok (Some Quit)) config history s replies at t = ⊥
 
--- one step of a session over codes of so many bits, in a history
-abbrev pub Step : ℕ → List JournalEntry → State → Exchange → State → Type 0
-Step bits history s exchange t = Answers (reading bits exchange.line) bits history s exchange.replies exchange.position t
+-- one step of a session as it was asked to be, in a history
+abbrev pub Step : Config → List JournalEntry → State → Exchange → State → Type 0
+Step config history s exchange t = Answers (reading config.bits config.shards exchange.line) config history s exchange.replies exchange.position t

@@ -2,7 +2,7 @@
 
 ghost use Rattle.std.specs.Prelude.{◌≡◌, ℕ, ◌<◌, ◌≤◌, List, ◌++◌, length, take};
 ghost use Rattle.std.specs.Io.KnownBytes.{Appends};
-ghost use Rattle.gph_codes.specs.Allowed.{IsAllowed};
+ghost use Rattle.gph_session.specs.Meaning.{IsReady};
 ghost use Rattle.gph_session.specs.Flow.{IsCaused, Stands, FlowIs, EndIs};
 
 use crate::session::{Session, Turn, answer};
@@ -15,12 +15,13 @@ pub(crate) fn answer_block<const W: usize, K: Sink>(
     sink: &mut K,
 ) -> Result<Turn, Failed>
     requires few_words { W ≤ 8 }
-    requires allowed { IsAllowed W session.old.bits }
+    requires ready { IsReady W session.old.config session.old.layout }
     ensures flow { (bytes output : List ℕ) →
-        Stands W session.old.bits bytes output session.old.rows session.old.queries session.old.cutter.held →
+        Stands W session.old.config bytes output session.old.rows session.old.queries session.old.cutter.held →
         (more : List ℕ) × Appends (K.held sink.old) (K.held sink.new) more
-        × FlowIs result W session.old.bits (bytes ++ block.now) (output ++ more) session.new.rows session.new.queries session.new.cutter.held }
-    ensures bits { session.new.bits ≡ session.old.bits }
+        × FlowIs result W session.old.config (bytes ++ block.now) (output ++ more) session.new.rows session.new.queries session.new.cutter.held }
+    ensures config { session.new.config ≡ session.old.config }
+    ensures layout { session.new.layout ≡ session.old.layout }
     ensures cause { IsCaused (K.faults sink.old) (K.faults sink.new) result }
 {
     let mut done = 0;
@@ -42,14 +43,15 @@ fn answer_line<const W: usize, K: Sink>(
     sink: &mut K,
 ) -> (usize, Result<Turn, Failed>)
     requires few_words { W ≤ 8 }
-    requires allowed { IsAllowed W session.old.bits }
+    requires ready { IsReady W session.old.config session.old.layout }
     requires some { 0 < length bytes.now }
     ensures progress { (0 < result.0) × (result.0 ≤ length bytes.now) }
     ensures flow { (before output : List ℕ) →
-        Stands W session.old.bits before output session.old.rows session.old.queries session.old.cutter.held →
+        Stands W session.old.config before output session.old.rows session.old.queries session.old.cutter.held →
         (more : List ℕ) × Appends (K.held sink.old) (K.held sink.new) more
-        × FlowIs result.1 W session.old.bits (before ++ take result.0 bytes.now) (output ++ more) session.new.rows session.new.queries session.new.cutter.held }
-    ensures bits { session.new.bits ≡ session.old.bits }
+        × FlowIs result.1 W session.old.config (before ++ take result.0 bytes.now) (output ++ more) session.new.rows session.new.queries session.new.cutter.held }
+    ensures config { session.new.config ≡ session.old.config }
+    ensures layout { session.new.layout ≡ session.old.layout }
     ensures cause { IsCaused (K.faults sink.old) (K.faults sink.new) result.1 }
 {
     let (taken, cut) = session.cutter.push(bytes);
@@ -65,10 +67,10 @@ pub(crate) fn answer_end<const W: usize, K: Sink>(
     sink: &mut K,
 ) -> Result<Turn, Failed>
     requires few_words { W ≤ 8 }
-    requires allowed { IsAllowed W session.old.bits }
+    requires ready { IsReady W session.old.config session.old.layout }
     ensures flow { (bytes output : List ℕ) →
-        Stands W session.old.bits bytes output session.old.rows session.old.queries session.old.cutter.held →
-        (more : List ℕ) × Appends (K.held sink.old) (K.held sink.new) more × EndIs result session.old.bits bytes (output ++ more) }
+        Stands W session.old.config bytes output session.old.rows session.old.queries session.old.cutter.held →
+        (more : List ℕ) × Appends (K.held sink.old) (K.held sink.new) more × EndIs result session.old.config bytes (output ++ more) }
     ensures cause { IsCaused (K.faults sink.old) (K.faults sink.new) result }
 {
     match session.cutter.finish() {

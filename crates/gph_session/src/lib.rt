@@ -4,7 +4,6 @@
 
 mod adding;
 mod block;
-mod command_words;
 mod giving;
 mod open_query;
 mod opening;

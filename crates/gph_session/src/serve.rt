@@ -1,7 +1,7 @@
 //! A session from its first read to its end.
 
 ghost use Rattle.std.specs.Prelude.{◌≡◌, ℕ, ◌<◌, ◌≤◌, [], length};
-ghost use Rattle.gph_codes.specs.Allowed.{IsAllowed};
+ghost use Rattle.gph_session.specs.Meaning.{IsReady};
 ghost use Rattle.gph_session.specs.Flow.{Stands};
 ghost use Rattle.gph_session.specs.Outcomes.{Ends, EndsAs};
 
@@ -13,24 +13,24 @@ use line_io::{Failed, Sink, Source};
 /// The most bytes of a read.
 pub(crate) const BLOCK: usize = 4096;
 
-/// Reads and answers, at most `limit` bytes, until the input ends or a line ends the session.
+/// Reads and answers, at most the input's limit, until the input ends or a line ends the session.
 pub(crate) fn serve<const W: usize, S: Source, K: Sink>(
     session: &mut Session<W>,
     block: &mut [u8],
-    limit: u64,
     source: &mut S,
     sink: &mut K,
 ) -> Outcome
     requires few_words { W ≤ 8 }
-    requires allowed { IsAllowed W session.old.bits }
+    requires ready { IsReady W session.old.config session.old.layout }
     requires room { length block.old ≡ BLOCK }
-    requires new { Stands W session.old.bits [] [] session.old.rows session.old.queries session.old.cutter.held }
-    ensures { EndsAs result session.old.bits limit
+    requires new { Stands W session.old.config [] [] session.old.rows session.old.queries session.old.cutter.held }
+    ensures { EndsAs result session.old.config
         (record { bytes = S.left source.old; faults = S.faults source.old })
         (record { bytes = S.left source.new; faults = S.faults source.new })
         (record { bytes = K.held sink.old; faults = K.faults sink.old })
         (record { bytes = K.held sink.new; faults = K.faults sink.new }) }
 {
+    let limit = session.config.input;
     let mut taken: u64 = 0;
     loop {
         let room = (limit - taken).clamp(1, BLOCK as u64) as usize;

@@ -8,7 +8,9 @@ ghost use Rattle.query_protocol.specs.Requests as asks;
 ghost use Rattle.line_io.specs.Kept.{kept, TellsOf};
 ghost use Rattle.gph_codes.specs.Allowed.{IsAllowed};
 ghost use Rattle.gph_session.specs.State.{State};
-ghost use Rattle.gph_session.specs.Meaning.{Means};
+ghost use Rattle.part_layout.specs.Contiguous.{contiguous};
+ghost use Rattle.command_line.specs.CommandWords.{IsConfig};
+ghost use Rattle.gph_session.specs.Meaning.{Means, IsReady};
 ghost use Rattle.gph_session.specs.Flow.{IsCaused, TurnIs};
 
 use crate::adding::add;
@@ -17,9 +19,9 @@ use crate::open_query::{MOST_OPEN, OpenQuery};
 use crate::opening::open;
 use crate::output::say;
 use crate::rows::Rows;
-use gph_codes::Code;
+use part_layout::{Config, Layout};
 use line_io::{Cut, Cutter, Failed, LineBuf, Sink};
-use query_protocol::{Bad, Reply, Request, Tag, read_line};
+use query_protocol::{Bad, Reply, Request, read_line};
 use read_meter::NoMemory;
 use slab::Slab;
 use std::alloc::Global;
@@ -31,10 +33,11 @@ pub(crate) enum Turn {
     Quits,
 }
 
-/// A session that is alone, over codes of `bits` bits.
+/// A session that is alone, as it was asked to be.
 #[derive(Drop)]
 pub(crate) struct Session<const W: usize> {
-    pub(crate) bits: u32,
+    pub(crate) config: Config,
+    pub(crate) layout: Layout,
     pub(crate) alloc: Global,
     pub(crate) rows: Rows<W>,
     pub(crate) queries: Slab<OpenQuery>,
@@ -43,12 +46,21 @@ pub(crate) struct Session<const W: usize> {
 }
 
 /// A session that has read nothing, with all the memory that it needs for other lines than `add` and `range`.
-pub(crate) fn new_session<const W: usize>(alloc: Global, bits: u32) -> Result<Session<W>, NoMemory>
-    ensures bits { IfOk result (λ session. session.bits ≡ bits) }
+pub(crate) fn new_session<const W: usize>(
+    alloc: Global,
+    config: &Config,
+) -> Result<Session<W>, NoMemory>
+    requires { IsConfig config.now }
+    ensures config { IfOk result (λ session. session.config ≡ config.now) }
+    ensures layout { IfOk result (λ session. session.layout.parts ≡ contiguous config.now.bits config.now.parts) }
     ensures rows { IfOk result (λ session. session.rows ≡ []) }
     ensures queries { IfOk result (λ session. session.queries.slots ≡ []) }
     ensures cutter { IfOk result (λ session. session.cutter.held ≡ kept []) }
 {
+    let layout = match starting_layout(alloc, config) {
+        Ok(layout) => layout,
+        Err(NoMemory) => return Err(NoMemory),
+    };
     let cutter = match Cutter::new(alloc) {
         Ok(cutter) => cutter,
         Err(NoMemory) => return Err(NoMemory),
@@ -59,13 +71,25 @@ pub(crate) fn new_session<const W: usize>(alloc: Global, bits: u32) -> Result<Se
     };
     match Slab::with_capacity(alloc, MOST_OPEN) {
         Ok(queries) => Ok(Session {
-            bits,
+            config: *config,
+            layout,
             alloc,
             rows: Rows::new(alloc),
             queries,
             cutter,
             out,
         }),
+        Err(_) => Err(NoMemory),
+    }
+}
+
+// The contiguous layout, which is there for what a session may be asked.
+fn starting_layout(alloc: Global, config: &Config) -> Result<Layout, NoMemory>
+    requires { IsConfig config.now }
+    ensures { IfOk result (λ layout. layout.parts ≡ contiguous config.now.bits config.now.parts) }
+{
+    match Layout::contiguous(alloc, config.bits, config.parts) {
+        Ok(layout) => Ok(layout),
         Err(_) => Err(NoMemory),
     }
 }
@@ -77,16 +101,17 @@ pub(crate) fn answer<const W: usize, K: Sink>(
     sink: &mut K,
 ) -> Result<Turn, Failed>
     requires few_words { W ≤ 8 }
-    requires allowed { IsAllowed W session.old.bits }
+    requires ready { IsReady W session.old.config session.old.layout }
     ensures answers { (history : List JournalEntry) (s : State) →
-        Means W session.old.bits session.old.rows session.old.queries history s →
+        Means W session.old.config.bits session.old.rows session.old.queries history s →
         (line : List ℕ) → TellsOf (Some cut) session.old.cutter.line (line ∷ []) →
-        TurnIs result W session.old.bits history s line (K.held sink.old) (K.held sink.new) session.new.rows session.new.queries }
+        TurnIs result W session.old.config history s line (K.held sink.old) (K.held sink.new) session.new.rows session.new.queries }
     ensures cutter { session.new.cutter ≡ session.old.cutter }
-    ensures bits { session.new.bits ≡ session.old.bits }
+    ensures config { session.new.config ≡ session.old.config }
+    ensures layout { session.new.layout ≡ session.old.layout }
     ensures cause { IsCaused (K.faults sink.old) (K.faults sink.new) result }
 {
-    match read_cut(session.bits, &session.cutter, cut) {
+    match read_cut(session.config.bits, session.config.shards, &session.cutter, cut) {
         Err(fault) => say(&mut session.out, sink, &Reply::Bad(fault)),
         Ok(None) => Ok(Turn::Goes),
         Ok(Some(request)) => meet(session, request, sink),
@@ -100,13 +125,14 @@ fn meet<const W: usize, K: Sink>(
     sink: &mut K,
 ) -> Result<Turn, Failed>
     requires few_words { W ≤ 8 }
-    requires allowed { IsAllowed W session.old.bits }
+    requires ready { IsReady W session.old.config session.old.layout }
     ensures answers { (history : List JournalEntry) (s : State) →
-        Means W session.old.bits session.old.rows session.old.queries history s →
-        (line : List ℕ) → Ok (Some request.entry) ≡ stored_reading W (reading session.old.bits line) →
-        TurnIs result W session.old.bits history s line (K.held sink.old) (K.held sink.new) session.new.rows session.new.queries }
+        Means W session.old.config.bits session.old.rows session.old.queries history s →
+        (line : List ℕ) → Ok (Some request.entry) ≡ stored_reading W (reading session.old.config.bits session.old.config.shards line) →
+        TurnIs result W session.old.config history s line (K.held sink.old) (K.held sink.new) session.new.rows session.new.queries }
     ensures cutter { session.new.cutter ≡ session.old.cutter }
-    ensures bits { session.new.bits ≡ session.old.bits }
+    ensures config { session.new.config ≡ session.old.config }
+    ensures layout { session.new.layout ≡ session.old.layout }
     ensures cause { IsCaused (K.faults sink.old) (K.faults sink.new) result }
 {
     match request {
@@ -132,18 +158,31 @@ fn meet<const W: usize, K: Sink>(
             &mut session.out,
             sink,
         ),
+        Request::Layout { shard } => say(
+            &mut session.out,
+            sink,
+            &Reply::Layout {
+                shard,
+                text: session.layout.text(),
+            },
+        ),
         Request::Quit => Ok(Turn::Quits),
     }
 }
 
 // What the line that was cut last asks.
-fn read_cut<const W: usize>(bits: u32, cutter: &Cutter, cut: Cut) -> Result<Option<Request<W>>, Bad>
+fn read_cut<const W: usize>(
+    bits: u32,
+    shards: u32,
+    cutter: &Cutter,
+    cut: Cut,
+) -> Result<Option<Request<W>>, Bad>
     requires few_words { W ≤ 8 }
     requires allowed { IsAllowed W bits }
-    ensures { (line : List ℕ) → TellsOf (Some cut) cutter.now.line (line ∷ []) → result ≡ stored_reading W (reading bits line) }
+    ensures { (line : List ℕ) → TellsOf (Some cut) cutter.now.line (line ∷ []) → result ≡ stored_reading W (reading bits shards line) }
 {
     match cut {
-        Cut::Line => read_line(bits, cutter.line()),
-        Cut::Long => Err(Bad { number: 1, word: 0 }),
+        Cut::Line => read_line(bits, shards, cutter.line()),
+        Cut::Long => Err(Bad::line_too_long()),
     }
 }

@@ -1,23 +1,21 @@
 //! The top call.
 
-ghost use Rattle.std.specs.Prelude.{◌≡◌, ℕ, ◌↔◌, ◌⊎◌, ◌≤◌, List, map, string_bytes, Some, None, IsNone};
-ghost use Rattle.line_io.specs.Faults.{Rose};
-ghost use Rattle.gph_session.specs.CommandWords.{bits_asked};
-ghost use Rattle.gph_session.specs.Outcomes.{Untouched, IsDone, IsReadFault, IsWriteFault, IsInputLimit, ForBits, IsComplete, IsUnread, ends};
-ghost use Rattle.gph_session.specs.declared.top.TheConstants.{INPUT_MOST};
+ghost use Rattle.std.specs.Prelude.{◌≡◌, ℕ, ◌↔◌, ◌≤◌, map, string_bytes, Err};
+ghost use Rattle.gph_codes.specs.Allowed.{IsAllowed};
+ghost use Rattle.command_line.specs.CommandWords.{IsConfig, asked};
+ghost use Rattle.gph_session.specs.Outcomes.{Untouched, IsDone, IsReadFault, IsWriteFault, IsInputLimit, EndsAs, ForConfig, IsComplete, IsUnread, ends};
 
 use crate::Outcome;
-use crate::command_words::bits_of;
 use crate::serve::{BLOCK, serve};
-use crate::session::{Session, new_session};
+use crate::session::new_session;
+use command_line::read_words;
+use gph_codes::for_width;
 use line_io::{Sink, Source};
+use part_layout::Config;
 use std::alloc::Global;
 
-/// The most bytes of an input.
-pub const INPUT_MOST: u64 = 4_294_967_296;
-
-/// Serves one session over `source` and `sink`. The words are `run`, `--bits` and the number of bits of a code. Reads at most
-/// 4,096 bytes at a time, answers each whole line of a block before the next read, and offers each reply in one piece.
+/// Serves one session over `source` and `sink`, as the words ask: `run`, and the options `--bits`, `--parts` and `--input`. Reads
+/// at most 4,096 bytes at a time, answers each whole line of a block before the next read, and offers each reply in one piece.
 pub fn run<S: Source, K: Sink>(
     alloc: Global,
     words: &[String],
@@ -25,37 +23,68 @@ pub fn run<S: Source, K: Sink>(
     sink: &mut K,
 ) -> Outcome
     // Words that ask for nothing, and want of memory, are told before the first read.
-    ensures usage { (bits_asked (map string_bytes words.now) ≡ None) ↔ (result ≡ Outcome.Usage 1) }
-    ensures word { (word : ℕ) → result ≡ Outcome.Usage word → word ≡ 1 }
+    ensures usage { (word : ℕ) → (asked (map string_bytes words.now) ≡ Err word) ↔ (result ≡ Outcome.Usage word) }
     ensures unread { IsUnread result → Untouched
         (ends (S.left source.old) (S.faults source.old)) (ends (S.left source.new) (S.faults source.new))
         (ends (K.held sink.old) (K.faults sink.old)) (ends (K.held sink.new) (K.faults sink.new)) }
     // What was read and written, by each other outcome, with its cause.
-    ensures done { result ≡ Outcome.Done → ForBits IsDone (bits_asked (map string_bytes words.now)) INPUT_MOST
+    ensures done { result ≡ Outcome.Done → ForConfig IsDone (asked (map string_bytes words.now))
         (ends (S.left source.old) (S.faults source.old)) (ends (S.left source.new) (S.faults source.new))
         (ends (K.held sink.old) (K.faults sink.old)) (ends (K.held sink.new) (K.faults sink.new)) }
-    ensures read_fault { result ≡ Outcome.ReadFault → ForBits IsReadFault (bits_asked (map string_bytes words.now)) INPUT_MOST
+    ensures read_fault { result ≡ Outcome.ReadFault → ForConfig IsReadFault (asked (map string_bytes words.now))
         (ends (S.left source.old) (S.faults source.old)) (ends (S.left source.new) (S.faults source.new))
         (ends (K.held sink.old) (K.faults sink.old)) (ends (K.held sink.new) (K.faults sink.new)) }
-    ensures write_fault { result ≡ Outcome.WriteFault → ForBits IsWriteFault (bits_asked (map string_bytes words.now)) INPUT_MOST
+    ensures write_fault { result ≡ Outcome.WriteFault → ForConfig IsWriteFault (asked (map string_bytes words.now))
         (ends (S.left source.old) (S.faults source.old)) (ends (S.left source.new) (S.faults source.new))
         (ends (K.held sink.old) (K.faults sink.old)) (ends (K.held sink.new) (K.faults sink.new)) }
-    ensures input_limit { result ≡ Outcome.InputLimit → ForBits IsInputLimit (bits_asked (map string_bytes words.now)) INPUT_MOST
+    ensures input_limit { result ≡ Outcome.InputLimit → ForConfig IsInputLimit (asked (map string_bytes words.now))
         (ends (S.left source.old) (S.faults source.old)) (ends (S.left source.new) (S.faults source.new))
         (ends (K.held sink.old) (K.faults sink.old)) (ends (K.held sink.new) (K.faults sink.new)) }
     // No input within the limit is turned away, unless a fault rose or memory lacked.
-    ensures complete { IsComplete result (bits_asked (map string_bytes words.now)) INPUT_MOST
+    ensures complete { IsComplete result (asked (map string_bytes words.now))
         (ends (S.left source.old) (S.faults source.old)) (ends (S.left source.new) (S.faults source.new))
         (ends (K.held sink.old) (K.faults sink.old)) (ends (K.held sink.new) (K.faults sink.new)) }
 {
-    let Some(bits) = bits_of(words) else {
-        return Outcome::Usage { word: 1 };
-    };
-    let Ok(mut session) = new_session::<1>(alloc, bits) else {
+    match read_words(words) {
+        Ok(config) => serve_any(alloc, &config, source, sink),
+        Err(word) => Outcome::Usage { word },
+    }
+}
+
+// Serves a session over codes of any allowed number of bits.
+fn serve_any<S: Source, K: Sink>(
+    alloc: Global,
+    config: &Config,
+    source: &mut S,
+    sink: &mut K,
+) -> Outcome
+    requires { IsConfig config.now }
+    ensures { EndsAs result config.now
+        (ends (S.left source.old) (S.faults source.old)) (ends (S.left source.new) (S.faults source.new))
+        (ends (K.held sink.old) (K.faults sink.old)) (ends (K.held sink.new) (K.faults sink.new)) }
+{
+    for_width!(config.bits, serve_width, alloc, config, source, sink)
+}
+
+// Serves a session over codes of W words.
+fn serve_width<const W: usize, S: Source, K: Sink>(
+    alloc: Global,
+    config: &Config,
+    source: &mut S,
+    sink: &mut K,
+) -> Outcome
+    requires few_words { W ≤ 8 }
+    requires allowed { IsAllowed W config.now.bits }
+    requires config { IsConfig config.now }
+    ensures { EndsAs result config.now
+        (ends (S.left source.old) (S.faults source.old)) (ends (S.left source.new) (S.faults source.new))
+        (ends (K.held sink.old) (K.faults sink.old)) (ends (K.held sink.new) (K.faults sink.new)) }
+{
+    let Ok(mut session) = new_session::<W>(alloc, config) else {
         return Outcome::NoMemory;
     };
     let Ok(mut block) = Vec::from_elem(alloc, 0u8, BLOCK) else {
         return Outcome::NoMemory;
     };
-    serve(&mut session, block.as_mut_slice(), INPUT_MOST, source, sink)
+    serve(&mut session, block.as_mut_slice(), source, sink)
 }

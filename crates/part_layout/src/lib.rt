@@ -2,5 +2,7 @@
 #![tactic(auto)]
 
 mod config;
+mod layout_text;
 
 pub use config::Config;
+pub use layout_text::LayoutText;

@@ -107,5 +107,7 @@ reply_no_feed (reply.Hit tag dist key) is =
 reply_no_feed (reply.More tag) is = no_feed_joined (codes "more ") tag refl (tag_no_feed tag is)
 reply_no_feed (reply.Done tag count) is =
     four (codes "done ") tag (codes " ") (decimal count) refl (tag_no_feed tag is.0) refl (number_no_feed count is.1)
+reply_no_feed (reply.Layout shard text) is =
+    four (codes "layout ") (decimal shard) (codes " ") text refl (number_no_feed shard is.0) refl is.1
 reply_no_feed (reply.Bad fault) is = fault_no_feed fault is.0 is.1
 reply_no_feed reply.NoMemory is = refl

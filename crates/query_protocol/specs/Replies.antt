@@ -19,6 +19,7 @@ reply_text (reply.Open tag at) = codes "open " ++ tag ++ codes " at " ++ decimal
 reply_text (reply.Hit tag dist key) = codes "hit " ++ tag ++ codes " " ++ decimal dist ++ codes " " ++ decimal key
 reply_text (reply.More tag) = codes "more " ++ tag
 reply_text (reply.Done tag count) = codes "done " ++ tag ++ codes " " ++ decimal count
+reply_text (reply.Layout shard text) = codes "layout " ++ decimal shard ++ codes " " ++ text
 reply_text (reply.Bad fault) = fault_text fault
 reply_text reply.NoMemory = codes "nomem"
 
@@ -38,7 +39,7 @@ has_no_feed bytes = list_all (λ byte. not (byte == 10)) bytes
 abbrev pub IsWord64 : ℕ → Type 0
 IsWord64 number = number < 2 ^ 64
 
--- what a reply may hold: numbers of at most 64 bits, and tags of the form of tags
+-- what a reply may hold: numbers of at most 64 bits, tags of the form of tags, and a layout's text with no line feed
 abbrev pub IsWritten : Reply → Type 0
 IsWritten (reply.Added key at) = IsWord64 key × IsWord64 at
 IsWritten (reply.Taken key at) = IsWord64 key × IsWord64 at
@@ -46,5 +47,6 @@ IsWritten (reply.Open tag at) = (is_tag tag ≡ true) × IsWord64 at
 IsWritten (reply.Hit tag dist key) = (is_tag tag ≡ true) × IsWord64 dist × IsWord64 key
 IsWritten (reply.More tag) = is_tag tag ≡ true
 IsWritten (reply.Done tag count) = (is_tag tag ≡ true) × IsWord64 count
+IsWritten (reply.Layout shard text) = IsWord64 shard × (has_no_feed text ≡ true)
 IsWritten (reply.Bad fault) = IsWord64 fault.number × IsWord64 fault.word
 IsWritten reply.NoMemory = Unit {0}

@@ -4,9 +4,10 @@ ghost use Rattle.query_protocol.specs.declared.reply.Reply.TheVariants as reply;
 
 use crate::{Bad, Tag};
 use line_io::LineBuf;
+use part_layout::LayoutText;
 
 /// One line of output.
-#[derive(Clone, Copy, Debug)]
+#[derive(Debug, Drop)]
 pub enum Reply {
     /// The entry that adds the key was accepted, as the entry of this number.
     Added { key: u64, at: u64 },
@@ -20,6 +21,8 @@ pub enum Reply {
     More { tag: Tag },
     /// The answer was given whole; `count` is the number of its hits.
     Done { tag: Tag, count: u64 },
+    /// The shard's layout, by its text.
+    Layout { shard: u32, text: LayoutText },
     /// The line is no request, or the request can't be met.
     Bad(Bad),
     /// There was no memory for the request, and it changed nothing.
@@ -39,6 +42,7 @@ impl Reply {
             Reply::Hit { tag, dist, key } => write_hit(tag, *dist, *key, out),
             Reply::More { tag } => write_more(tag, out),
             Reply::Done { tag, count } => write_done(tag, *count, out),
+            Reply::Layout { shard, text } => write_layout(*shard, text, out),
             Reply::Bad(fault) => write_fault(fault, out),
             Reply::NoMemory => out.put(b"nomem\n"),
         }
@@ -99,6 +103,17 @@ fn write_done(tag: &Tag, count: u64, out: &mut LineBuf)
     out.put(tag.bytes());
     out.put(b" ");
     out.put_number(count);
+    out.put(b"\n");
+}
+
+fn write_layout(shard: u32, text: &LayoutText, out: &mut LineBuf)
+    requires { out.old ≡ [] }
+    ensures { out.new ≡ reply_line (reply.Layout shard text.now) }
+{
+    out.put(b"layout ");
+    out.put_number(u64::from(shard));
+    out.put(b" ");
+    out.put(text.bytes());
     out.put(b"\n");
 }
 

@@ -7,41 +7,43 @@ use Rattle.gph_session.proofs.block.answer_block.Goals as goal
 pub loop-done-init : goal.loop-done-init
 loop-done-init g c = record {
   within = omega arith;
-  bits = search rules;
-  goes = λ bytes output standing. still_stands g.row.W c.args.session.now.bits bytes output c.args.session.now.rows c.args.session.now.queries c.args.session.now.cutter.held (g.K.Sink.held c.args.sink.now) standing;
+  config = search rules;
+  layout = search rules;
+  goes = λ bytes output standing. still_stands g.row.W c.args.session.now.config bytes output c.args.session.now.rows c.args.session.now.queries c.args.session.now.cutter.held (g.K.Sink.held c.args.sink.now) standing;
   never_falls = omega arith;
 }
 
 pub loop-done-preserved : goal.loop-done-preserved
 loop-done-preserved g c = record {
   within = omega (arith, c.answer_line-taken.ensures.progress.1, length-take (length c.args.block.now - c.loop-done.done) (drop c.loop-done.done c.args.block.now), length-drop c.loop-done.done c.args.block.now);
-  bits = c.answer_line-taken.ensures.bits ∙ c.loop-done.invariant.bits;
-  goes = λ bytes output standing. goes_on_by g.row.W c.args.session.now.bits c.loop-done.session.bits c.loop-done.done c.answer_line-taken.result.0 c.args.block.now c.answer_line-taken.result.1
+  config = c.answer_line-taken.ensures.config ∙ c.loop-done.invariant.config;
+  layout = c.answer_line-taken.ensures.layout ∙ c.loop-done.invariant.layout;
+  goes = λ bytes output standing. goes_on_by g.row.W c.args.session.now.config c.loop-done.session.config c.loop-done.done c.answer_line-taken.result.0 c.args.block.now c.answer_line-taken.result.1
       (g.K.Sink.held c.args.sink.now) (g.K.Sink.held c.loop-done.sink) (g.K.Sink.held c.answer_line-taken.new.sink)
       c.args.session.now.rows c.args.session.now.queries c.args.session.now.cutter.held c.loop-done.session.rows c.loop-done.session.queries c.loop-done.session.cutter.held
       c.answer_line-taken.new.session.rows c.answer_line-taken.new.session.queries c.answer_line-taken.new.session.cutter.held
-      c.loop-done.invariant.bits c.loop-done.invariant.goes c.answer_line-taken.ensures.flow bytes output standing (search rules);
+      c.loop-done.invariant.config c.loop-done.invariant.goes c.answer_line-taken.ensures.flow bytes output standing (search rules);
   never_falls = omega (arith, c.loop-done.invariant.never_falls, c.answer_line-taken.ensures.cause.never_falls);
 }
 
 pub returns-in-Ok-Quits-clause-flow : goal.returns-in-Ok-Quits-clause-flow
 returns-in-Ok-Quits-clause-flow g c = λ bytes output standing.
-    quits_by g.row.W c.args.session.now.bits c.loop-done.session.bits c.loop-done.done c.answer_line-taken.result.0 c.args.block.now c.answer_line-taken.result.1
+    quits_by g.row.W c.args.session.now.config c.loop-done.session.config c.loop-done.done c.answer_line-taken.result.0 c.args.block.now c.answer_line-taken.result.1
     (g.K.Sink.held c.args.sink.now) (g.K.Sink.held c.loop-done.sink) (g.K.Sink.held c.answer_line-taken.new.sink)
     c.args.session.now.rows c.args.session.now.queries c.args.session.now.cutter.held c.loop-done.session.rows c.loop-done.session.queries c.loop-done.session.cutter.held
     c.answer_line-taken.new.session.rows c.answer_line-taken.new.session.queries c.answer_line-taken.new.session.cutter.held
-    c.loop-done.invariant.bits c.loop-done.invariant.goes c.answer_line-taken.ensures.flow bytes output standing (search rules)
+    c.loop-done.invariant.config c.loop-done.invariant.goes c.answer_line-taken.ensures.flow bytes output standing (search rules)
 
 pub returns-in-Err-clause-flow : goal.returns-in-Err-clause-flow
 returns-in-Err-clause-flow g c = λ bytes output standing.
-    refused_by g.row.W c.args.session.now.bits c.loop-done.session.bits c.loop-done.done c.answer_line-taken.result.0 c.args.block.now c.answer_line-taken.result.1
+    refused_by g.row.W c.args.session.now.config c.loop-done.session.config c.loop-done.done c.answer_line-taken.result.0 c.args.block.now c.answer_line-taken.result.1
     (g.K.Sink.held c.args.sink.now) (g.K.Sink.held c.loop-done.sink) (g.K.Sink.held c.answer_line-taken.new.sink)
     c.args.session.now.rows c.args.session.now.queries c.args.session.now.cutter.held c.loop-done.session.rows c.loop-done.session.queries c.loop-done.session.cutter.held
     c.answer_line-taken.new.session.rows c.answer_line-taken.new.session.queries c.answer_line-taken.new.session.cutter.held
-    c.loop-done.invariant.bits c.loop-done.invariant.goes c.answer_line-taken.ensures.flow bytes output standing c.in-Err.field-0 c.in-Err.is
+    c.loop-done.invariant.config c.loop-done.invariant.goes c.answer_line-taken.ensures.flow bytes output standing c.in-Err.field-0 c.in-Err.is
 
 pub returns-clause-flow : goal.returns-clause-flow
 returns-clause-flow g c = λ bytes output standing.
     let whole : take c.loop-done.done c.args.block.now ≡ c.args.block.now = take_all c.loop-done.done c.args.block.now (omega arith) in
     let end = c.loop-done.invariant.goes bytes output standing in
-    (end.0, end.1, subst (λ l. Stands g.row.W c.args.session.now.bits (bytes ++ l) (output ++ end.0) c.loop-done.session.rows c.loop-done.session.queries c.loop-done.session.cutter.held) whole end.2)
+    (end.0, end.1, subst (λ l. Stands g.row.W c.args.session.now.config (bytes ++ l) (output ++ end.0) c.loop-done.session.rows c.loop-done.session.queries c.loop-done.session.cutter.held) whole end.2)

@@ -8,7 +8,7 @@ use Rattle.gph_session.proofs.serve.serve.Goals as goal
 
 pub returns-in-Err : goal.returns-in-Err
 returns-in-Err g c =
-    read_fault g.row.W c.args.session.now.bits c.args.limit c.loop-session.taken
+    read_fault g.row.W c.args.session.now.config c.loop-session.taken
     (g.S.Source.left c.args.source.now) (g.S.Source.left c.loop-session.source) (g.S.Source.left c.read.new.self)
     (g.K.Sink.held c.args.sink.now) (g.K.Sink.held c.loop-session.sink) (g.K.Sink.held c.loop-session.sink)
     (g.S.Source.faults c.args.source.now) (g.S.Source.faults c.loop-session.source) (g.S.Source.faults c.read.new.self)
@@ -22,13 +22,13 @@ returns-in-Ok-answer_end g c =
     let room : 0 < length c.read.new.room = omega (arith, size, c.clamp-room.ensures) in
     let none : Consumes (g.S.Source.left c.loop-session.source) (g.S.Source.left c.read.new.self) [] = subst (λ n. Consumes (g.S.Source.left c.loop-session.source) (g.S.Source.left c.read.new.self) (take n c.read.new.room)) c.in-Ok-eq0.field-0-test c.in-Ok-eq0.ensures.bytes.0 in
     let at_end = c.in-Ok-eq0.ensures.bytes.1 c.in-Ok-eq0.field-0-test room in
-    done_at_end g.row.W c.args.session.now.bits c.args.limit c.loop-session.taken
+    done_at_end g.row.W c.args.session.now.config c.loop-session.taken
     (g.S.Source.left c.args.source.now) (g.S.Source.left c.loop-session.source) (g.S.Source.left c.read.new.self)
     (g.K.Sink.held c.args.sink.now) (g.K.Sink.held c.loop-session.sink) (g.K.Sink.held c.answer_end.new.sink)
     (g.S.Source.faults c.args.source.now) (g.S.Source.faults c.loop-session.source) (g.S.Source.faults c.read.new.self)
     (g.K.Sink.faults c.args.sink.now) (g.K.Sink.faults c.loop-session.sink) (g.K.Sink.faults c.answer_end.new.sink)
     c.loop-session.session.rows c.loop-session.session.queries c.loop-session.session.cutter.held c.loop-session.invariant.within c.loop-session.invariant.goes
-    c.loop-session.session.bits c.loop-session.invariant.bits none at_end c.in-Ok-answer_end.ensures.flow
+    c.loop-session.session.config c.loop-session.invariant.config none at_end c.in-Ok-answer_end.ensures.flow
 
 pub returns-in-Err-answer_end : goal.returns-in-Err-answer_end
 returns-in-Err-answer_end g c =
@@ -36,13 +36,13 @@ returns-in-Err-answer_end g c =
     let room : 0 < length c.read.new.room = omega (arith, size, c.clamp-room.ensures) in
     let none : Consumes (g.S.Source.left c.loop-session.source) (g.S.Source.left c.read.new.self) [] = subst (λ n. Consumes (g.S.Source.left c.loop-session.source) (g.S.Source.left c.read.new.self) (take n c.read.new.room)) c.in-Ok-eq0.field-0-test c.in-Ok-eq0.ensures.bytes.0 in
     let at_end = c.in-Ok-eq0.ensures.bytes.1 c.in-Ok-eq0.field-0-test room in
-    refused_at_end g.row.W c.args.session.now.bits c.args.limit c.loop-session.taken
+    refused_at_end g.row.W c.args.session.now.config c.loop-session.taken
     (g.S.Source.left c.args.source.now) (g.S.Source.left c.loop-session.source) (g.S.Source.left c.read.new.self)
     (g.K.Sink.held c.args.sink.now) (g.K.Sink.held c.loop-session.sink) (g.K.Sink.held c.answer_end.new.sink)
     (g.S.Source.faults c.args.source.now) (g.S.Source.faults c.loop-session.source) (g.S.Source.faults c.read.new.self)
     (g.K.Sink.faults c.args.sink.now) (g.K.Sink.faults c.loop-session.sink) (g.K.Sink.faults c.answer_end.new.sink)
     c.loop-session.session.rows c.loop-session.session.queries c.loop-session.session.cutter.held c.loop-session.invariant.within c.loop-session.invariant.goes
-    c.loop-session.session.bits c.loop-session.invariant.bits none at_end c.loop-session.invariant.sink_faults c.in-Err-answer_end.ensures.cause.failed c.in-Err-answer_end.ensures.flow
+    c.loop-session.session.config c.loop-session.invariant.config none at_end c.loop-session.invariant.sink_faults c.in-Err-answer_end.ensures.cause.failed c.in-Err-answer_end.ensures.flow
 
 pub returns-then-taken-limit : goal.returns-then-taken-limit
 returns-then-taken-limit g c =
@@ -51,7 +51,7 @@ returns-then-taken-limit g c =
     let one : c.in-Ok.count ≡ 1 = omega (arith, size, c.clamp-room.ensures, c.in-Ok.ensures.bound.0, c.if-taken-limit.true, some) in
     let room : 0 < length c.read.new.room = omega (arith, size, c.clamp-room.ensures) in
     let read = subst (Consumes (g.S.Source.left c.loop-session.source) (g.S.Source.left c.read.new.self)) (ap (λ n. take n c.read.new.room) one ∙ take_one c.read.new.room room) c.in-Ok.ensures.bytes.0 in
-    limit_reached g.row.W c.args.session.now.bits c.args.limit c.loop-session.taken
+    limit_reached g.row.W c.args.session.now.config c.loop-session.taken
     (g.S.Source.left c.args.source.now) (g.S.Source.left c.loop-session.source) (g.S.Source.left c.read.new.self)
     (g.K.Sink.held c.args.sink.now) (g.K.Sink.held c.loop-session.sink) (g.K.Sink.held c.loop-session.sink)
     (g.S.Source.faults c.args.source.now) (g.S.Source.faults c.loop-session.source) (g.S.Source.faults c.read.new.self)
@@ -68,20 +68,21 @@ loop-session-preserved g c =
     let same : piece ≡ take count c.read.new.room = take-append-le count c.read.new.room (drop c.clamp-room.result c.loop-session.block) c.in-Ok.ensures.bound.0 in
     let long : length piece ≡ count = ap length same ∙ sym c.in-Ok.ensures.bound.1 in
     let read = subst (Consumes (g.S.Source.left c.loop-session.source) (g.S.Source.left c.read.new.self)) (sym same) c.in-Ok.ensures.bytes.0 in
-    let fits : c.loop-session.taken + length piece ≤ c.args.limit = omega (arith, size, long, c.clamp-room.ensures, c.in-Ok.ensures.bound.0, c.loop-session.invariant.within) in
-    let goes = goes_more g.row.W c.args.session.now.bits c.args.limit c.loop-session.taken
+    let fits : c.loop-session.taken + length piece ≤ c.args.session.now.config.input = omega (arith, size, long, c.clamp-room.ensures, c.in-Ok.ensures.bound.0, c.loop-session.invariant.within) in
+    let goes = goes_more g.row.W c.args.session.now.config c.loop-session.taken
     (g.S.Source.left c.args.source.now) (g.S.Source.left c.loop-session.source) (g.S.Source.left c.read.new.self)
     (g.K.Sink.held c.args.sink.now) (g.K.Sink.held c.loop-session.sink) (g.K.Sink.held c.answer_block.new.sink)
     (g.S.Source.faults c.args.source.now) (g.S.Source.faults c.loop-session.source) (g.S.Source.faults c.read.new.self)
     (g.K.Sink.faults c.args.sink.now) (g.K.Sink.faults c.loop-session.sink) (g.K.Sink.faults c.answer_block.new.sink)
     c.loop-session.session.rows c.loop-session.session.queries c.loop-session.session.cutter.held c.loop-session.invariant.within c.loop-session.invariant.goes
-    c.loop-session.session.bits c.loop-session.invariant.bits piece read fits c.answer_block.new.session.rows c.answer_block.new.session.queries c.answer_block.new.session.cutter.held (λ bytes output standing.
+    c.loop-session.session.config c.loop-session.invariant.config piece read fits c.answer_block.new.session.rows c.answer_block.new.session.queries c.answer_block.new.session.cutter.held (λ bytes output standing.
     let is : c.answer_block.result ≡ Ok Goes = search rules in
     let f = c.answer_block.ensures.flow bytes output standing in
-    (f.0, f.1, subst (λ r. FlowIs r g.row.W c.loop-session.session.bits (bytes ++ piece) (output ++ f.0) c.answer_block.new.session.rows c.answer_block.new.session.queries c.answer_block.new.session.cutter.held) is f.2)) in
+    (f.0, f.1, subst (λ r. FlowIs r g.row.W c.loop-session.session.config (bytes ++ piece) (output ++ f.0) c.answer_block.new.session.rows c.answer_block.new.session.queries c.answer_block.new.session.cutter.held) is f.2)) in
     record {
       within = omega (arith, long, fits);
-      bits = c.answer_block.ensures.bits ∙ c.loop-session.invariant.bits;
+      config = c.answer_block.ensures.config ∙ c.loop-session.invariant.config;
+      layout = c.answer_block.ensures.layout ∙ c.loop-session.invariant.layout;
       goes = (goes.0, goes.1, goes.2, goes.3, goes.4 ∙ ap (λ n. c.loop-session.taken + n) long, goes.5);
       source_faults = omega (arith, c.loop-session.invariant.source_faults, c.in-Ok.ensures.cause.never_falls);
       sink_faults = omega (arith, c.loop-session.invariant.sink_faults, c.answer_block.ensures.cause.never_falls);
@@ -96,17 +97,17 @@ returns-in-Ok-Quits g c =
     let same : piece ≡ take count c.read.new.room = take-append-le count c.read.new.room (drop c.clamp-room.result c.loop-session.block) c.in-Ok.ensures.bound.0 in
     let long : length piece ≡ count = ap length same ∙ sym c.in-Ok.ensures.bound.1 in
     let read = subst (Consumes (g.S.Source.left c.loop-session.source) (g.S.Source.left c.read.new.self)) (sym same) c.in-Ok.ensures.bytes.0 in
-    let fits : c.loop-session.taken + length piece ≤ c.args.limit = omega (arith, size, long, c.clamp-room.ensures, c.in-Ok.ensures.bound.0, c.loop-session.invariant.within) in
-    done_by_quit g.row.W c.args.session.now.bits c.args.limit c.loop-session.taken
+    let fits : c.loop-session.taken + length piece ≤ c.args.session.now.config.input = omega (arith, size, long, c.clamp-room.ensures, c.in-Ok.ensures.bound.0, c.loop-session.invariant.within) in
+    done_by_quit g.row.W c.args.session.now.config c.loop-session.taken
     (g.S.Source.left c.args.source.now) (g.S.Source.left c.loop-session.source) (g.S.Source.left c.read.new.self)
     (g.K.Sink.held c.args.sink.now) (g.K.Sink.held c.loop-session.sink) (g.K.Sink.held c.answer_block.new.sink)
     (g.S.Source.faults c.args.source.now) (g.S.Source.faults c.loop-session.source) (g.S.Source.faults c.read.new.self)
     (g.K.Sink.faults c.args.sink.now) (g.K.Sink.faults c.loop-session.sink) (g.K.Sink.faults c.answer_block.new.sink)
     c.loop-session.session.rows c.loop-session.session.queries c.loop-session.session.cutter.held c.loop-session.invariant.within c.loop-session.invariant.goes
-    c.loop-session.session.bits c.loop-session.invariant.bits piece read fits (λ bytes output standing.
+    c.loop-session.session.config c.loop-session.invariant.config piece read fits (λ bytes output standing.
     let is : c.answer_block.result ≡ Ok Quits = search rules in
     let f = c.answer_block.ensures.flow bytes output standing in
-    (f.0, f.1, subst (λ r. FlowIs r g.row.W c.loop-session.session.bits (bytes ++ piece) (output ++ f.0) c.answer_block.new.session.rows c.answer_block.new.session.queries c.answer_block.new.session.cutter.held) is f.2))
+    (f.0, f.1, subst (λ r. FlowIs r g.row.W c.loop-session.session.config (bytes ++ piece) (output ++ f.0) c.answer_block.new.session.rows c.answer_block.new.session.queries c.answer_block.new.session.cutter.held) is f.2))
 
 pub returns-in-Err-answer_block : goal.returns-in-Err-answer_block
 returns-in-Err-answer_block g c =
@@ -117,11 +118,11 @@ returns-in-Err-answer_block g c =
     let same : piece ≡ take count c.read.new.room = take-append-le count c.read.new.room (drop c.clamp-room.result c.loop-session.block) c.in-Ok.ensures.bound.0 in
     let long : length piece ≡ count = ap length same ∙ sym c.in-Ok.ensures.bound.1 in
     let read = subst (Consumes (g.S.Source.left c.loop-session.source) (g.S.Source.left c.read.new.self)) (sym same) c.in-Ok.ensures.bytes.0 in
-    let fits : c.loop-session.taken + length piece ≤ c.args.limit = omega (arith, size, long, c.clamp-room.ensures, c.in-Ok.ensures.bound.0, c.loop-session.invariant.within) in
-    refused_in_block g.row.W c.args.session.now.bits c.args.limit c.loop-session.taken
+    let fits : c.loop-session.taken + length piece ≤ c.args.session.now.config.input = omega (arith, size, long, c.clamp-room.ensures, c.in-Ok.ensures.bound.0, c.loop-session.invariant.within) in
+    refused_in_block g.row.W c.args.session.now.config c.loop-session.taken
     (g.S.Source.left c.args.source.now) (g.S.Source.left c.loop-session.source) (g.S.Source.left c.read.new.self)
     (g.K.Sink.held c.args.sink.now) (g.K.Sink.held c.loop-session.sink) (g.K.Sink.held c.answer_block.new.sink)
     (g.S.Source.faults c.args.source.now) (g.S.Source.faults c.loop-session.source) (g.S.Source.faults c.read.new.self)
     (g.K.Sink.faults c.args.sink.now) (g.K.Sink.faults c.loop-session.sink) (g.K.Sink.faults c.answer_block.new.sink)
     c.loop-session.session.rows c.loop-session.session.queries c.loop-session.session.cutter.held c.loop-session.invariant.within c.loop-session.invariant.goes
-    c.loop-session.session.bits c.loop-session.invariant.bits piece read fits c.loop-session.invariant.sink_faults c.in-Err-answer_block.ensures.cause.failed c.in-Err-answer_block.ensures.flow
+    c.loop-session.session.config c.loop-session.invariant.config piece read fits c.loop-session.invariant.sink_faults c.in-Err-answer_block.ensures.cause.failed c.in-Err-answer_block.ensures.flow

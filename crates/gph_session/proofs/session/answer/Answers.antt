@@ -5,10 +5,10 @@ use Rattle.gph_session.proofs.session.answer.Goals as goal
 
 pub returns-in-Err-clause-answers : goal.returns-in-Err-clause-answers
 returns-in-Err-clause-answers g c = λ history s means line tells.
-    fault_turn g.row.W c.args.session.now.bits history s c.args.session.now.rows c.args.session.now.queries means line
+    fault_turn g.row.W c.args.session.now.config history s c.args.session.now.rows c.args.session.now.queries means line
     (g.K.Sink.held c.args.sink.now) (g.K.Sink.held c.say.new.sink) c.in-Err.fault c.say.result (c.in-Err.ensures line tells) c.say.ensures.goes c.say.ensures.written
 
 pub returns-in-Ok-None-clause-answers : goal.returns-in-Ok-None-clause-answers
 returns-in-Ok-None-clause-answers g c = λ history s means line tells.
-    nothing_turn g.row.W c.args.session.now.bits history s c.args.session.now.rows c.args.session.now.queries means line
+    nothing_turn g.row.W c.args.session.now.config history s c.args.session.now.rows c.args.session.now.queries means line
     (g.K.Sink.held c.args.sink.now) (g.K.Sink.held c.args.sink.now) (ap (λ f. Ok f) (sym c.in-Ok-None.field-0-is) ∙ c.in-Ok-None.ensures line tells) (Appends-nil (g.K.Sink.held c.args.sink.now))
