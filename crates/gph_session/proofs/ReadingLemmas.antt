@@ -6,7 +6,7 @@ use Rattle.std.proofs.lemmas.Bool.Decides.{Decides-eqb}
 use Rattle.hamming_model.specs.Codes.{bits_of, hex_code, padded, IsCode}
 use Rattle.query_protocol.specs.Words.{words, is_printable}
 use Rattle.query_protocol.specs.Forms.{key_of, radius_of, count_of, code_of, tag_of}
-use Rattle.query_protocol.specs.Requests.{LineRequest, Add, Range, Next, Quit, request_word, add_of, range_of, next_of, with_words, of_words, reading, stored_reading, bad}
+use Rattle.query_protocol.specs.Requests.{LineRequest, Add, Range, Next, Quit, request_word, add_of, range_of, next_of, with_words, of_words, exact_reading, told, reading, stored_reading, bad}
 use Rattle.query_protocol.specs.declared.bad.Bad.{Bad}
 use Rattle.query_protocol.specs.declared.request.Request.{Request}
 use Rattle.query_protocol.specs.declared.request.Request.TheVariants as kept
@@ -167,7 +167,12 @@ chosen_code : (bits : ℕ) (test : Bool) (fault : Bad) (asked : Result (Option L
 chosen_code bits true fault asked h = tt
 chosen_code bits false fault asked h = h
 
+told_code : (bits : ℕ) (asked : Result (Option LineRequest) Bad) → HasCode bits asked → HasCode bits (told asked)
+told_code bits (Ok asked) h = h
+told_code bits (Err fault) h = tt
+
 pub code_read : (bits : ℕ) → bits % 8 ≡ 0 → (line : List ℕ) → HasCode bits (reading bits line)
 code_read bits whole line =
-    chosen_code bits (nat_lt 4096 (length line)) (bad 1) _
-    (chosen_code bits (not (is_printable line)) (bad 2) (of_words bits (words line)) (line_words_code bits whole (words line)))
+    told_code bits (exact_reading bits line)
+    (chosen_code bits (nat_lt 4096 (length line)) (bad 1) _
+    (chosen_code bits (not (is_printable line)) (bad 2) (of_words bits (words line)) (line_words_code bits whole (words line))))

@@ -144,6 +144,6 @@ fn read_cut<const W: usize>(bits: u32, cutter: &Cutter, cut: Cut) -> Result<Opti
 {
     match cut {
         Cut::Line => read_line(bits, cutter.line()),
-        Cut::Long => Err(Bad { number: 1, word: 0 }),
+        Cut::Long => Err(Bad::line_too_long()),
     }
 }

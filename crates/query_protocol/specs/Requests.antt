@@ -67,10 +67,19 @@ of_words bits [] = Ok None
 of_words bits (word ∷ after) = with_words bits (request_word word) after
 
 -- a line, where codes have so many bits: a request, nothing, or its first fault
-abbrev pub reading : ℕ → List ℕ → Result (Option LineRequest) Bad
-reading bits line =
+abbrev pub exact_reading : ℕ → List ℕ → Result (Option LineRequest) Bad
+exact_reading bits line =
     if nat_lt 4096 (length line) then Err (bad 1) else
     if not (is_printable line) then Err (bad 2) else of_words bits (words line)
+
+-- that, with the one number that this version tells of every fault
+abbrev pub told : Result (Option LineRequest) Bad → Result (Option LineRequest) Bad
+told (Ok asked) = Ok asked
+told (Err fault) = Err (bad 3)
+
+-- what a session takes a line for
+abbrev pub reading : ℕ → List ℕ → Result (Option LineRequest) Bad
+reading bits line = told (exact_reading bits line)
 
 -- a request with its code as W words of 64 bits keep it
 abbrev pub stored : (W : ℕ) → LineRequest → Request W

@@ -11,11 +11,11 @@ pub struct Bad {
 }
 
 impl Bad {
-    /// The fault of a line of more than 4,096 bytes, which is judged first.
+    /// The fault of a line of more than 4,096 bytes.
     pub fn line_too_long() -> Bad
         ensures { (bits : ℕ) (line : List ℕ) → 4096 < length line → reading bits line ≡ Err result }
     {
-        Bad::of_line(1)
+        Bad::of_line(3)
     }
 
     /// A fault of the whole line.

@@ -4,23 +4,35 @@ ghost use Rattle.std.specs.Prelude.{◌≡◌, ℕ, ◌≤◌, Some, length};
 ghost use Rattle.gph_codes.specs.Allowed.{IsAllowed};
 ghost use Rattle.line_io.specs.declared.cutter.TheConstants.{LINE_MOST};
 ghost use Rattle.query_protocol.specs.Words.{words};
-ghost use Rattle.query_protocol.specs.Requests.{reading, of_words, stored_reading, request_word, with_words};
+ghost use Rattle.query_protocol.specs.Requests.{reading, exact_reading, of_words, stored_reading, request_word, with_words};
 ghost use Rattle.query_protocol.specs.declared.request.RequestWord.TheVariants.{AddWord, RangeWord, NextWord, QuitWord};
 
 use crate::forms::{code_of, count_of, key_of, radius_of};
 use crate::words::{is_printable, next_word};
 use crate::{Bad, Request, RequestWord, Tag};
 
-/// What a line asks, where codes have `bits` bits: None where the line has no word, else a request or
-/// the line's first fault. The line comes without its end; for a longer one see `Bad::line_too_long`.
-///
-/// The faults, each judged where none before it was found: 2, a byte is no printable ASCII; 3, the first
-/// word is no request word; 4, the request has another number of words; 5, a word is not of its form.
+/// What a line asks, where codes have `bits` bits: None where the line has no word, else a request, or
+/// `bad 3` where it is none. The line comes without its end; for a longer one see `Bad::line_too_long`.
 pub fn read_line<const W: usize>(bits: u32, line: &[u8]) -> Result<Option<Request<W>>, Bad>
     requires few_words { W ≤ 8 }
     requires allowed { IsAllowed W bits }
     requires short { length line.now ≤ LINE_MOST }
     ensures { result ≡ stored_reading W (reading bits line.now) }
+{
+    match read_exactly(bits, line) {
+        Ok(asked) => Ok(asked),
+        Err(_) => Err(Bad::of_line(3)),
+    }
+}
+
+// What a line asks, or its first fault, each judged where none before it was found: 2, a byte is no
+// printable ASCII; 3, the first word is no request word; 4, the request has another number of words;
+// 5, a word is not of its form.
+fn read_exactly<const W: usize>(bits: u32, line: &[u8]) -> Result<Option<Request<W>>, Bad>
+    requires few_words { W ≤ 8 }
+    requires allowed { IsAllowed W bits }
+    requires short { length line.now ≤ LINE_MOST }
+    ensures { result ≡ stored_reading W (exact_reading bits line.now) }
 {
     if !is_printable(line) {
         return Err(Bad::of_line(2));
