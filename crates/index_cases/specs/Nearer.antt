@@ -26,8 +26,10 @@ rises (d ∷ rest) fewer more le =
       rises rest fewer more le,
     )
 
+-- no distance is among the first none
 pub nearer_starts : (distances : List (List ℕ)) (part : ℕ) → nearer_at distances part 0 ≡ 0
 nearer_starts distances part = starts (get_or distances part [])
 
+-- more units never reach fewer distances
 pub nearer_rises : (distances : List (List ℕ)) (part : ℕ) → NeverFalls (nearer_at distances part)
 nearer_rises distances part = rises (get_or distances part [])

@@ -1,4 +1,4 @@
-ghost use Rattle.std.specs.Prelude.{◌≡◌, ◌^◌, ◌<◌, ◌≤◌, negsuc, ◌≤ℤ◌};
+ghost use Rattle.std.specs.Prelude.{◌^◌, ◌<◌, ◌≤◌, negsuc, ◌≤ℤ◌};
 
 use crate::plain::differences;
 use ball_walk::Ball;

@@ -1,5 +1,5 @@
 use entry_log::{Decision, Entry, Op, decide};
-use gph_codes::{Code, CodeFault};
+use gph_codes::Code;
 use std::test::Fail;
 
 #[test]

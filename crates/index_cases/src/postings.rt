@@ -1,6 +1,6 @@
 ghost use Rattle.std.specs.Prelude.{◌≡◌, ◌^◌, ◌<◌};
 
-use gph_codes::{Code, CodeFault};
+use gph_codes::Code;
 use posting_table::Postings;
 use read_meter::{Steps, upkeep};
 use std::process::Abort;
