@@ -12,7 +12,7 @@ enum Read {
     Range(&'static [u8], u32, u64),
     Next(&'static [u8], u32),
     Quit,
-    Fault(u8, u8),
+    Refused,
 }
 
 // A line, and what it is read as where codes have 8 bits.
@@ -35,35 +35,35 @@ const LINES: [(&[u8], Read); 44] = [
     (b"next a 65536", Read::Next(b"a", 65536)),
     (b"quit", Read::Quit),
     (b" quit ", Read::Quit),
-    (b"add\t1 00", Read::Fault(2, 0)),
-    (b"\x1f", Read::Fault(2, 0)),
-    (b"jump \x7f", Read::Fault(2, 0)),
-    (b"quit\r", Read::Fault(2, 0)),
-    (b"add 1 \xc3\xa9", Read::Fault(2, 0)),
-    (b"~", Read::Fault(3, 0)),
-    (b"jump", Read::Fault(3, 0)),
-    (b"QUIT", Read::Fault(3, 0)),
-    (b"quits", Read::Fault(3, 0)),
-    (b"1 add 00", Read::Fault(3, 0)),
-    (b"add", Read::Fault(4, 0)),
-    (b"add x", Read::Fault(4, 0)),
-    (b"add 1 00 00", Read::Fault(4, 0)),
-    (b"range a 1", Read::Fault(4, 0)),
-    (b"range a 1 00 00", Read::Fault(4, 0)),
-    (b"next a", Read::Fault(4, 0)),
-    (b"next a 1 1", Read::Fault(4, 0)),
-    (b"quit now", Read::Fault(4, 0)),
-    (b"add 18446744073709551616 00", Read::Fault(5, 2)),
-    (b"add 000000000000000000001 0g", Read::Fault(5, 2)),
-    (b"add 1 000", Read::Fault(5, 3)),
-    (b"add 1 0g", Read::Fault(5, 3)),
-    (b"range abcdefghijklmnopq 9 00", Read::Fault(5, 2)),
-    (b"range a_b 1 00", Read::Fault(5, 2)),
-    (b"range a 9 0g", Read::Fault(5, 3)),
-    (b"range a 0001 00", Read::Fault(5, 3)),
-    (b"range a 1 0", Read::Fault(5, 4)),
-    (b"next a 0", Read::Fault(5, 3)),
-    (b"next a 65537", Read::Fault(5, 3)),
+    (b"add\t1 00", Read::Refused),
+    (b"\x1f", Read::Refused),
+    (b"jump \x7f", Read::Refused),
+    (b"quit\r", Read::Refused),
+    (b"add 1 \xc3\xa9", Read::Refused),
+    (b"~", Read::Refused),
+    (b"jump", Read::Refused),
+    (b"QUIT", Read::Refused),
+    (b"quits", Read::Refused),
+    (b"1 add 00", Read::Refused),
+    (b"add", Read::Refused),
+    (b"add x", Read::Refused),
+    (b"add 1 00 00", Read::Refused),
+    (b"range a 1", Read::Refused),
+    (b"range a 1 00 00", Read::Refused),
+    (b"next a", Read::Refused),
+    (b"next a 1 1", Read::Refused),
+    (b"quit now", Read::Refused),
+    (b"add 18446744073709551616 00", Read::Refused),
+    (b"add 000000000000000000001 0g", Read::Refused),
+    (b"add 1 000", Read::Refused),
+    (b"add 1 0g", Read::Refused),
+    (b"range abcdefghijklmnopq 9 00", Read::Refused),
+    (b"range a_b 1 00", Read::Refused),
+    (b"range a 9 0g", Read::Refused),
+    (b"range a 0001 00", Read::Refused),
+    (b"range a 1 0", Read::Refused),
+    (b"next a 0", Read::Refused),
+    (b"next a 65537", Read::Refused),
 ];
 
 // Whether a line was read as it has to be.
@@ -71,7 +71,7 @@ fn is_read(read: &Result<Option<Request<1>>, Bad>, wanted: Read) -> bool {
     match read {
         Ok(None) => wanted == Read::Nothing,
         Ok(Some(request)) => is_request(request, wanted),
-        Err(fault) => wanted == Read::Fault(fault.number, fault.word),
+        Err(fault) => wanted == Read::Refused && *fault == Bad::line_too_long(),
     }
 }
 
@@ -93,7 +93,7 @@ fn is_request(request: &Request<1>, wanted: Read) -> bool {
 }
 
 #[test]
-fn a_line_is_a_request_or_has_its_first_fault(rt: HostRuntime) {
+fn a_line_is_a_request_or_nothing_or_refused(rt: HostRuntime) {
     for (line, wanted) in LINES {
         assert!(rt; line.len() <= 4096);
         assert!(rt;
@@ -101,7 +101,7 @@ fn a_line_is_a_request_or_has_its_first_fault(rt: HostRuntime) {
             "{line:?} is not {wanted:?}"
         );
     }
-    assert_eq!(rt; Bad::line_too_long(), Bad { number: 1, word: 0 });
+    assert_eq!(rt; Bad::line_too_long(), Bad { number: 3, word: 0 });
 }
 
 // Words, and whether they are tags.

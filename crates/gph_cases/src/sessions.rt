@@ -122,7 +122,7 @@ const SESSIONS: [(&str, &str, &[u8], &[u8]); 32] = [
         "a CR that ends no line",
         "run --bits 8",
         b"add 1 00\r\r\nadd \r2 00\nadd 3 00\r",
-        b"bad 2\nbad 2\nbad 2\n",
+        b"bad 3\nbad 3\nbad 3\n",
     ),
     (
         "spaces and lines without a word",
@@ -134,7 +134,7 @@ const SESSIONS: [(&str, &str, &[u8], &[u8]); 32] = [
         "a byte that is not printable",
         "run --bits 8",
         b"add\t1 00\njump\x7f\n\x1f\n\xc3\xa9\n~\n",
-        b"bad 2\nbad 2\nbad 2\nbad 2\nbad 3\n",
+        b"bad 3\nbad 3\nbad 3\nbad 3\nbad 3\n",
     ),
     (
         "no request word",
@@ -146,14 +146,14 @@ const SESSIONS: [(&str, &str, &[u8], &[u8]); 32] = [
         "another number of words",
         "run --bits 8",
         b"add\nadd 1\nadd x\nadd 1 00 00\nrange a 1\nrange a 1 00 00\nnext a\nnext a 1 1\nquit now\n",
-        b"bad 4\nbad 4\nbad 4\nbad 4\nbad 4\nbad 4\nbad 4\nbad 4\nbad 4\n",
+        b"bad 3\nbad 3\nbad 3\nbad 3\nbad 3\nbad 3\nbad 3\nbad 3\nbad 3\n",
     ),
     (
         "a key that is none",
         "run --bits 8",
         b"add x 00\nadd -1 00\nadd 0x1 00\nadd x 0g\nadd 18446744073709551616 00\n\
           add 000000000000000000001 00\n",
-        b"bad 5 2\nbad 5 2\nbad 5 2\nbad 5 2\nbad 5 2\nbad 5 2\n",
+        b"bad 3\nbad 3\nbad 3\nbad 3\nbad 3\nbad 3\n",
     ),
     (
         "the greatest key, and one with zeros before it",
@@ -165,13 +165,13 @@ const SESSIONS: [(&str, &str, &[u8], &[u8]); 32] = [
         "a code that is none",
         "run --bits 8",
         b"add 1 0\nadd 1 000\nadd 1 0g\nrange a 1 000\nrange a 1 0g\n",
-        b"bad 5 3\nbad 5 3\nbad 5 3\nbad 5 4\nbad 5 4\n",
+        b"bad 3\nbad 3\nbad 3\nbad 3\nbad 3\n",
     ),
     (
         "a tag that is none",
         "run --bits 8",
         b"range a-b 9 0g\nrange abcdefghijklmnopq 1 00\nnext a-b 1\nnext abcdefghijklmnopq 0\n",
-        b"bad 5 2\nbad 5 2\nbad 5 2\nbad 5 2\n",
+        b"bad 3\nbad 3\nbad 3\nbad 3\n",
     ),
     (
         "the longest tag, and a tag of digits",
@@ -183,13 +183,13 @@ const SESSIONS: [(&str, &str, &[u8], &[u8]); 32] = [
         "a radius that is none",
         "run --bits 8",
         b"range a 9 00\nrange a 0001 00\nrange a x 0g\nrange a 008 00\n",
-        b"bad 5 3\nbad 5 3\nbad 5 3\nopen a at 0\n",
+        b"bad 3\nbad 3\nbad 3\nopen a at 0\n",
     ),
     (
         "a count that is none",
         "run --bits 8",
         b"next a 0\nnext a 65537\nnext a 000001\nnext a x\nnext a 65536\nnext a 00001\n",
-        b"bad 5 3\nbad 5 3\nbad 5 3\nbad 5 3\nbad 8\nbad 8\n",
+        b"bad 3\nbad 3\nbad 3\nbad 3\nbad 8\nbad 8\n",
     ),
     (
         "a tag stays in use after its answer",
@@ -201,7 +201,7 @@ const SESSIONS: [(&str, &str, &[u8], &[u8]); 32] = [
         "a fault of form comes before a tag in use",
         "run --bits 8",
         b"range a 1 00\nrange a 9 00\nrange a 1 00\n",
-        b"open a at 0\nbad 5 3\nbad 7\n",
+        b"open a at 0\nbad 3\nbad 7\n",
     ),
     (
         "codes of 64 bits in either case",
@@ -210,7 +210,7 @@ const SESSIONS: [(&str, &str, &[u8], &[u8]); 32] = [
           range p 6 ffd8c0a0804020ff\nnext p 100\nrange n 64 FFD8C0a0804020ff\nnext n 100\n\
           add 104 ffd8c0a0804020f\n",
         b"added 101 at 1\nadded 102 at 2\nadded 103 at 3\nopen p at 3\nhit p 0 101\nhit p 1 102\n\
-          done p 2\nopen n at 3\nhit n 0 101\nhit n 1 102\nhit n 64 103\ndone n 3\nbad 5 3\n",
+          done p 2\nopen n at 3\nhit n 0 101\nhit n 1 102\nhit n 64 103\ndone n 3\nbad 3\n",
     ),
 ];
 
@@ -231,10 +231,10 @@ fn each_session_has_its_replies_however_its_input_is_cut(rt: HostRuntime) -> Res
 const LONG_LINES: [(u8, usize, &[u8], &[u8]); 13] = [
     (b' ', 4096, b"\nadd 1 00\n", b"added 1 at 1\n"),
     (b' ', 4096, b"\r\nadd 1 00\n", b"added 1 at 1\n"),
-    (b' ', 4096, b"\r\r\nadd 1 00\n", b"bad 1\nadded 1 at 1\n"),
+    (b' ', 4096, b"\r\r\nadd 1 00\n", b"bad 3\nadded 1 at 1\n"),
     (b' ', 4096, b"", b""),
-    (b' ', 4096, b"\r", b"bad 1\n"),
-    (b' ', 4097, b"\nadd 1 00\n", b"bad 1\nadded 1 at 1\n"),
+    (b' ', 4096, b"\r", b"bad 3\n"),
+    (b' ', 4097, b"\nadd 1 00\n", b"bad 3\nadded 1 at 1\n"),
     (
         b' ',
         4087,
@@ -242,11 +242,11 @@ const LONG_LINES: [(u8, usize, &[u8], &[u8]); 13] = [
         b"added 1 at 1\nbad 8\n",
     ),
     (b'x', 4096, b"\nadd 1 00\n", b"bad 3\nadded 1 at 1\n"),
-    (b'x', 4097, b"\nadd 1 00\n", b"bad 1\nadded 1 at 1\n"),
-    (b'x', 4097, b"", b"bad 1\n"),
-    (b'x', 12_289, b"\nadd 1 00\n", b"bad 1\nadded 1 at 1\n"),
-    (b'\t', 4096, b"\nadd 1 00\n", b"bad 2\nadded 1 at 1\n"),
-    (b'\t', 4097, b"\nadd 1 00\n", b"bad 1\nadded 1 at 1\n"),
+    (b'x', 4097, b"\nadd 1 00\n", b"bad 3\nadded 1 at 1\n"),
+    (b'x', 4097, b"", b"bad 3\n"),
+    (b'x', 12_289, b"\nadd 1 00\n", b"bad 3\nadded 1 at 1\n"),
+    (b'\t', 4096, b"\nadd 1 00\n", b"bad 3\nadded 1 at 1\n"),
+    (b'\t', 4097, b"\nadd 1 00\n", b"bad 3\nadded 1 at 1\n"),
 ];
 
 #[test]
