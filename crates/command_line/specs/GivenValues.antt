@@ -1,0 +1,67 @@
+-- How the reader keeps what the options were given. No public clause cites this module.
+use Rattle.std.specs.Prelude.{ℕ, ◌≤◌, if◌then◌else◌, List, [], ◌∷◌, Option, Some, None, IfSome, unwrap_or, Result, Ok, Err}
+use Rattle.std.specs.Option.{option_map, option_and_then}
+use Rattle.command_line.specs.CommandOptions.{least, greatest}
+use Rattle.command_line.specs.CommandWords.{Written, given, number_given, can_be_laid, fault_of}
+use Rattle.command_line.specs.declared.command_option.CommandOption.{CommandOption}
+use Rattle.command_line.specs.declared.command_option.CommandOption.TheVariants.{Bits, Parts, Input}
+use Rattle.command_line.specs.declared.given.Entry.{Entry}
+use Rattle.command_line.specs.declared.given.Given.{Given}
+
+-- what is kept of one option
+abbrev pub entry_of : CommandOption → Written → Entry
+entry_of option one = record { number = number_given option one; place = one.value_place }
+
+-- what is kept of an option, if it was given
+abbrev pub entry_in : CommandOption → List Written → Option Entry
+entry_in option settings = option_map (entry_of option) (given option settings)
+
+-- what is kept of an option
+abbrev pub entry_at : CommandOption → Given → Option Entry
+entry_at Bits given = given.bits
+entry_at Parts given = given.parts
+entry_at Input given = given.input
+
+-- what is kept once an option is given
+abbrev pub put : CommandOption → Entry → Given → Given
+put Bits entry given = record given { bits = Some entry }
+put Parts entry given = record given { parts = Some entry }
+put Input entry given = record given { input = Some entry }
+
+-- the number of an entry, or else a default
+abbrev pub entry_number_or : ℕ → Option Entry → ℕ
+entry_number_or default entry = unwrap_or (option_and_then (λ kept. kept.number) entry) default
+
+-- the parts of an entry, judged against the bits
+abbrev pub entry_parts : ℕ → Entry → Result ℕ ℕ
+entry_parts bits entry =
+    elim entry.number [ None ↦ Err entry.place | Some parts ↦ if can_be_laid bits parts then Ok parts else Err entry.place ]
+
+-- what is kept of the options
+abbrev pub kept : List Written → Given
+kept settings = record { bits = entry_in Bits settings; parts = entry_in Parts settings; input = entry_in Input settings }
+
+-- what is kept after one more option, or its fault
+abbrev pub kept_after : List Written → Written → Result Given ℕ
+kept_after before one = elim (fault_of before one) [ Some place ↦ Err place | None ↦ Ok (kept (one ∷ before)) ]
+
+-- the number of an entry lies between what the option may be given
+abbrev pub IsWithin : CommandOption → Option Entry → Type 0
+IsWithin option entry =
+    IfSome entry (λ kept. IfSome kept.number (λ number. (least option ≤ number) × (number ≤ greatest option)))
+
+-- the number of each entry does
+pub record AreWithin (given : Given) : Type 0 where
+  pub bits : IsWithin Bits given.bits
+  pub parts : IsWithin Parts given.parts
+  pub input : IsWithin Input given.input
+
+-- the next word, if there is one
+abbrev pub next_in : List (List ℕ) → Option (List ℕ)
+next_in [] = None
+next_in (word ∷ words) = Some word
+
+-- the words after the next one
+abbrev pub after_next : List (List ℕ) → List (List ℕ)
+after_next [] = []
+after_next (word ∷ words) = words
