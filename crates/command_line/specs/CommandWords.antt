@@ -7,15 +7,19 @@ use Rattle.command_line.specs.CommandOptions.{name_of, option_named, number, is_
 use Rattle.command_line.specs.declared.command_option.CommandOption.{CommandOption}
 use Rattle.command_line.specs.declared.command_option.CommandOption.TheVariants.{Bits, Parts, Input}
 
+-- so many bits can be laid contiguously in so many parts: none is empty, and none has over 12 positions
+pub record IsLaid (bits parts : ℕ) : Type 0 where
+  pub some_parts : 1 ≤ parts
+  pub few_parts : parts ≤ 64
+  pub filled : parts ≤ bits
+  pub narrow : (bits + parts - 1) / parts ≤ 12
+
 -- what a session may be asked to be
 pub record IsConfig (config : Config) : Type 0 where
   pub least_bits : 8 ≤ config.bits
   pub greatest_bits : config.bits ≤ 256
   pub whole_bytes : config.bits % 8 ≡ 0
-  pub least_parts : 1 ≤ config.parts
-  pub greatest_parts : config.parts ≤ 64
-  pub filled : config.parts ≤ config.bits
-  pub narrow : (config.bits + config.parts - 1) / config.parts ≤ 12
+  pub laid : IsLaid config.bits config.parts
   pub one_shard : config.shards ≡ 1
   pub room_of_64 : config.room ≡ 64
   pub all_entries : config.entries ≡ 1048576
@@ -33,26 +37,25 @@ pub record Written : Type 0 where
 abbrev pub setting : List ℕ → ℕ → Option (List ℕ) → ℕ → Written
 setting name place value value_place = record { name = name; place = place; value = value; value_place = value_place }
 
--- the place of the first `=` in a word
-abbrev pub equals_in : List ℕ → Option ℕ
-equals_in word = position (λ byte. byte == 61) word
+-- the name and the value that a word has before and after its first `=`
+abbrev pub parted : List ℕ → Option (List ℕ × List ℕ)
+parted word = option_map (λ equals. (take equals word, drop (equals + 1) word)) (position (λ byte. byte == 61) word)
 
 -- an option whose name is a word of its own, and the next word, if there is one, its value
 abbrev pub in_two_words : ℕ → List ℕ → Option (List ℕ) → Written
 in_two_words place name value = setting name place value (place + 1)
 
--- an option whose name ends before the first `=` of its word
-abbrev pub in_one_word : ℕ → List ℕ → ℕ → Written
-in_one_word place word equals =
-    setting (take equals word) place (Some (drop (equals + 1) word)) place
+-- an option with its value in one word
+abbrev pub in_one_word : ℕ → List ℕ × List ℕ → Written
+in_one_word place parts = setting parts.0 place (Some parts.1) place
 
 -- the options that words write, the first of them at a place
 abbrev pub written : ℕ → List (List ℕ) → List Written
 written place [] = []
 written place (word ∷ []) =
-    elim (equals_in word) [ Some equals ↦ in_one_word place word equals ∷ [] | None ↦ in_two_words place word None ∷ [] ]
+    elim (parted word) [ Some parts ↦ in_one_word place parts ∷ [] | None ↦ in_two_words place word None ∷ [] ]
 written place (word ∷ next ∷ words) =
-    elim (equals_in word) [ Some equals ↦ in_one_word place word equals ∷ written (place + 1) (next ∷ words) | None ↦ in_two_words place word (Some next) ∷ written (place + 2) words ]
+    elim (parted word) [ Some parts ↦ in_one_word place parts ∷ written (place + 1) (next ∷ words) | None ↦ in_two_words place word (Some next) ∷ written (place + 2) words ]
 
 -- where an option is among those written
 abbrev pub given : CommandOption → List Written → Option Written
@@ -100,11 +103,15 @@ config_of settings =
     let bits = number_or Bits 64 settings in
     elim (parts_or bits settings) [ Err place ↦ Err place | Ok parts ↦ Ok (config bits parts (number_or Input 4294967296 settings)) ]
 
+-- a fault, or where there is none a result
+abbrev pub or_fault : {A : Type 0} → Option ℕ → Result A ℕ → Result A ℕ
+or_fault (Some place) result = Err place
+or_fault None result = result
+
 -- what options ask for that are written after others, or the first fault
 abbrev pub asked_after : List Written → List Written → Result Config ℕ
 asked_after before [] = config_of before
-asked_after before (one ∷ others) =
-    elim (fault_of before one) [ Some place ↦ Err place | None ↦ asked_after (one ∷ before) others ]
+asked_after before (one ∷ others) = or_fault (fault_of before one) (asked_after (one ∷ before) others)
 
 -- what the words ask for, or the place of the first one at fault
 abbrev pub asked : List (List ℕ) → Result Config ℕ

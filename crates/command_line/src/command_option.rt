@@ -1,6 +1,8 @@
 //! The options of the command `run`.
 
-ghost use Rattle.std.specs.Prelude.{◌≡◌, ℕ};
+ghost use Rattle.std.specs.Prelude.{◌≡◌, ℕ, nat_lt};
+ghost use Rattle.std.specs.List.{list_all};
+ghost use Rattle.std.specs.Char.{digit_value};
 ghost use Rattle.query_protocol.specs.Forms.{is_decimal};
 ghost use Rattle.command_line.specs.CommandOptions.{option_named, least, greatest, number, is_value};
 
@@ -22,12 +24,16 @@ impl CommandOption {
     pub(crate) fn named(name: &[u8]) -> Option<CommandOption>
         ensures { result ≡ option_named name.now }
     {
-        match name {
-            b"--bits" => Some(CommandOption::Bits),
-            b"--parts" => Some(CommandOption::Parts),
-            b"--input" => Some(CommandOption::Input),
-            _ => None,
+        if name == b"--bits".as_slice() {
+            return Some(CommandOption::Bits);
         }
+        if name == b"--parts".as_slice() {
+            return Some(CommandOption::Parts);
+        }
+        if name == b"--input".as_slice() {
+            return Some(CommandOption::Input);
+        }
+        None
     }
 
     // The least number that the option may be given.
@@ -79,6 +85,11 @@ impl CommandOption {
 fn is_decimal(value: &[u8]) -> bool
     ensures { result ≡ is_decimal 20 value.now }
 {
-    let digits = value.iter().all(|byte| matches!(*byte, b'0'..=b'9'));
-    1 <= value.len() && value.len() <= 20 && digits
+    1 <= value.len() && value.len() <= 20 && are_digits(value)
+}
+
+fn are_digits(value: &[u8]) -> bool
+    ensures { result ≡ list_all (λ byte. nat_lt (digit_value byte) 10) value.now }
+{
+    value.iter().all(|byte| matches!(*byte, b'0'..=b'9'))
 }

@@ -1,8 +1,9 @@
 //! The words after the program's name.
 
-ghost use Rattle.std.specs.Prelude.{◌≡◌, ℕ, List, ◌≤◌, ◌<◌, [], map, take, drop, string_bytes, option_copied, IfOk};
+ghost use Rattle.std.specs.Prelude.{◌≡◌, ◌==◌, ◌<◌, ◌-◌, [], length, map, position, string_bytes, option_copied, IfSome, IfOk};
+ghost use Rattle.std.specs.Option.{option_map};
+ghost use Rattle.command_line.specs.CommandWords.{asked, asked_after, written, parted, IsConfig};
 ghost use Rattle.command_line.specs.GivenValues.{next_in, after_next};
-ghost use Rattle.command_line.specs.CommandWords.{asked, asked_after, written, equals_in, IsConfig};
 
 use crate::given::Given;
 use part_layout::Config;
@@ -24,8 +25,14 @@ pub fn read_words(words: &[String]) -> Result<Config, usize>
     ensures within { IfOk result (λ config. IsConfig config) }
 {
     match words {
-        [command, options @ ..] if command.as_bytes() == b"run".as_slice() => read_options(options),
-        _ => Err(1),
+        [] => Err(1),
+        [command, options @ ..] => {
+            if command.as_bytes() == b"run".as_slice() {
+                read_options(options)
+            } else {
+                Err(1)
+            }
+        }
     }
 }
 
@@ -41,26 +48,44 @@ fn read_options(options: &[String]) -> Result<Config, usize>
     };
     let mut place = 2;
     let mut rest = options;
-    while let [word, after @ ..] = rest {
-        let word = word.as_bytes();
-        if let Some(equals) = word.iter().position(|byte| *byte == b'=') {
-            given = given.with(&word[..equals], place, Some(&word[equals + 1..]), place)?;
+    while let (Some(word), after) = next_word(rest) {
+        if let Some((name, value)) = parted(word) {
+            given = given.with(name, place, Some(value), place)?;
             place += 1;
             rest = after;
-        } else {
-            let (value, after) = next_word(after);
-            given = given.with(word, place, value, place + 1)?;
-            place += 2;
-            rest = after;
+            continue;
         }
+        let (value, after) = next_word(after);
+        given = given.with(word, place, value, place + 1)?;
+        place += 2;
+        rest = after;
     }
     given.config()
+}
+
+// The name and the value that a word has before and after its first `=`.
+fn parted(word: &[u8]) -> Option<(&[u8], &[u8])>
+    ensures { option_map (λ parts. (parts.0.now, parts.1.now)) result ≡ parted word.now }
+{
+    match equals_in(word) {
+        None => None,
+        Some(equals) => Some((&word[..equals], &word[equals + 1..])),
+    }
+}
+
+// The place of the first `=` in a word.
+fn equals_in(word: &[u8]) -> Option<usize>
+    ensures value { result ≡ position (λ byte. byte == 61) word.now }
+    ensures within { IfSome result (λ equals. equals < length word.now) }
+{
+    word.iter().position(|byte| *byte == b'=')
 }
 
 // The next word, if there is one, and the words after it.
 fn next_word(words: &[String]) -> (Option<&[u8]>, &[String])
     ensures next { option_copied result.0 ≡ next_in (map string_bytes words.now) }
     ensures after { map string_bytes result.1.now ≡ after_next (map string_bytes words.now) }
+    ensures fewer { length result.1.now ≡ length words.now - 1 }
 {
     match words {
         [] => (None, words),

@@ -1,10 +1,9 @@
 //! What the options were given by the words read so far.
 
-ghost use Rattle.std.specs.Prelude.{◌≡◌, ◌≤◌, ℕ, List, Some, option_copied, is_some, unwrap_or, IfSome, IfOk, OnOk};
-ghost use Rattle.std.specs.Option.{option_and_then};
-ghost use Rattle.command_line.specs.CommandOptions.{option_named, number, is_value, least, greatest};
-ghost use Rattle.command_line.specs.CommandWords.{Written, setting, number_given, can_be_laid, config_of, IsConfig};
-ghost use Rattle.command_line.specs.GivenValues.{entry_at, entry_number_or, entry_parts, put, kept, kept_after, AreWithin};
+ghost use Rattle.std.specs.Prelude.{◌≡◌, ◌+◌, ◌≤◌, ℕ, List, option_copied, IfOk};
+ghost use Rattle.command_line.specs.CommandWords.{Written, setting, can_be_laid, config_of, IsConfig, IsLaid};
+ghost use Rattle.command_line.specs.GivenValues.{entry_at, entry_number_or, entry_parts_or, put, size, kept, kept_after, IsNumberOf, IsEntryOf, AreEntries};
+ghost use Rattle.command_line.specs.declared.command_option.CommandOption.TheVariants.{Bits, Parts};
 
 use crate::CommandOption;
 use part_layout::Config;
@@ -35,8 +34,10 @@ impl Given {
         value: Option<&[u8]>,
         value_place: usize,
     ) -> Result<Given, usize>
-        ensures { (before : List Written) → self ≡ kept before →
+        ensures value { (before : List Written) → self ≡ kept before →
             result ≡ kept_after before (setting name.now place (option_copied value.entry) value_place) }
+        ensures more { IfOk result (λ given. size given ≡ size self + 1) }
+        ensures few { IfOk result (λ given. size given ≤ 3) }
     {
         let Some(option) = CommandOption::named(name) else {
             return Err(place);
@@ -47,11 +48,18 @@ impl Given {
         let Some(value) = value else {
             return Err(value_place);
         };
-        if !option.is_value(value) {
-            return Err(value_place);
+        if option.is_value(value) {
+            let number = option.number(value);
+            Ok(self.put(
+                option,
+                Entry {
+                    number,
+                    place: value_place,
+                },
+            ))
+        } else {
+            Err(value_place)
         }
-        let number = option.number(value);
-        Ok(self.put(option, Entry { number, place: value_place }))
     }
 
     // What is kept of one option.
@@ -79,15 +87,12 @@ impl Given {
 
     // What the options ask for, where none has a fault of its own.
     pub(crate) fn config(self) -> Result<Config, usize>
-        requires { AreWithin self }
+        requires { AreEntries self }
         ensures value { (settings : List Written) → self ≡ kept settings → result ≡ config_of settings }
         ensures within { IfOk result (λ config. IsConfig config) }
     {
         let bits = number_or(self.bits, 64);
-        let parts = match self.parts {
-            None => bits / 8,
-            Some(entry) => parts_for(bits, entry)?,
-        };
+        let parts = parts_or(bits, self.parts)?;
         Ok(Config {
             bits: bits as u32,
             parts: parts as u32,
@@ -109,12 +114,17 @@ fn number_or(entry: Option<Entry>, default: u64) -> u64
     }
 }
 
-// The parts of an entry, where so many bits can be laid in them, or else the place of their word.
-fn parts_for(bits: u64, entry: Entry) -> Result<u64, usize>
-    requires bits { bits ≤ 256 }
-    requires parts { IfSome entry.number (λ parts. (1 ≤ parts) × (parts ≤ 64)) }
-    ensures { result ≡ entry_parts bits entry }
+// The parts of an entry, where so many bits can be laid in them, or else the place of their word. Without an entry they
+// are eight bits each.
+fn parts_or(bits: u64, entry: Option<Entry>) -> Result<u64, usize>
+    requires bits { IsNumberOf Bits bits }
+    requires parts { IsEntryOf Parts entry }
+    ensures value { result ≡ entry_parts_or bits entry }
+    ensures laid { IfOk result (λ parts. IsLaid bits parts) }
 {
+    let Some(entry) = entry else {
+        return Ok(bits / 8);
+    };
     let Some(parts) = entry.number else {
         return Err(entry.place);
     };
@@ -128,7 +138,7 @@ fn parts_for(bits: u64, entry: Entry) -> Result<u64, usize>
 // Whether so many bits can be laid contiguously in so many parts: none is empty, and none has over 12 positions.
 fn can_be_laid(bits: u64, parts: u64) -> bool
     requires bits { bits ≤ 256 }
-    requires parts { 1 ≤ parts }
+    requires some { 1 ≤ parts }
     requires few { parts ≤ 64 }
     ensures { result ≡ can_be_laid bits parts }
 {
