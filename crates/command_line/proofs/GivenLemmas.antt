@@ -1,11 +1,13 @@
 -- What is kept of the options, and what one more option makes of it.
 use Rattle.std.proofs.Common.{◌≡◌, ℕ, ◌+◌, Bool, true, false, cond, List, [], ◌∷◌, Option, Some, None, is_some, unwrap_or, option_copied, IfSome, Result, Ok, Err, refl, ap, sym, ◌∙◌, subst, arith, rules, ◌≤◌}
+use Rattle.std.proofs.lemmas.Bool.{cond-true, cond-false}
 use Rattle.std.specs.Option.{option_map, option_and_then}
 use Rattle.std.specs.Str.{bytes_eq}
 use Rattle.part_layout.specs.declared.config.Config.{Config}
 use Rattle.command_line.specs.CommandOptions.{name_of, option_named, number, is_value}
-use Rattle.command_line.specs.CommandWords.{Written, setting, parted, in_one_word, in_two_words, written, given, number_given, value_fault, fault_of, or_fault, asked_after}
+use Rattle.command_line.specs.CommandWords.{Written, setting, parted, in_one_word, in_two_words, written, given, number_given, value_fault, option_fault, fault_of, first_written, others_written, or_fault, asked_after}
 use Rattle.command_line.specs.GivenValues.{entry_of, entry_in, entry_at, put, kept, kept_after, present, size, IsNumberOf, IsEntryOf, AreEntries, next_in, after_next}
+use Rattle.command_line.proofs.WordLemmas.{from_first}
 use Rattle.command_line.proofs.OptionLemmas.{named_name, number_range}
 use Rattle.command_line.specs.declared.command_option.CommandOption.{CommandOption}
 use Rattle.command_line.specs.declared.command_option.CommandOption.TheVariants.{Bits, Parts, Input}
@@ -42,7 +44,13 @@ at_some before Input = kept_some Input (given Input before)
 -- a new option with a value that may stand has no fault
 pub no_fault : (before : List Written) (one : Written) (option : CommandOption) (value : List ℕ) → option_named one.name ≡ Some option
     → is_some (given option before) ≡ false → one.value ≡ Some value → is_value option value ≡ true → fault_of before one ≡ None
-no_fault before one option value named new stands good = rw (named, new, stands, good)
+no_fault before one option value named new stands good =
+    let found : fault_of before one ≡ option_fault before one (Some option) = ap (option_fault before one) named in
+    let fresh : option_fault before one (Some option) ≡ value_fault option one.value_place one.value =
+    cond-false (is_some (given option before)) (Some one.place) (value_fault option one.value_place one.value) new in
+    let here : value_fault option one.value_place one.value ≡ value_fault option one.value_place (Some value) =
+    ap (value_fault option one.value_place) stands in
+    found ∙ fresh ∙ here ∙ cond-true (is_value option value) None (Some one.value_place) good
 
 -- so it is kept
 pub kept_one : (before : List Written) (one : Written) (option : CommandOption) (value : List ℕ) → option_named one.name ≡ Some option
@@ -53,15 +61,18 @@ kept_one before one option value named new stands good =
     rw none (ap (λ (given : Given). Ok given) (put_one before one option named))
 
 -- so it is kept, as the reader does
-pub kept_with : (before : List Written) (one : Written) (option : CommandOption) (value : List ℕ) (given result : Given) (entry : Entry)
-    → option_named one.name ≡ Some option → given ≡ kept before → is_some (entry_at option given) ≡ false → one.value ≡ Some value
-    → is_value option value ≡ true → entry ≡ record { number = number option value; place = one.value_place } → result ≡ put option entry given
-    → Ok result ≡ kept_after before one
-kept_with before one option value given result entry named same new stands good is made =
-    let Is_new : Given → Type 0 = λ (given : Given). is_some (entry_at option given) ≡ false in
-    let entry_is : entry ≡ entry_of option one = rw stands is in
-    let put_is : put option entry given ≡ put option (entry_of option one) (kept before) = cc in
-    ap (λ (given : Given). Ok {E = ℕ} given) (made ∙ put_is) ∙ kept_one before one option value named (subst Is_new same new) stands good
+pub kept_with : (before : List Written) (one : Written) (option : CommandOption) (value : List ℕ) (old new : Given) (entry : Entry)
+    → option_named one.name ≡ Some option → old ≡ kept before → is_some (entry_at option old) ≡ false → one.value ≡ Some value
+    → is_value option value ≡ true → entry ≡ record { number = number option value; place = one.value_place } → new ≡ put option entry old
+    → Ok new ≡ kept_after before one
+kept_with before one option value old new entry named same absent stands good is made =
+    let IsAbsent : Given → Type 0 = λ (values : Given). is_some (entry_at option values) ≡ false in
+    let Done : Given → Result Given ℕ = λ (values : Given). Ok values in
+    let number_of : Option (List ℕ) → Entry = λ (value : Option (List ℕ)). record { number = option_and_then (number option) value; place = one.value_place } in
+    let entry_is : entry ≡ entry_of option one = is ∙ sym (ap number_of stands) in
+    let put_is : put option entry old ≡ put option (entry_of option one) (kept before) =
+    ap (λ (e : Entry). put option e old) entry_is ∙ ap (λ (values : Given). put option (entry_of option one) values) same in
+    ap Done (made ∙ put_is) ∙ kept_one before one option value named (subst IsAbsent same absent) stands good
 
 -- a fault is the first one
 fault_first : {A B : Type 0} (fault : Option ℕ) (place : ℕ) (value : B) (other : Result A ℕ)
@@ -78,14 +89,18 @@ stands_alone None given value other is = (cc, refl)
 -- the first option that words write, where it has its value in one word
 written_one : (place : ℕ) (word : List ℕ) (texts : List (List ℕ)) (parts : List ℕ × List ℕ) → parted word ≡ Some parts
     → written place (word ∷ texts) ≡ in_one_word place parts ∷ written (place + 1) texts
-written_one place word [] parts has = rw has
-written_one place word (next ∷ texts) parts has = rw has
+written_one place word [] parts has =
+    ap (λ (found : Option (List ℕ × List ℕ)). first_written place word None found ∷ []) has
+written_one place word (next ∷ texts) parts has =
+    ap (λ (found : Option (List ℕ × List ℕ)). first_written place word (Some next) found ∷ others_written found (written (place + 1) (next ∷ texts)) (written (place + 2) texts)) has
 
 -- the first option that words write, where its name is a word
 written_two : (place : ℕ) (word : List ℕ) (texts : List (List ℕ)) → parted word ≡ None
     → written place (word ∷ texts) ≡ in_two_words place word (next_in texts) ∷ written (place + 2) (after_next texts)
-written_two place word [] has = rw has
-written_two place word (next ∷ texts) has = rw has
+written_two place word [] has =
+    ap (λ (found : Option (List ℕ × List ℕ)). first_written place word None found ∷ []) has
+written_two place word (next ∷ texts) has =
+    ap (λ (found : Option (List ℕ × List ℕ)). first_written place word (Some next) found ∷ others_written found (written (place + 1) (next ∷ texts)) (written (place + 2) texts)) has
 
 -- the fault of the next option is the first one
 pub step_fault : (before : List Written) (one : Written) (others : List Written) (place : ℕ) → Err place ≡ kept_after before one
@@ -139,35 +154,61 @@ size_more Bits entry given absent = omega (arith, absent_none given.bits absent)
 size_more Parts entry given absent = omega (arith, absent_none given.parts absent)
 size_more Input entry given absent = omega (arith, absent_none given.input absent)
 
+-- the words from the first one on write the same
+opened : (before : List Written) (place : ℕ) (word : List ℕ) (texts : List (List ℕ)) (whole : Result Config ℕ) → Some word ≡ next_in texts
+    → asked_after before (written place texts) ≡ whole → asked_after before (written place (word ∷ after_next texts)) ≡ whole
+opened before place word texts whole first same =
+    subst (λ (words : List (List ℕ)). asked_after before (written place words) ≡ whole) (from_first texts word first) same
+
 -- where the words stand after an option in one word
-pub after_one : (before : List Written) (given : Given) (place : ℕ) (word : List ℕ) (texts : List (List ℕ)) (parts : List ℕ × List ℕ) (whole : Result Config ℕ)
-    → parted word ≡ Some parts → Ok given ≡ kept_after before (in_one_word place parts) → asked_after before (written place (word ∷ texts)) ≡ whole
-    → (given ≡ kept (in_one_word place parts ∷ before)) × (asked_after (in_one_word place parts ∷ before) (written (place + 1) texts) ≡ whole)
-after_one before given place word texts parts whole has is same =
-    let on = step_on before (in_one_word place parts) (written (place + 1) texts) given is in
-    let opened = ap (λ (settings : List Written). asked_after before settings) (written_one place word texts parts has) in
-    (on.0, sym on.1 ∙ sym opened ∙ same)
+pub after_one : (before : List Written) (given : Given) (place : ℕ) (word : List ℕ) (texts rest : List (List ℕ)) (parts : List ℕ × List ℕ)
+    (whole : Result Config ℕ) → Some word ≡ next_in texts → rest ≡ after_next texts → parted word ≡ Some parts
+    → Ok given ≡ kept_after before (in_one_word place parts) → asked_after before (written place texts) ≡ whole
+    → (given ≡ kept (in_one_word place parts ∷ before)) × (asked_after (in_one_word place parts ∷ before) (written (place + 1) rest) ≡ whole)
+after_one before values place word texts rest parts whole first left has is same =
+    let one = in_one_word place parts in
+    let on = step_on before one (written (place + 1) (after_next texts)) values is in
+    let known = opened before place word texts whole first same in
+    let split = ap (λ (settings : List Written). asked_after before settings) (written_one place word (after_next texts) parts has) in
+    (on.0, subst (λ (words : List (List ℕ)). asked_after (one ∷ before) (written (place + 1) words) ≡ whole) (sym left) (sym on.1 ∙ sym split ∙ known))
 
 -- the fault of an option in one word
-pub fault_one : (before : List Written) (fault place : ℕ) (word : List ℕ) (texts : List (List ℕ)) (parts : List ℕ × List ℕ) (whole : Result Config ℕ)
-    → parted word ≡ Some parts → Err fault ≡ kept_after before (in_one_word place parts) → asked_after before (written place (word ∷ texts)) ≡ whole → Err fault ≡ whole
-fault_one before fault place word texts parts whole has is same =
-    let opened = ap (λ (settings : List Written). asked_after before settings) (written_one place word texts parts has) in
-    sym (step_fault before (in_one_word place parts) (written (place + 1) texts) fault is) ∙ sym opened ∙ same
+pub fault_one : (before : List Written) (fault place : ℕ) (word : List ℕ) (texts : List (List ℕ)) (parts : List ℕ × List ℕ)
+    (whole : Result Config ℕ) → Some word ≡ next_in texts → parted word ≡ Some parts
+    → Err fault ≡ kept_after before (in_one_word place parts) → asked_after before (written place texts) ≡ whole → Err fault ≡ whole
+fault_one before fault place word texts parts whole first has is same =
+    let known = opened before place word texts whole first same in
+    let split = ap (λ (settings : List Written). asked_after before settings) (written_one place word (after_next texts) parts has) in
+    sym (step_fault before (in_one_word place parts) (written (place + 1) (after_next texts)) fault is) ∙ sym split ∙ known
+
+-- an option in two words before the others
+two_split : (before : List Written) (place : ℕ) (word : List ℕ) (texts rest later : List (List ℕ)) (value : Option (List ℕ))
+    → rest ≡ after_next texts → value ≡ next_in rest → later ≡ after_next rest → parted word ≡ None
+    → asked_after before (written place (word ∷ after_next texts)) ≡ asked_after before (in_two_words place word value ∷ written (place + 2) later)
+two_split before place word texts rest later value left next last has =
+    let Others : List (List ℕ) → List Written = λ (rest : List (List ℕ)). in_two_words place word (next_in rest) ∷ written (place + 2) (after_next rest) in
+    let split : written place (word ∷ after_next texts) ≡ Others rest = written_two place word (after_next texts) has ∙ sym (ap Others left) in
+    let named : Others rest ≡ in_two_words place word value ∷ written (place + 2) later =
+    ap (λ (found : Option (List ℕ)). in_two_words place word found ∷ written (place + 2) (after_next rest)) (sym next)
+    ∙ ap (λ (words : List (List ℕ)). in_two_words place word value ∷ written (place + 2) words) (sym last) in
+    ap (λ (settings : List Written). asked_after before settings) (split ∙ named)
 
 -- where the words stand after an option in two words
-pub after_two : (before : List Written) (given : Given) (place : ℕ) (word : List ℕ) (texts : List (List ℕ)) (whole : Result Config ℕ)
-    → parted word ≡ None → Ok given ≡ kept_after before (in_two_words place word (next_in texts)) → asked_after before (written place (word ∷ texts)) ≡ whole
-    → (given ≡ kept (in_two_words place word (next_in texts) ∷ before))
-      × (asked_after (in_two_words place word (next_in texts) ∷ before) (written (place + 2) (after_next texts)) ≡ whole)
-after_two before given place word texts whole has is same =
-    let on = step_on before (in_two_words place word (next_in texts)) (written (place + 2) (after_next texts)) given is in
-    let opened = ap (λ (settings : List Written). asked_after before settings) (written_two place word texts has) in
-    (on.0, sym on.1 ∙ sym opened ∙ same)
+pub after_two : (before : List Written) (given : Given) (place : ℕ) (word : List ℕ) (texts rest later : List (List ℕ)) (value : Option (List ℕ))
+    (whole : Result Config ℕ) → Some word ≡ next_in texts → rest ≡ after_next texts → value ≡ next_in rest → later ≡ after_next rest
+    → parted word ≡ None → Ok given ≡ kept_after before (in_two_words place word value) → asked_after before (written place texts) ≡ whole
+    → (given ≡ kept (in_two_words place word value ∷ before)) × (asked_after (in_two_words place word value ∷ before) (written (place + 2) later) ≡ whole)
+after_two before values place word texts rest later value whole first left next last has is same =
+    let one = in_two_words place word value in
+    let on = step_on before one (written (place + 2) later) values is in
+    let known = opened before place word texts whole first same in
+    (on.0, sym on.1 ∙ sym (two_split before place word texts rest later value left next last has) ∙ known)
 
 -- the fault of an option in two words
-pub fault_two : (before : List Written) (fault place : ℕ) (word : List ℕ) (texts : List (List ℕ)) (whole : Result Config ℕ)
-    → parted word ≡ None → Err fault ≡ kept_after before (in_two_words place word (next_in texts)) → asked_after before (written place (word ∷ texts)) ≡ whole → Err fault ≡ whole
-fault_two before fault place word texts whole has is same =
-    let opened = ap (λ (settings : List Written). asked_after before settings) (written_two place word texts has) in
-    sym (step_fault before (in_two_words place word (next_in texts)) (written (place + 2) (after_next texts)) fault is) ∙ sym opened ∙ same
+pub fault_two : (before : List Written) (fault place : ℕ) (word : List ℕ) (texts rest : List (List ℕ)) (value : Option (List ℕ))
+    (whole : Result Config ℕ) → Some word ≡ next_in texts → rest ≡ after_next texts → value ≡ next_in rest
+    → parted word ≡ None → Err fault ≡ kept_after before (in_two_words place word value) → asked_after before (written place texts) ≡ whole → Err fault ≡ whole
+fault_two before fault place word texts rest value whole first left next has is same =
+    let known = opened before place word texts whole first same in
+    sym (step_fault before (in_two_words place word value) (written (place + 2) (after_next rest)) fault is)
+    ∙ sym (two_split before place word texts rest (after_next rest) value left next refl has) ∙ known

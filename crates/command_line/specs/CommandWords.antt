@@ -1,5 +1,5 @@
 -- The words of the command line, which are numbered from 1: what they ask for, or the place of the first one at fault.
-use Rattle.std.specs.Prelude.{◌≡◌, ℕ, ◌+◌, ◌-◌, ◌/◌, ◌%◌, ◌≤◌, ◌==◌, ◌&&◌, nat_le, if◌then◌else◌, Bool, false, List, [], ◌∷◌, length, take, drop, position, codes, Option, Some, None, is_some, unwrap_or, Result, Ok, Err}
+use Rattle.std.specs.Prelude.{◌≡◌, ℕ, ◌+◌, ◌-◌, ◌/◌, ◌%◌, ◌≤◌, ◌==◌, ◌&&◌, nat_le, if◌then◌else◌, Bool, List, [], ◌∷◌, length, take, drop, position, codes, Option, Some, None, is_some, unwrap_or, Result, Ok, Err}
 use Rattle.std.specs.Option.{option_map, option_and_then}
 use Rattle.std.specs.Str.{bytes_eq}
 use Rattle.part_layout.specs.declared.config.Config.{Config}
@@ -49,28 +49,42 @@ in_two_words place name value = setting name place value (place + 1)
 abbrev pub in_one_word : ℕ → List ℕ × List ℕ → Written
 in_one_word place parts = setting parts.0 place (Some parts.1) place
 
+-- the first option that words write, by the parts of the first word and the next one
+abbrev pub first_written : ℕ → List ℕ → Option (List ℕ) → Option (List ℕ × List ℕ) → Written
+first_written place word next None = in_two_words place word next
+first_written place word next (Some parts) = in_one_word place parts
+
+-- the options after it, which begin a word later where it has no value of its own
+abbrev pub others_written : Option (List ℕ × List ℕ) → List Written → List Written → List Written
+others_written None next later = later
+others_written (Some parts) next later = next
+
 -- the options that words write, the first of them at a place
 abbrev pub written : ℕ → List (List ℕ) → List Written
 written place [] = []
-written place (word ∷ []) =
-    elim (parted word) [ Some parts ↦ in_one_word place parts ∷ [] | None ↦ in_two_words place word None ∷ [] ]
+written place (word ∷ []) = first_written place word None (parted word) ∷ []
 written place (word ∷ next ∷ words) =
-    elim (parted word) [ Some parts ↦ in_one_word place parts ∷ written (place + 1) (next ∷ words) | None ↦ in_two_words place word (Some next) ∷ written (place + 2) words ]
+    first_written place word (Some next) (parted word) ∷ others_written (parted word) (written (place + 1) (next ∷ words)) (written (place + 2) words)
 
 -- where an option is among those written
 abbrev pub given : CommandOption → List Written → Option Written
 given option [] = None
 given option (one ∷ others) = if bytes_eq one.name (name_of option) then Some one else given option others
 
--- the fault of a value, by its place
-abbrev pub value_fault : CommandOption → Written → Option ℕ
-value_fault option one =
-    if unwrap_or (option_map (is_value option) one.value) false then None else Some one.value_place
+-- the fault of a value at a place
+abbrev pub value_fault : CommandOption → ℕ → Option (List ℕ) → Option ℕ
+value_fault option place None = Some place
+value_fault option place (Some value) = if is_value option value then None else Some place
+
+-- the fault of what may be an option, after others
+abbrev pub option_fault : List Written → Written → Option CommandOption → Option ℕ
+option_fault before one None = Some one.place
+option_fault before one (Some option) =
+    if is_some (given option before) then Some one.place else value_fault option one.value_place one.value
 
 -- the fault of an option after others, by its place: it is unknown or was given before, or its value is bad or missing
 abbrev pub fault_of : List Written → Written → Option ℕ
-fault_of before one =
-    elim (option_named one.name) [ None ↦ Some one.place | Some option ↦ if is_some (given option before) then Some one.place else value_fault option one ]
+fault_of before one = option_fault before one (option_named one.name)
 
 -- the number that an option was given
 abbrev pub number_given : CommandOption → Written → Option ℕ
