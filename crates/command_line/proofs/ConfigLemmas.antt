@@ -1,11 +1,10 @@
 -- What the options ask for can be asked of a session.
-use Rattle.std.proofs.Common.{◌≡◌, ℕ, ◌+◌, ◌-◌, ◌*◌, ◌/◌, ◌<◌, ◌≤◌, ◌&&◌, true, nat_le, Option, Some, None, IfSome, unwrap_or, refl, sym, subst, arith, lit≤}
+use Rattle.std.proofs.Common.{◌≡◌, ℕ, ◌+◌, ◌-◌, ◌*◌, ◌/◌, ◌<◌, ◌≤◌, true, nat_le, Option, Some, None, IfSome, unwrap_or, refl, sym, subst, arith, lit≤}
 use Rattle.std.proofs.lemmas.Bool.{and_parts, leb-true}
 use Rattle.std.proofs.lemmas.Nat.{div_below}
 use Rattle.command_line.specs.CommandWords.{can_be_laid, config, IsConfig, IsLaid}
 use Rattle.command_line.specs.GivenValues.{entry_number_or, IsNumberOf, IsEntryOf}
-use Rattle.command_line.specs.declared.command_option.CommandOption.{CommandOption}
-use Rattle.command_line.specs.declared.command_option.CommandOption.TheVariants.{Bits, Parts, Input}
+use Rattle.command_line.specs.declared.command_option.CommandOption.TheVariants.{Bits, Input}
 use Rattle.command_line.specs.declared.given.Entry.{Entry}
 
 -- a number that is there, or its default
@@ -54,5 +53,5 @@ config_within bits parts input of_bits laid of_input = record {
   room_of_64 = refl;
   all_entries = refl;
   least_input = of_input.0;
-  greatest_input = of_input.1
+  greatest_input = of_input.1;
 }

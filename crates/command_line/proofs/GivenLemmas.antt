@@ -1,12 +1,12 @@
 -- What is kept of the options, and what one more option makes of it.
-use Rattle.std.proofs.Common.{◌≡◌, ℕ, ◌+◌, Bool, true, false, cond, List, [], ◌∷◌, Option, Some, None, is_some, unwrap_or, option_copied, IfSome, Result, Ok, Err, refl, ap, sym, ◌∙◌, subst, arith, rules, ◌≤◌}
+use Rattle.std.proofs.Common.{◌≡◌, ℕ, ◌+◌, true, false, List, [], ◌∷◌, Option, Some, None, is_some, IfSome, Result, Ok, Err, refl, ap, sym, ◌∙◌, subst, arith, ◌≤◌}
 use Rattle.std.proofs.lemmas.Bool.{cond-true, cond-false}
 use Rattle.std.specs.Option.{option_map, option_and_then}
 use Rattle.std.specs.Str.{bytes_eq}
 use Rattle.part_layout.specs.declared.config.Config.{Config}
 use Rattle.command_line.specs.CommandOptions.{name_of, option_named, number, is_value}
-use Rattle.command_line.specs.CommandWords.{Written, setting, parted, in_one_word, in_two_words, written, given, number_given, value_fault, option_fault, fault_of, first_written, others_written, or_fault, asked_after}
-use Rattle.command_line.specs.GivenValues.{entry_of, entry_in, entry_at, put, kept, kept_after, present, size, IsNumberOf, IsEntryOf, AreEntries, next_in, after_next}
+use Rattle.command_line.specs.CommandWords.{Written, parted, in_one_word, in_two_words, written, given, value_fault, option_fault, fault_of, first_written, others_written, or_fault, asked_after}
+use Rattle.command_line.specs.GivenValues.{entry_of, entry_at, put, kept, kept_after, present, size, IsNumberOf, IsEntryOf, AreEntries, next_in, after_next}
 use Rattle.command_line.proofs.WordLemmas.{from_first}
 use Rattle.command_line.proofs.OptionLemmas.{named_name, number_range}
 use Rattle.command_line.specs.declared.command_option.CommandOption.{CommandOption}
@@ -127,7 +127,7 @@ kept_entries : (before : List Written) → AreEntries (kept before)
 kept_entries before = record {
   of_bits = kept_has Bits (given Bits before);
   of_parts = kept_has Parts (given Parts before);
-  of_input = kept_has Input (given Input before)
+  of_input = kept_has Input (given Input before);
 }
 
 -- the same of what equals it

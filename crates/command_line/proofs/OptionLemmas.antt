@@ -1,5 +1,5 @@
 -- Names and numbers of options.
-use Rattle.std.proofs.Common.{◌≡◌, ℕ, ◌+◌, ◌%◌, ◌==◌, ◌≤◌, ◌&&◌, Bool, true, false, cond, nat_le, List, Option, Some, None, IfSome, arith, rules, refl, sym}
+use Rattle.std.proofs.Common.{◌≡◌, ℕ, ◌%◌, ◌==◌, ◌≤◌, ◌&&◌, Bool, true, false, cond, nat_le, List, Option, Some, None, IfSome, refl}
 use Rattle.std.specs.Option.{option_and_then}
 use Rattle.std.specs.Str.{bytes_eq}
 use Rattle.std.specs.Str.Parse.{digits_value}
@@ -10,14 +10,6 @@ use Rattle.command_line.specs.CommandOptions.{name_of, option_named, number, mul
 use Rattle.command_line.specs.GivenValues.{IsNumberOf}
 use Rattle.command_line.specs.declared.command_option.CommandOption.{CommandOption}
 use Rattle.command_line.specs.declared.command_option.CommandOption.TheVariants.{Bits, Parts, Input}
-
--- a chain of tests that finds an option
-found : (bits parts input : Bool) → Option CommandOption
-found bits parts input = cond bits (Some Bits) (cond parts (Some Parts) (cond input (Some Input) None))
-
--- the tests of the option that was found
-passes : (name : List ℕ) → CommandOption → Bool
-passes name option = bytes_eq name (name_of option)
 
 -- the option that is found is one whose test passes
 found_passes : (bits parts input : Bool) (option : CommandOption) → cond bits (Some Bits) (cond parts (Some Parts) (cond input (Some Input) None)) ≡ Some option
@@ -49,9 +41,9 @@ in_range digits least value greatest =
     elim (digits && nat_le least value && nat_le value greatest) as (λ b. (b ≡ true → (least ≤ value) × (value ≤ greatest)) → IfSome (cond b (Some value) None) (λ number. (least ≤ number) × (number ≤ greatest)))
     [ true ↦ λ held. held refl | false ↦ λ held. tt ]
     (λ passed.
-      let both = and_parts (digits && nat_le least value) (nat_le value greatest) passed in
-      let low = and_parts digits (nat_le least value) both.0 in
-      (leb-true least value low.1, leb-true value greatest both.1))
+    let both = and_parts (digits && nat_le least value) (nat_le value greatest) passed in
+    let low = and_parts digits (nat_le least value) both.0 in
+    (leb-true least value low.1, leb-true value greatest both.1))
 
 -- a number of so many digits lies in its range
 pub number_of_range : (digits least greatest : ℕ) (word : List ℕ) → IfSome (number_of digits least greatest word) (λ number. (least ≤ number) × (number ≤ greatest))

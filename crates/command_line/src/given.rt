@@ -79,9 +79,18 @@ impl Given {
     {
         let entry = Some(entry);
         match option {
-            CommandOption::Bits => Given { bits: entry, ..self },
-            CommandOption::Parts => Given { parts: entry, ..self },
-            CommandOption::Input => Given { input: entry, ..self },
+            CommandOption::Bits => Given {
+                bits: entry,
+                ..self
+            },
+            CommandOption::Parts => Given {
+                parts: entry,
+                ..self
+            },
+            CommandOption::Input => Given {
+                input: entry,
+                ..self
+            },
         }
     }
 
