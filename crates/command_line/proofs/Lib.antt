@@ -1,0 +1,4 @@
+pub mod WordLemmas
+pub mod OptionLemmas
+pub mod GivenLemmas
+pub mod ConfigLemmas
