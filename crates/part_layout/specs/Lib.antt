@@ -1,0 +1,3 @@
+pub mod Contiguous
+pub mod Laid
+pub mod Text

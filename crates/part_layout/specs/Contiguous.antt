@@ -1,0 +1,22 @@
+-- The contiguous layout: the positions in order, cut into parts as equal as can be.
+use Rattle.std.specs.Prelude.{◌≡◌, ℕ, zero, suc, ◌+◌, ◌-◌, ◌*◌, ◌/◌, ◌%◌, ◌<◌, ◌⊎◌, List, [], ◌∷◌, ◌++◌, length, slice_index_or}
+use Rattle.std.specs.List.{range_with_len}
+
+-- so many parts of one width, the positions in order from the first on
+unfoldable pub runs : ℕ → ℕ → ℕ → List (List ℕ)
+runs zero width first = []
+runs (suc number) width first = range_with_len first width ∷ runs number width (first + width)
+
+-- parts of one position more, as many as the division leaves over, and then the shorter ones
+abbrev pub contiguous : ℕ → ℕ → List (List ℕ)
+contiguous bits parts =
+    runs (bits % parts) (bits / parts + 1) 0 ++ runs (parts - bits % parts) (bits / parts) (bits % parts * (bits / parts + 1))
+
+-- a number of bits isn't cut into so many parts: none, over 64, or more than there are bits
+abbrev pub IsNoNumber : ℕ → ℕ → Type 0
+IsNoNumber bits parts = (parts ≡ 0) ⊎ ((64 < parts) ⊎ (bits < parts))
+
+-- so many parts may be, and the first part of the contiguous layout has more than 12 positions
+pub record IsWide (bits parts : ℕ) : Type 0 where
+  pub number : IsNoNumber bits parts → ⊥
+  pub wide : 12 < length (slice_index_or (contiguous bits parts) 0 [])
