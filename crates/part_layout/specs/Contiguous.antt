@@ -1,6 +1,8 @@
 -- The contiguous layout: the positions in order, cut into parts as equal as can be.
 use Rattle.std.specs.Prelude.{◌≡◌, ℕ, zero, suc, ◌+◌, ◌-◌, ◌*◌, ◌/◌, ◌%◌, ◌<◌, ◌⊎◌, List, [], ◌∷◌, ◌++◌, length, slice_index_or}
 use Rattle.std.specs.List.{range_with_len}
+use Rattle.part_layout.specs.declared.layout_fault.LayoutFault.{LayoutFault}
+use Rattle.part_layout.specs.declared.layout_fault.LayoutFault.TheVariants.{Syntax, Range, Twice, Missing, Width, Parts, NoMemory}
 
 -- so many parts of one width, the positions in order from the first on
 unfoldable pub runs : ℕ → ℕ → ℕ → List (List ℕ)
@@ -20,3 +22,13 @@ IsNoNumber bits parts = (parts ≡ 0) ⊎ ((64 < parts) ⊎ (bits < parts))
 pub record IsWide (bits parts : ℕ) : Type 0 where
   pub number : IsNoNumber bits parts → ⊥
   pub wide : 12 < length (slice_index_or (contiguous bits parts) 0 [])
+
+-- the faults that cutting bits into parts may have
+abbrev pub IsCutFault : LayoutFault → Type 0
+IsCutFault (Syntax at) = ⊥
+IsCutFault (Range position) = ⊥
+IsCutFault (Twice position) = ⊥
+IsCutFault (Missing position) = ⊥
+IsCutFault (Width part) = Unit {0}
+IsCutFault (Parts count) = Unit {0}
+IsCutFault NoMemory = Unit {0}

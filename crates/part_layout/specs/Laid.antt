@@ -1,7 +1,8 @@
 -- What a contract sees of a layout.
 use Rattle.std.specs.Prelude.{◌≡◌, ℕ, ◌%◌, ◌≤◌, List, [], slice_index_or, refl}
 use Rattle.std.specs.Coded.{Coded, code_by, coded×, coded_list, coded_ℕ}
-use Rattle.hamming_model.specs.Layouts.{IsLayout}
+use Rattle.hamming_model.specs.Layouts.{IsLayout, part_value}
+use Rattle.hamming_model.specs.Codes.{StandsFor}
 
 -- the number of bits of a code, and the positions of each part
 pub record Laid : Type 0 where
@@ -28,3 +29,8 @@ pub record IsLaid (laid : Laid) : Type 0 where
 -- the positions of a part, counted from 0
 abbrev pub part_at : Laid → ℕ → List ℕ
 part_at laid part = slice_index_or laid.parts part []
+
+-- the value at a part of the code that so many words of bits stand for
+abbrev pub IsValue : ℕ → Laid → List ℕ → ℕ → ℕ → Type 0
+IsValue words laid stored part value =
+    (code : List ℕ) → StandsFor words laid.bits stored code → value ≡ part_value code (part_at laid part)

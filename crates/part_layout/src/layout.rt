@@ -1,10 +1,8 @@
 //! The layout of a code's positions in parts.
 
-ghost use Rattle.std.specs.Prelude.{◌≡◌, ◌*◌, ◌^◌, ◌<◌, ◌≤◌, ◌↔◌, ℕ, List, length, take, slice_index, Err, IfOk};
-ghost use Rattle.hamming_model.specs.Codes.{StandsFor};
-ghost use Rattle.hamming_model.specs.Layouts.{part_value};
-ghost use Rattle.part_layout.specs.Laid.{IsAllowed, IsLaid, part_at};
-ghost use Rattle.part_layout.specs.Contiguous.{IsNoNumber, IsWide, contiguous};
+ghost use Rattle.std.specs.Prelude.{◌≡◌, ◌*◌, ◌^◌, ◌<◌, ◌≤◌, ◌↔◌, ℕ, length, take, slice_index, Err, IfErr, IfOk};
+ghost use Rattle.part_layout.specs.Laid.{IsAllowed, IsLaid, IsValue, part_at};
+ghost use Rattle.part_layout.specs.Contiguous.{IsCutFault, IsNoNumber, IsWide, contiguous};
 ghost use Rattle.part_layout.specs.Text.{layout_text};
 ghost use Rattle.part_layout.specs.declared.layout_fault.LayoutFault.TheVariants.{Parts, Width};
 
@@ -24,16 +22,16 @@ pub struct Layout {
 }
 
 impl Model for Layout {
-    ghost use Rattle.std.specs.Prelude.{map};
+    ghost use Rattle.part_layout.specs.Inside.{lists_of};
     ghost use Rattle.part_layout.specs.Laid.{IsLaid, Laid, laid_code};
 
     ghost Value = { Laid };
 
     ghost coded = { laid_code };
 
-    ghost view = { λ kept. record { bits = kept.bits; parts = map (λ part. part.items) kept.parts.items } };
+    ghost view = { λ kept. record { bits = kept.bits; parts = lists_of kept.parts.items } };
 
-    ghost invariant = { λ kept. IsLaid (record { bits = kept.bits; parts = map (λ part. part.items) kept.parts.items }) };
+    ghost invariant = { λ kept. IsLaid (record { bits = kept.bits; parts = lists_of kept.parts.items }) };
 }
 
 impl Layout {
@@ -47,6 +45,7 @@ impl Layout {
         requires { IsAllowed bits }
         ensures bits { IfOk result (λ layout. layout.bits ≡ bits) }
         ensures layout { IfOk result (λ layout. layout.parts ≡ contiguous bits parts) }
+        ensures causes { IfErr result IsCutFault }
         ensures number { (count : ℕ) → (result ≡ Err (Parts count)) ↔ ((count ≡ parts) × IsNoNumber bits parts) }
         ensures width { (part : ℕ) → (result ≡ Err (Width part)) ↔ ((part ≡ 0) × IsWide bits parts) }
     {
@@ -66,7 +65,7 @@ impl Layout {
 
     /// The number of bits of the codes.
     pub fn bits(&self) -> u32
-        ensures { result ≡ self.now.bits }
+        ensures bits { result ≡ self.now.bits }
         ensures allowed { IsAllowed result }
     {
         self.bits
@@ -104,7 +103,7 @@ impl Layout {
     pub fn value<const W: usize>(&self, code: &Code<W>, part: u32) -> u16
         requires in_layout { part < length self.now.parts }
         requires room { self.now.bits ≤ 64 * W }
-        ensures value { (x : List ℕ) → StandsFor W self.now.bits code.now x → result ≡ part_value x (part_at self.now part) }
+        ensures value { IsValue W self.now code.now part result }
         ensures bound { result < 2 ^ length (part_at self.now part) }
     {
         value_at(code, self.bits, self.parts[part as usize].as_slice())

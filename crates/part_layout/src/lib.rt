@@ -6,6 +6,7 @@ mod config;
 mod layout;
 mod layout_fault;
 mod layout_text;
+mod pieces;
 
 pub use config::Config;
 pub use layout::Layout;

@@ -1,0 +1,14 @@
+-- Parts as they are kept. No public clause cites this module.
+use Rattle.std.specs.Prelude.{ℕ, ◌+◌, ◌*◌, ◌<◌, ◌≤◌, List, All, map, length}
+use Rattle.std.specs.List.{flat_map}
+use Rattle.std.specs.Global.{Vec}
+
+-- the lists of the parts
+abbrev pub lists_of : List (Vec ℕ) → List (List ℕ)
+lists_of parts = map (λ part. part.items) parts
+
+-- no part is empty, and a buffer of so many bytes has room for their text: four bytes a position
+pub record Fits (bytes : ℕ) (parts : List (List ℕ)) : Type 0 where
+  pub some : All (λ part. 0 < length part) parts
+  pub short : All (λ part. All (λ position. position < 1000) part) parts
+  pub room : 4 * length (flat_map (λ part. part) parts) ≤ bytes
