@@ -5,7 +5,7 @@ use Rattle.part_layout.specs.declared.layout_fault.LayoutFault.{LayoutFault}
 use Rattle.part_layout.specs.declared.layout_fault.LayoutFault.TheVariants.{Syntax, Range, Twice, Missing, Width, Parts, NoMemory}
 
 -- so many parts of one width, the positions in order from the first on
-unfoldable pub runs : ℕ → ℕ → ℕ → List (List ℕ)
+abbrev pub runs : ℕ → ℕ → ℕ → List (List ℕ)
 runs zero width first = []
 runs (suc number) width first = range_with_len first width ∷ runs number width (first + width)
 

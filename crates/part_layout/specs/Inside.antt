@@ -1,5 +1,5 @@
 -- Parts as they are kept. No public clause cites this module.
-use Rattle.std.specs.Prelude.{ℕ, ◌+◌, ◌*◌, ◌<◌, ◌≤◌, List, All, map, length}
+use Rattle.std.specs.Prelude.{ℕ, zero, suc, [], ◌∷◌, ◌+◌, ◌*◌, ◌<◌, ◌≤◌, List, All, map, length}
 use Rattle.std.specs.List.{flat_map}
 use Rattle.std.specs.Global.{Vec}
 
@@ -12,3 +12,8 @@ pub record Fits (bytes : ℕ) (parts : List (List ℕ)) : Type 0 where
   pub some : All (λ part. 0 < length part) parts
   pub short : All (λ part. All (λ position. position < 1000) part) parts
   pub room : 4 * length (flat_map (λ part. part) parts) ≤ bytes
+
+-- the mark that stands before a piece at a place, but not before the first
+abbrev pub mark_before : ℕ → ℕ → List ℕ
+mark_before zero mark = []
+mark_before (suc place) mark = mark ∷ []

@@ -9,7 +9,7 @@ ghost use Rattle.part_layout.specs.declared.layout_fault.LayoutFault.TheVariants
 use crate::LayoutFault;
 use crate::LayoutText;
 use crate::layout_text::TEXT;
-use crate::pieces::{push_runs, put_parts, value_at};
+use crate::pieces::{contiguous_parts, first_width, put_parts, value_at};
 use gph_codes::Code;
 use std::alloc::Global;
 use std::marker::Model;
@@ -52,14 +52,12 @@ impl Layout {
         if parts == 0 || parts > 64 || parts > bits {
             return Err(LayoutFault::Parts { count: parts });
         }
-        let width = bits / parts;
-        let longer = bits % parts;
-        if width + u32::from(longer > 0) > 12 {
+        if first_width(bits, parts) > 12 {
             return Err(LayoutFault::Width { part: 0 });
         }
-        let mut kept = Vec::new(alloc);
-        push_runs(alloc, &mut kept, longer, width + 1, 0)?;
-        push_runs(alloc, &mut kept, parts - longer, width, longer * (width + 1))?;
+        let Ok(kept) = contiguous_parts(alloc, bits, parts) else {
+            return Err(LayoutFault::NoMemory);
+        };
         Ok(Layout { bits, parts: kept })
     }
 

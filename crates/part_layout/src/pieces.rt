@@ -1,50 +1,77 @@
 //! Parts as they are laid, printed and read of a code.
 
-ghost use Rattle.std.specs.Prelude.{◌≡◌, ◌+◌, ◌-◌, ◌*◌, ◌^◌, ◌<◌, ◌≤◌, ◌++◌, ℕ, List, All, length, take, IfOk, OnErr, OnOk, Err};
+ghost use Rattle.std.specs.Prelude.{◌≡◌, ◌+◌, ◌-◌, ◌*◌, ◌^◌, ◌<◌, ◌≤◌, ◌++◌, ℕ, List, All, [], length, take, slice_index, slice_index_or, IfOk, OnOk};
 ghost use Rattle.std.specs.List.{range_with_len};
 ghost use Rattle.hamming_model.specs.Codes.{StandsFor};
 ghost use Rattle.hamming_model.specs.Layouts.{part_value};
-ghost use Rattle.part_layout.specs.Contiguous.{runs};
-ghost use Rattle.part_layout.specs.Inside.{Fits, lists_of};
+ghost use Rattle.part_layout.specs.Contiguous.{contiguous, runs};
+ghost use Rattle.part_layout.specs.Inside.{Fits, lists_of, mark_before};
 ghost use Rattle.part_layout.specs.Text.{layout_text, part_text};
-ghost use Rattle.part_layout.specs.declared.layout_fault.LayoutFault.TheVariants.{NoMemory};
 
-use crate::LayoutFault;
 use gph_codes::Code;
 use itoa::Buffer;
-use std::alloc::{AllocError, Global};
+use read_meter::NoMemory;
+use std::alloc::Global;
 
-/// Adds so many parts of one width, the positions in order from the first on.
-pub fn push_runs(
+/// How many positions the first part of the contiguous layout has.
+pub fn first_width(bits: u32, parts: u32) -> u32
+    requires some { 0 < parts }
+    requires few { bits ≤ 256 }
+    ensures { result ≡ length (slice_index_or (contiguous bits parts) 0 []) }
+{
+    if bits % parts == 0 {
+        bits / parts
+    } else {
+        bits / parts + 1
+    }
+}
+
+/// The parts of the contiguous layout.
+pub fn contiguous_parts(alloc: Global, bits: u32, parts: u32) -> Result<Vec<Vec<u16>>, NoMemory>
+    requires some { 0 < parts }
+    requires few { bits ≤ 256 }
+    ensures { IfOk result (λ kept. lists_of kept.items ≡ contiguous bits parts) }
+{
+    let width = bits / parts;
+    let longer = bits % parts;
+    let mut kept = Vec::new(alloc);
+    push_runs(alloc, &mut kept, longer, width + 1, 0)?;
+    push_runs(alloc, &mut kept, parts - longer, width, longer * (width + 1))?;
+    Ok(kept)
+}
+
+// Adds so many parts of one width, the positions in order from the first on.
+fn push_runs(
     alloc: Global,
     parts: &mut Vec<Vec<u16>>,
     number: u32,
     width: u32,
     first: u32,
-) -> Result<(), LayoutFault>
+) -> Result<(), NoMemory>
     requires { first + number * width ≤ 256 }
-    ensures added { OnOk result (lists_of parts.new.items ≡ lists_of parts.old.items ++ runs number width first) }
-    ensures memory { OnErr result (result ≡ Err NoMemory) }
+    ensures { OnOk result (lists_of parts.new.items ≡ lists_of parts.old.items ++ runs number width first) }
 {
-    let mut next = first;
-    for _i in 0..number {
-        let Ok(part) = run(alloc, next as u16, width as u16) else {
-            return Err(LayoutFault::NoMemory);
-        };
+    for i in 0..number {
+        let part = run(alloc, first + i * width, width)?;
         let Ok(()) = parts.push(part) else {
-            return Err(LayoutFault::NoMemory);
+            return Err(NoMemory);
         };
-        next += width;
     }
     Ok(())
 }
 
 // So many positions in order.
-fn run(alloc: Global, first: u16, width: u16) -> Result<Vec<u16>, AllocError>
+fn run(alloc: Global, first: u32, width: u32) -> Result<Vec<u16>, NoMemory>
     requires { first + width ≤ 256 }
     ensures { IfOk result (λ part. part.items ≡ range_with_len first width) }
 {
-    (first..first + width).collect(alloc)
+    let mut part = Vec::new(alloc);
+    for i in 0..width {
+        let Ok(()) = part.push((first + i) as u16) else {
+            return Err(NoMemory);
+        };
+    }
+    Ok(part)
 }
 
 /// The value of a code of so many bits at a part.
@@ -57,9 +84,19 @@ pub fn value_at<const W: usize>(code: &Code<W>, bits: u32, part: &[u16]) -> u16
 {
     let mut value = 0;
     for position in part {
-        value = 2 * value + u16::from(code.bit(u32::from(*position)));
+        value = 2 * value + bit_at(code, bits, u32::from(*position));
     }
     value
+}
+
+// The bit of a code at a position.
+fn bit_at<const W: usize>(code: &Code<W>, bits: u32, position: u32) -> u16
+    requires in_code { position < bits }
+    requires room { bits ≤ 64 * W }
+    ensures bit { (x : List ℕ) → StandsFor W bits code.now x → result ≡ slice_index x position }
+    ensures bound { result < 2 }
+{
+    if code.bit(position) { 1 } else { 0 }
 }
 
 /// Writes the text of parts at the front of a buffer and gives its length.
@@ -70,9 +107,7 @@ pub fn put_parts(parts: &[Vec<u16>], out: &mut [u8]) -> usize
 {
     let mut at = 0;
     for (i, part) in parts.iter().enumerate() {
-        if i > 0 {
-            at = put(out, at, b"/");
-        }
+        at = put_mark(out, at, i, b'/');
         at = put_part(out, at, part.as_slice());
     }
     at
@@ -88,12 +123,23 @@ fn put_part(out: &mut [u8], at: usize, part: &[u16]) -> usize
 {
     let mut end = at;
     for (j, position) in part.iter().enumerate() {
-        if j > 0 {
-            end = put(out, end, b",");
-        }
+        end = put_mark(out, end, j, b',');
         end = put(out, end, Buffer::new().format(*position).as_bytes());
     }
     end
+}
+
+// Writes the mark before a piece at a place, but not before the first, and gives the place after it.
+fn put_mark(out: &mut [u8], at: usize, place: usize, mark: u8) -> usize
+    requires { at + 1 ≤ length out.old }
+    ensures written { take result out.new ≡ take at out.old ++ mark_before place mark }
+    ensures end { result ≡ at + length (mark_before place mark) }
+{
+    if place == 0 {
+        at
+    } else {
+        put(out, at, &[mark])
+    }
 }
 
 // Writes bytes from a place on, and gives the place after them.
