@@ -1,5 +1,5 @@
 -- The text of a list of pieces, one piece more at a time.
-use Rattle.std.proofs.Common.{◌≡◌, ℕ, zero, suc, ◌+◌, ◌*◌, ◌<◌, ◌≤◌, List, [], ◌∷◌, ◌++◌, map, length, take, get_or, decimal, refl, sym, ◌∙◌, ap, arith, append_assoc, length-append}
+use Rattle.std.proofs.Common.{◌≡◌, ℕ, zero, suc, ◌+◌, ◌*◌, ◌<◌, ◌≤◌, min, List, [], ◌∷◌, ◌++◌, map, length, take, get_or, decimal, refl, sym, ◌∙◌, ap, arith, append_assoc, length-append}
 use Rattle.std.specs.List.{flat_map, join_with_byte}
 use Rattle.std.proofs.lemmas.Grind.{flat_map-append}
 use Rattle.std.proofs.lemmas.Fmt.{length-decimal-le}
@@ -14,17 +14,9 @@ join_more c (a ∷ b ∷ xs) x some =
     ap (λ ys. a ++ c ∷ ys) (join_more c (b ∷ xs) x (omega arith)) ∙ sym (append_assoc a (c ∷ join_with_byte c (b ∷ xs)) (c ∷ x))
 
 -- the mark before a piece is there but before the first
-pub mark_short : (i c : ℕ) → length (mark_before i c) ≤ 1
-mark_short zero c = omega arith
-mark_short (suc i) c = omega arith
-
-pub mark_none : (i c : ℕ) → i ≡ 0 → length (mark_before i c) ≡ 0
-mark_none zero c e = refl
-mark_none (suc i) c e = absurd (omega arith)
-
-pub mark_some : (i c : ℕ) → 0 < i → mark_before i c ≡ c ∷ []
-mark_some zero c e = absurd (omega arith)
-mark_some (suc i) c e = refl
+pub length-mark_before : (i c : ℕ) → length (mark_before i c) ≡ min i 1
+length-mark_before zero c = omega arith
+length-mark_before (suc i) c = omega arith
 
 -- one piece more, with its mark
 join_step : {X : Type 0} (c : ℕ) (f : X → List ℕ) (xs : List X) (i : ℕ) (d : X) → i < length xs

@@ -1,9 +1,8 @@
-use Rattle.std.proofs.Common.{◌≡◌, ◌+◌, ◌*◌, ◌<◌, ◌≤◌, ◌++◌, length, take}
+use Rattle.std.proofs.Common.{◌≡◌, ◌+◌, ◌*◌, min, ◌≤◌, ◌++◌, length, take}
 use Rattle.part_layout.specs.Text.{part_text}
 use Rattle.part_layout.proofs.pieces.put_part.Given as goal
 
 abbrev pub invariant-loop-j : goal.invariant-loop-j
 invariant-loop-j l =
     (take l.end l.out ≡ take l.at l.initial.out ++ part_text (take l.j l.part))
-    × (l.end ≤ l.at + 4 * l.j)
-    × (0 < l.j → l.end + 1 ≤ l.at + 4 * l.j)
+    × (l.end + min l.j 1 ≤ l.at + 4 * l.j)

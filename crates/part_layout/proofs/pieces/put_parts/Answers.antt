@@ -5,7 +5,7 @@ use Rattle.std.specs.Global.{Vec}
 use Rattle.part_layout.specs.Inside.{lists_of}
 use Rattle.part_layout.specs.Text.{part_text}
 use Rattle.part_layout.proofs.LayoutLemmas.{own_part}
-use Rattle.part_layout.proofs.TextLemmas.{flat_step, mark_none, mark_short, next_piece}
+use Rattle.part_layout.proofs.TextLemmas.{flat_step, length-mark_before, next_piece}
 use Rattle.part_layout.proofs.pieces.put_parts.Goals as goal
 
 pub put_mark-at-requires : goal.put_mark-at-requires
@@ -24,8 +24,7 @@ put_part-at-requires-clause-room c =
     let room = length-flat_map-take (λ (part : List ℕ). part) (lists_of c.args.parts.now) c.loop-i.i [] inside in
     let own = own_part c.args.parts.now c.loop-i.i c.index-parts-i.result kept c.index-parts-i.is in
     let same = ap length (c.as_slice.ensures.value ∙ own) in
-    let mark = mark_short c.loop-i.i 47 in
-    let first = mark_none c.loop-i.i 47 in
+    let mark = length-mark_before c.loop-i.i 47 in
     omega arith
 
 pub put_part-at-requires-clause-some : goal.put_part-at-requires-clause-some
@@ -56,11 +55,9 @@ loop-i-preserved c =
     let same : c.as_slice.result.now ≡ get_or (lists_of c.args.parts.now) c.loop-i.i [] = c.as_slice.ensures.value ∙ own in
     let long = ap length same in
     let more = flat_step (lists_of c.args.parts.now) c.loop-i.i inside in
-    let mark = mark_short c.loop-i.i 47 in
-    let first = mark_none c.loop-i.i 47 in (
+    let mark = length-mark_before c.loop-i.i 47 in (
       next_piece 47 part_text (lists_of c.args.parts.now) c.loop-i.i [] [] (take c.loop-i.at c.loop-i.out)
       (take c.put_mark-at.result c.put_mark-at.new.out) (take c.put_part-at.result c.put_part-at.new.out) (part_text c.as_slice.result.now)
       inside (ap part_text same) c.loop-i.invariant.0 c.put_mark-at.ensures.written c.put_part-at.ensures.text,
       omega arith,
-      λ _. omega arith,
     )
