@@ -1,8 +1,8 @@
 -- What a layout says of its parts, and how many positions it has.
-use Rattle.std.proofs.Common.{◌≡◌, ◌≢◌, ℕ, zero, suc, ◌+◌, ◌*◌, ◌<◌, ◌≤◌, ◌==◌, cond, inl, inr, List, [], ◌∷◌, ◌++◌, All, map, length, count_by, get_or, slice_index, slice_index_or, refl, sym, ◌∙◌, ap, arith, take}
+use Rattle.std.proofs.Common.{◌≡◌, ℕ, zero, suc, ◌+◌, ◌*◌, ◌<◌, ◌≤◌, ◌==◌, cond, inl, inr, List, [], ◌∷◌, All, length, count_by, get_or, slice_index, refl, sym, ◌∙◌, ap, arith, take}
 use Rattle.std.specs.List.{flat_map}
 use Rattle.std.specs.Int.Digits.{number_from_digits}
-use Rattle.std.proofs.lemmas.Bool.{cases_eq, cases_lt, ne_eqb, eq-eqb}
+use Rattle.std.proofs.lemmas.Bool.{cases_eq, ne_eqb, eq-eqb}
 use Rattle.std.proofs.lemmas.Int.Digits.{number_push}
 use Rattle.std.proofs.lemmas.List.{get_or-map, length-map, map-append, take_more}
 use Rattle.std.proofs.lemmas.List.Concat.{get_or-flat_map}
@@ -46,7 +46,7 @@ tally_over (suc n) x xs over =
     let here = sum_by-cons (λ other. cond (other == n) 1 0) x xs in
     let differs = ne_eqb x n (λ (e : x ≡ n). omega arith) in
     let none : count_by (λ other. other == n) (x ∷ xs) ≡ count_by (λ other. other == n) xs =
-        here ∙ miss (count_by (λ other. other == n) xs) (x == n) differs in
+    here ∙ miss (count_by (λ other. other == n) xs) (x == n) differs in
     let rest = tally_over n x xs (omega arith) in
     omega arith
 
@@ -59,13 +59,13 @@ tally_cons (suc n) x xs below =
       | inl same ↦
           let equal = eq-eqb x n same in
           let one : count_by (λ other. other == n) (x ∷ xs) ≡ suc (count_by (λ other. other == n) xs) =
-            here ∙ hit (count_by (λ other. other == n) xs) (x == n) equal in
+          here ∙ hit (count_by (λ other. other == n) xs) (x == n) equal in
           let rest = tally_over n x xs (omega arith) in
           omega arith
       | inr other ↦
           let differs = ne_eqb x n other in
           let none : count_by (λ other. other == n) (x ∷ xs) ≡ count_by (λ other. other == n) xs =
-        here ∙ miss (count_by (λ other. other == n) xs) (x == n) differs in
+          here ∙ miss (count_by (λ other. other == n) xs) (x == n) differs in
           let rest = tally_cons n x xs (omega arith) in
           omega arith
     ]

@@ -1,5 +1,5 @@
 -- Parts whose positions stand in order make a layout.
-use Rattle.std.proofs.Common.{◌≡◌, ◌≢◌, cond, Bool, true, false, ℕ, zero, suc, ◌+◌, ◌-◌, ◌*◌, ◌/◌, ◌%◌, ◌<◌, ◌≤◌, ◌==◌, ◌⊎◌, inl, inr, List, [], ◌∷◌, ◌++◌, All, map, length, count_by, get_or, slice_index_or, refl, sym, ◌∙◌, ap, arith, append_assoc, length-append}
+use Rattle.std.proofs.Common.{◌≡◌, cond, Bool, true, false, ℕ, zero, suc, ◌+◌, ◌-◌, ◌*◌, ◌/◌, ◌%◌, ◌<◌, ◌≤◌, ◌==◌, inl, inr, List, [], ◌∷◌, ◌++◌, All, length, count_by, get_or, slice_index_or, refl, sym, ◌∙◌, ap, arith, append_assoc, length-append}
 use Rattle.std.specs.List.{flat_map, range_with_len}
 use Rattle.std.specs.Global.{Vec}
 use Rattle.std.proofs.lemmas.Bool.{cases_eq, cases_lt, ne_eqb, eq-eqb}
@@ -138,11 +138,11 @@ flat_contiguous bits parts some =
     let sum : (bits / parts) * ((parts - bits % parts) + bits % parts) ≡ (bits / parts) * parts = ap (λ x. (bits / parts) * x) both in
     flat_map-append (λ part. part) (runs (bits % parts) (bits / parts + 1) 0) (runs (parts - bits % parts) (bits / parts) (bits % parts * (bits / parts + 1)))
     ∙ ap (λ xs. xs ++ flat_map (λ part. part) (runs (parts - bits % parts) (bits / parts) (bits % parts * (bits / parts + 1))))
-      (flat_runs (bits % parts) (bits / parts + 1) 0 (bits % parts * (bits / parts + 1)) refl)
+    (flat_runs (bits % parts) (bits / parts + 1) 0 (bits % parts * (bits / parts + 1)) refl)
     ∙ ap (λ xs. range_with_len 0 (bits % parts * (bits / parts + 1)) ++ xs)
-      (flat_runs (parts - bits % parts) (bits / parts) (bits % parts * (bits / parts + 1)) ((parts - bits % parts) * (bits / parts)) refl)
+    (flat_runs (parts - bits % parts) (bits / parts) (bits % parts * (bits / parts + 1)) ((parts - bits % parts) * (bits / parts)) refl)
     ∙ range_join 0 (bits % parts * (bits / parts + 1)) ((parts - bits % parts) * (bits / parts)) (bits % parts * (bits / parts + 1)) bits
-      (omega arith) (omega (arith, sum, whole))
+    (omega arith) (omega (arith, sum, whole))
 
 -- the contiguous layout is one
 pub contiguous_laid : (bits parts : ℕ) → (IsNoNumber bits parts → ⊥) → length (slice_index_or (contiguous bits parts) 0 []) ≤ 12

@@ -23,6 +23,14 @@ pub record IsWide (bits parts : ℕ) : Type 0 where
   pub number : IsNoNumber bits parts → ⊥
   pub wide : 12 < length (slice_index_or (contiguous bits parts) 0 [])
 
+-- this number of parts is told as none that may be
+abbrev pub IsNumberFault : ℕ → ℕ → ℕ → Type 0
+IsNumberFault bits parts count = (count ≡ parts) × IsNoNumber bits parts
+
+-- this part, the first, is told as too wide
+abbrev pub IsWidthFault : ℕ → ℕ → ℕ → Type 0
+IsWidthFault bits parts part = (part ≡ 0) × IsWide bits parts
+
 -- the faults that cutting bits into parts may have
 abbrev pub IsCutFault : LayoutFault → Type 0
 IsCutFault (Syntax at) = ⊥

@@ -1,11 +1,16 @@
 -- Parts as they are kept. No public clause cites this module.
-use Rattle.std.specs.Prelude.{ℕ, zero, suc, [], ◌∷◌, ◌+◌, ◌*◌, ◌<◌, ◌≤◌, List, All, map, length}
+use Rattle.std.specs.Prelude.{ℕ, zero, suc, [], ◌∷◌, ◌*◌, ◌<◌, ◌≤◌, ◌≡◌, ◌++◌, List, All, map, length}
 use Rattle.std.specs.List.{flat_map}
 use Rattle.std.specs.Global.{Vec}
+use Rattle.part_layout.specs.Contiguous.{runs}
 
 -- the lists of the parts
 abbrev pub lists_of : List (Vec ℕ) → List (List ℕ)
 lists_of parts = map (λ part. part.items) parts
+
+-- so many parts of one width are added, their positions in order from the first on
+abbrev pub AddsRuns : List (Vec ℕ) → List (Vec ℕ) → ℕ → ℕ → ℕ → Type 0
+AddsRuns old new number width first = lists_of new ≡ lists_of old ++ runs number width first
 
 -- no part is empty, and a buffer of so many bytes has room for their text: four bytes a position
 pub record Fits (bytes : ℕ) (parts : List (List ℕ)) : Type 0 where

@@ -2,14 +2,13 @@
 
 ghost use Rattle.std.specs.Prelude.{◌≡◌, ◌*◌, ◌^◌, ◌<◌, ◌≤◌, ◌↔◌, ℕ, length, take, slice_index, Err, IfErr, IfOk};
 ghost use Rattle.part_layout.specs.Laid.{IsAllowed, IsLaid, IsValue, part_at};
-ghost use Rattle.part_layout.specs.Contiguous.{IsCutFault, IsNoNumber, IsWide, contiguous};
+ghost use Rattle.part_layout.specs.Contiguous.{IsCutFault, IsNumberFault, IsWidthFault, contiguous};
 ghost use Rattle.part_layout.specs.Text.{layout_text};
 ghost use Rattle.part_layout.specs.declared.layout_fault.LayoutFault.TheVariants.{Parts, Width};
 
-use crate::LayoutFault;
-use crate::LayoutText;
 use crate::layout_text::TEXT;
 use crate::pieces::{contiguous_parts, first_width, put_parts, value_at};
+use crate::{LayoutFault, LayoutText};
 use gph_codes::Code;
 use std::alloc::Global;
 use std::marker::Model;
@@ -46,8 +45,8 @@ impl Layout {
         ensures bits { IfOk result (λ layout. layout.bits ≡ bits) }
         ensures layout { IfOk result (λ layout. layout.parts ≡ contiguous bits parts) }
         ensures causes { IfErr result IsCutFault }
-        ensures number { (count : ℕ) → (result ≡ Err (Parts count)) ↔ ((count ≡ parts) × IsNoNumber bits parts) }
-        ensures width { (part : ℕ) → (result ≡ Err (Width part)) ↔ ((part ≡ 0) × IsWide bits parts) }
+        ensures number { (count : ℕ) → (result ≡ Err (Parts count)) ↔ IsNumberFault bits parts count }
+        ensures width { (part : ℕ) → (result ≡ Err (Width part)) ↔ IsWidthFault bits parts part }
     {
         if parts == 0 || parts > 64 || parts > bits {
             return Err(LayoutFault::Parts { count: parts });

@@ -4,8 +4,8 @@ ghost use Rattle.std.specs.Prelude.{◌≡◌, ◌+◌, ◌-◌, ◌*◌, ◌^�
 ghost use Rattle.std.specs.List.{range_with_len};
 ghost use Rattle.hamming_model.specs.Codes.{StandsFor};
 ghost use Rattle.hamming_model.specs.Layouts.{part_value};
-ghost use Rattle.part_layout.specs.Contiguous.{contiguous, runs};
-ghost use Rattle.part_layout.specs.Inside.{Fits, lists_of, mark_before};
+ghost use Rattle.part_layout.specs.Contiguous.{contiguous};
+ghost use Rattle.part_layout.specs.Inside.{AddsRuns, Fits, lists_of, mark_before};
 ghost use Rattle.part_layout.specs.Text.{layout_text, part_text};
 
 use gph_codes::Code;
@@ -36,7 +36,13 @@ pub fn contiguous_parts(alloc: Global, bits: u32, parts: u32) -> Result<Vec<Vec<
     let longer = bits % parts;
     let mut kept = Vec::new(alloc);
     push_runs(alloc, &mut kept, longer, width + 1, 0)?;
-    push_runs(alloc, &mut kept, parts - longer, width, longer * (width + 1))?;
+    push_runs(
+        alloc,
+        &mut kept,
+        parts - longer,
+        width,
+        longer * (width + 1),
+    )?;
     Ok(kept)
 }
 
@@ -49,7 +55,7 @@ fn push_runs(
     first: u32,
 ) -> Result<(), NoMemory>
     requires { first + number * width ≤ 256 }
-    ensures { OnOk result (lists_of parts.new.items ≡ lists_of parts.old.items ++ runs number width first) }
+    ensures { OnOk result (AddsRuns parts.old.items parts.new.items number width first) }
 {
     for i in 0..number {
         let part = run(alloc, first + i * width, width)?;

@@ -1,4 +1,4 @@
-use Rattle.std.proofs.Common.{◌≡◌, ◌+◌, ◌*◌, ◌<◌, ◌≤◌, ◌∙◌, ℕ, length, take, get_or, decimal, arith}
+use Rattle.std.proofs.Common.{◌≡◌, ◌<◌, ◌∙◌, length, take, get_or, decimal, arith}
 use Rattle.part_layout.proofs.TextLemmas.{length-mark_before, next_piece, piece_short}
 use Rattle.part_layout.proofs.pieces.put_part.Goals as goal
 
@@ -19,7 +19,7 @@ loop-j-preserved c =
     let short = piece_short (get_or c.args.part.now c.loop-j.j 0) c.as_bytes.result.now small written in
     let mark = length-mark_before c.loop-j.j 44 in (
       next_piece 44 decimal c.args.part.now c.loop-j.j 0 (take c.args.at c.args.out.now) (take c.loop-j.end c.loop-j.out)
-      (take c.put_mark-end.result c.put_mark-end.new.out) (take c.put-end.result c.put-end.new.out) c.as_bytes.result.now
-      inside written c.loop-j.invariant.0 c.put_mark-end.ensures.written c.put-end.ensures.written,
+          (take c.put_mark-end.result c.put_mark-end.new.out) (take c.put-end.result c.put-end.new.out) c.as_bytes.result.now
+          inside written c.loop-j.invariant.0 c.put_mark-end.ensures.written c.put-end.ensures.written,
       omega arith,
     )

@@ -1,4 +1,4 @@
-use Rattle.std.proofs.Common.{◌≡◌, ◌+◌, ◌*◌, min, ◌≤◌, ◌++◌, length, take}
+use Rattle.std.proofs.Common.{◌≡◌, ◌+◌, ◌*◌, min, ◌≤◌, ◌++◌, take}
 use Rattle.part_layout.specs.Text.{part_text}
 use Rattle.part_layout.proofs.pieces.put_part.Given as goal
 

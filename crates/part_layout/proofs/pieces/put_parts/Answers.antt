@@ -1,4 +1,4 @@
-use Rattle.std.proofs.Common.{◌≡◌, ◌+◌, ◌*◌, ◌<◌, ◌≤◌, ◌∙◌, ℕ, List, [], ap, length, take, get_or, arith}
+use Rattle.std.proofs.Common.{◌≡◌, ◌<◌, ◌∙◌, ℕ, List, [], ap, length, take, get_or, arith}
 use Rattle.std.proofs.lemmas.List.{length-map}
 use Rattle.std.proofs.lemmas.List.Folds.{length-flat_map-take}
 use Rattle.std.specs.Global.{Vec}
@@ -57,7 +57,7 @@ loop-i-preserved c =
     let more = flat_step (lists_of c.args.parts.now) c.loop-i.i inside in
     let mark = length-mark_before c.loop-i.i 47 in (
       next_piece 47 part_text (lists_of c.args.parts.now) c.loop-i.i [] [] (take c.loop-i.at c.loop-i.out)
-      (take c.put_mark-at.result c.put_mark-at.new.out) (take c.put_part-at.result c.put_part-at.new.out) (part_text c.as_slice.result.now)
-      inside (ap part_text same) c.loop-i.invariant.0 c.put_mark-at.ensures.written c.put_part-at.ensures.text,
+          (take c.put_mark-at.result c.put_mark-at.new.out) (take c.put_part-at.result c.put_part-at.new.out) (part_text c.as_slice.result.now)
+          inside (ap part_text same) c.loop-i.invariant.0 c.put_mark-at.ensures.written c.put_part-at.ensures.text,
       omega arith,
     )

@@ -1,4 +1,4 @@
-use Rattle.std.proofs.Common.{◌≡◌, ◌+◌, ◌*◌, ◌^◌, ◌<◌, ◌∙◌, ℕ, suc, ap, length, get_or, slice_index, arith}
+use Rattle.std.proofs.Common.{◌≡◌, ◌+◌, ◌^◌, ◌<◌, ◌∙◌, suc, ap, length, get_or, slice_index, arith}
 use Rattle.std.proofs.Math.Nat.{pow-suc}
 use Rattle.part_layout.proofs.LayoutLemmas.{value_step}
 use Rattle.part_layout.proofs.pieces.value_at.Goals as goal
@@ -11,7 +11,7 @@ loop-position-preserved g c =
     let up = ap (λ n. 2 ^ n) one_more in
     let twice = pow-suc 2 c.loop-position.position-index in (
       λ x stands.
-        value_step x c.args.part.now c.loop-position.position-index c.loop-position.value c.bit_at.result inside
-        (c.loop-position.invariant.0 x stands) (c.bit_at.ensures.bit x stands ∙ ap (λ position. slice_index x position) read),
+          value_step x c.args.part.now c.loop-position.position-index c.loop-position.value c.bit_at.result inside
+          (c.loop-position.invariant.0 x stands) (c.bit_at.ensures.bit x stands ∙ ap (λ position. slice_index x position) read),
       omega arith,
     )

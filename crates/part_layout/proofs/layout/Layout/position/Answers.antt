@@ -1,4 +1,4 @@
-use Rattle.std.proofs.Common.{rules, ◌≡◌, ◌<◌, get_or, arith}
+use Rattle.std.proofs.Common.{rules, ◌<◌, get_or, arith}
 use Rattle.part_layout.specs.Laid.{IsLaid}
 use Rattle.part_layout.proofs.LayoutLemmas.{kept_at, part_inside}
 use Rattle.part_layout.proofs.layout.Layout.position.Goals as goal

@@ -1,4 +1,4 @@
-use Rattle.std.proofs.Common.{rules, ◌≡◌, ◌<◌, ◌≤◌, ◌∙◌, [], ap, sym, length, arith}
+use Rattle.std.proofs.Common.{rules, ◌≡◌, ◌∙◌, [], ap, sym, length, arith}
 use Rattle.part_layout.specs.Laid.{IsLaid, part_at}
 use Rattle.part_layout.proofs.LayoutLemmas.{kept_at, part_below}
 use Rattle.part_layout.proofs.layout.Layout.value.Goals as goal
@@ -10,7 +10,7 @@ value_at-requires g c =
     let own = kept_at c.self.inside.bits c.self.inside.parts.items c.args.self.now c.args.part c.index.result.now c.self.view_is
     c.requires.in_layout c.index.ensures in
     let same : c.as_slice.result.now ≡ part_at c.args.self.now c.args.part =
-        c.as_slice.ensures.value ∙ sym own in
+    c.as_slice.ensures.value ∙ sym own in
     let long = ap length same in
     let wide = (laid.layout.widths c.args.part [] c.requires.in_layout).1 in (
       search rules,
