@@ -10,7 +10,7 @@ use Rattle.std.proofs.lemmas.List.Elements.{All-head, All-tail}
 use Rattle.std.proofs.lemmas.List.Folds.{length-flat_map-take}
 use Rattle.std.proofs.lemmas.List.Sums.{sum_by-cons}
 use Rattle.hamming_model.specs.Layouts.{IsLayout, bits_at, part_value}
-use Rattle.part_layout.specs.Inside.{Fits, lists_of}
+use Rattle.part_layout.specs.Inside.{Fits, laid_of, lists_of}
 use Rattle.part_layout.specs.Laid.{Laid, part_at}
 use Rattle.part_layout.proofs.RunLemmas.{hit, miss}
 use Rattle.std.specs.Global.{Vec}
@@ -124,10 +124,6 @@ value_step code part i value bit inside so_far is_bit =
 pub own_part : (parts : List (Vec ℕ)) (i : ℕ) (own : Vec ℕ) → i < length parts → own ≡ get_or parts i own → own.items ≡ get_or (lists_of parts) i []
 own_part parts i own inside is =
     ap (λ (part : Vec ℕ). part.items) is ∙ sym (get_or-map (λ (part : Vec ℕ). part.items) parts i own [] inside)
-
--- a layout as callers see it
-abbrev pub laid_of : ℕ → List (Vec ℕ) → Laid
-laid_of bits parts = record { bits = bits; parts = lists_of parts }
 
 -- a part as callers see it
 pub kept_at : (bits : ℕ) (parts : List (Vec ℕ)) (laid : Laid) (part : ℕ) (own : Vec ℕ) → laid_of bits parts ≡ laid → part < length laid.parts

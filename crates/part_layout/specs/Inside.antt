@@ -3,10 +3,15 @@ use Rattle.std.specs.Prelude.{ℕ, zero, suc, [], ◌∷◌, ◌*◌, ◌<◌, �
 use Rattle.std.specs.List.{flat_map}
 use Rattle.std.specs.Global.{Vec}
 use Rattle.part_layout.specs.Contiguous.{runs}
+use Rattle.part_layout.specs.Laid.{Laid}
 
 -- the lists of the parts
 abbrev pub lists_of : List (Vec ℕ) → List (List ℕ)
 lists_of parts = map (λ part. part.items) parts
+
+-- a layout as callers see it
+abbrev pub laid_of : ℕ → List (Vec ℕ) → Laid
+laid_of bits parts = record { bits = bits; parts = lists_of parts }
 
 -- so many parts of one width are added, their positions in order from the first on
 abbrev pub AddsRuns : List (Vec ℕ) → List (Vec ℕ) → ℕ → ℕ → ℕ → Type 0

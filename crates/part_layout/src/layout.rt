@@ -21,16 +21,16 @@ pub struct Layout {
 }
 
 impl Model for Layout {
-    ghost use Rattle.part_layout.specs.Inside.{lists_of};
+    ghost use Rattle.part_layout.specs.Inside.{laid_of};
     ghost use Rattle.part_layout.specs.Laid.{IsLaid, Laid, laid_code};
 
     ghost Value = { Laid };
 
     ghost coded = { laid_code };
 
-    ghost view = { λ kept. record { bits = kept.bits; parts = lists_of kept.parts.items } };
+    ghost view = { λ kept. laid_of kept.bits kept.parts.items };
 
-    ghost invariant = { λ kept. IsLaid (record { bits = kept.bits; parts = lists_of kept.parts.items }) };
+    ghost invariant = { λ kept. IsLaid (laid_of kept.bits kept.parts.items) };
 }
 
 impl Layout {
@@ -45,7 +45,7 @@ impl Layout {
         ensures bits { IfOk result (λ layout. layout.bits ≡ bits) }
         ensures layout { IfOk result (λ layout. layout.parts ≡ contiguous bits parts) }
         ensures causes { IfErr result IsCutFault }
-        ensures number { (count : ℕ) → (result ≡ Err (Parts count)) ↔ IsNumberFault bits parts count }
+        ensures number { (n : ℕ) → (result ≡ Err (Parts n)) ↔ IsNumberFault bits parts n }
         ensures width { (part : ℕ) → (result ≡ Err (Width part)) ↔ IsWidthFault bits parts part }
     {
         if parts == 0 || parts > 64 || parts > bits {
