@@ -1,5 +1,6 @@
 -- The words of the command line, which are numbered from 1: what they ask for, or the place of the first one at fault.
-use Rattle.std.specs.Prelude.{◌≡◌, ℕ, ◌+◌, ◌-◌, ◌/◌, ◌%◌, ◌≤◌, ◌==◌, ◌&&◌, nat_le, if◌then◌else◌, Bool, List, [], ◌∷◌, take, drop, position, codes, Option, Some, None, is_some, unwrap_or, Result, Ok, Err}
+use Rattle.std.specs.Prelude.{◌≡◌, ℕ, ◌+◌, ◌-◌, ◌/◌, ◌%◌, ◌≤◌, ◌==◌, ◌&&◌, not, nat_le, if◌then◌else◌, Bool, List, [], ◌∷◌, take, drop, position, codes, Option, Some, None, is_some, unwrap_or, Result, Ok, Err}
+use Rattle.std.specs.List.{list_all}
 use Rattle.std.specs.Option.{option_map, option_and_then}
 use Rattle.std.specs.Str.{bytes_eq}
 use Rattle.part_layout.specs.declared.config.Config.{Config}
@@ -40,6 +41,10 @@ setting name place value value_place = record { name = name; place = place; valu
 -- the name and the value that a word has before and after its first `=`
 abbrev pub parted : List ℕ → Option (List ℕ × List ℕ)
 parted word = option_map (λ equals. (take equals word, drop (equals + 1) word)) (position (λ byte. byte == 61) word)
+
+-- no byte is a `=`
+abbrev pub has_no_equals : List ℕ → Bool
+has_no_equals word = list_all (λ byte. not (byte == 61)) word
 
 -- an option whose name is a word of its own, and the next word, if there is one, its value
 abbrev pub in_two_words : ℕ → List ℕ → Option (List ℕ) → Written
