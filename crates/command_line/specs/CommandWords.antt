@@ -27,7 +27,7 @@ pub record IsConfig (config : Config) : Type 0 where
   pub least_input : 1 ≤ config.input
   pub greatest_input : config.input ≤ 4294967296
 
--- an option as it is written: its name with the place of its word, and its value, if the words don't end before, with that of its own
+-- an option as it is written: its name and its place, and its value, if the words don't end before it, with the place of that
 pub record Written : Type 0 where
   pub name : List ℕ
   pub place : ℕ
@@ -59,7 +59,7 @@ abbrev pub first_written : ℕ → List ℕ → Option (List ℕ) → Option (Li
 first_written place word next None = in_two_words place word next
 first_written place word next (Some parts) = in_one_word place parts
 
--- the options after it, which begin a word later where it has no value of its own
+-- the options after it, which begin a word later where its value is a word of its own
 abbrev pub others_written : Option (List ℕ × List ℕ) → List Written → List Written → List Written
 others_written None next later = later
 others_written (Some parts) next later = next
