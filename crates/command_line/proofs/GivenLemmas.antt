@@ -87,7 +87,7 @@ stands_alone (Some found) given value other is = (cc, cc)
 stands_alone None given value other is = (cc, refl)
 
 -- the first option that words write, where it has its value in one word
-written_one : (place : ℕ) (word : List ℕ) (texts : List (List ℕ)) (parts : List ℕ × List ℕ) → parted word ≡ Some parts
+pub written_one : (place : ℕ) (word : List ℕ) (texts : List (List ℕ)) (parts : List ℕ × List ℕ) → parted word ≡ Some parts
     → written place (word ∷ texts) ≡ in_one_word place parts ∷ written (place + 1) texts
 written_one place word [] parts has =
     ap (λ (found : Option (List ℕ × List ℕ)). first_written place word None found ∷ []) has
@@ -95,7 +95,7 @@ written_one place word (next ∷ texts) parts has =
     ap (λ (found : Option (List ℕ × List ℕ)). first_written place word (Some next) found ∷ others_written found (written (place + 1) (next ∷ texts)) (written (place + 2) texts)) has
 
 -- the first option that words write, where its name is a word
-written_two : (place : ℕ) (word : List ℕ) (texts : List (List ℕ)) → parted word ≡ None
+pub written_two : (place : ℕ) (word : List ℕ) (texts : List (List ℕ)) → parted word ≡ None
     → written place (word ∷ texts) ≡ in_two_words place word (next_in texts) ∷ written (place + 2) (after_next texts)
 written_two place word [] has =
     ap (λ (found : Option (List ℕ × List ℕ)). first_written place word None found ∷ []) has

@@ -2,3 +2,4 @@ pub mod WordLemmas
 pub mod OptionLemmas
 pub mod GivenLemmas
 pub mod ConfigLemmas
+pub mod LawLemmas

@@ -1,5 +1,6 @@
 -- The words of the command line, which are numbered from 1: what they ask for, or the place of the first one at fault.
-use Rattle.std.specs.Prelude.{◌≡◌, ℕ, ◌+◌, ◌-◌, ◌/◌, ◌%◌, ◌≤◌, ◌==◌, ◌&&◌, nat_le, if◌then◌else◌, Bool, List, [], ◌∷◌, take, drop, position, codes, Option, Some, None, is_some, unwrap_or, Result, Ok, Err}
+use Rattle.std.specs.Prelude.{◌≡◌, ℕ, ◌+◌, ◌-◌, ◌/◌, ◌%◌, ◌≤◌, ◌==◌, ◌&&◌, not, nat_le, if◌then◌else◌, Bool, List, [], ◌∷◌, take, drop, position, codes, Option, Some, None, is_some, unwrap_or, Result, Ok, Err}
+use Rattle.std.specs.List.{list_all}
 use Rattle.std.specs.Option.{option_map, option_and_then}
 use Rattle.std.specs.Str.{bytes_eq}
 use Rattle.part_layout.specs.declared.config.Config.{Config}
@@ -26,7 +27,7 @@ pub record IsConfig (config : Config) : Type 0 where
   pub least_input : 1 ≤ config.input
   pub greatest_input : config.input ≤ 4294967296
 
--- an option as it is written: its name with the place of its word, and its value, if the words don't end before, with that of its own
+-- an option as it is written: its name and its place, and its value, if the words don't end before it, with the place of that
 pub record Written : Type 0 where
   pub name : List ℕ
   pub place : ℕ
@@ -41,6 +42,10 @@ setting name place value value_place = record { name = name; place = place; valu
 abbrev pub parted : List ℕ → Option (List ℕ × List ℕ)
 parted word = option_map (λ equals. (take equals word, drop (equals + 1) word)) (position (λ byte. byte == 61) word)
 
+-- no byte is a `=`
+abbrev pub has_no_equals : List ℕ → Bool
+has_no_equals word = list_all (λ byte. not (byte == 61)) word
+
 -- an option whose name is a word of its own, and the next word, if there is one, its value
 abbrev pub in_two_words : ℕ → List ℕ → Option (List ℕ) → Written
 in_two_words place name value = setting name place value (place + 1)
@@ -54,7 +59,7 @@ abbrev pub first_written : ℕ → List ℕ → Option (List ℕ) → Option (Li
 first_written place word next None = in_two_words place word next
 first_written place word next (Some parts) = in_one_word place parts
 
--- the options after it, which begin a word later where it has no value of its own
+-- the options after it, which begin a word later where its value is a word of its own
 abbrev pub others_written : Option (List ℕ × List ℕ) → List Written → List Written → List Written
 others_written None next later = later
 others_written (Some parts) next later = next

@@ -5,6 +5,8 @@
 mod command_option;
 mod command_words;
 mod given;
+mod laws;
 
 pub use command_option::CommandOption;
 pub use command_words::read_words;
+pub use laws::{options_in_any_order, options_in_either_form};
