@@ -422,7 +422,7 @@ module _ (W : ℕ) (config : Config) (history : List JournalEntry) (s : State) (
       let this : Reply = reply.Layout shard (layout_text (contiguous config.bits config.parts)) in
       turn_is result W config history s line before after rows queries goes
       (quiet result (Ok (Some (Layout shard))) (this ∷ []) s.position s rows queries (kept_layout W (reading config.bits config.shards line) shard read) refl means.position
-          (λ later. record { said_is = refl; position = refl; same = refl }) (writes_one before after result this wrote) means)
+      (λ later. record { said_is = refl; position = refl; same = refl }) (writes_one before after result this wrote) means)
 
   -- ---- `quit`
 

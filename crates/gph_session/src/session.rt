@@ -19,8 +19,8 @@ use crate::open_query::{MOST_OPEN, OpenQuery};
 use crate::opening::open;
 use crate::output::say;
 use crate::rows::Rows;
-use part_layout::{Config, Layout};
 use line_io::{Cut, Cutter, Failed, LineBuf, Sink};
+use part_layout::{Config, Layout};
 use query_protocol::{Bad, Reply, Request, read_line};
 use read_meter::NoMemory;
 use slab::Slab;
@@ -111,7 +111,12 @@ pub(crate) fn answer<const W: usize, K: Sink>(
     ensures layout { session.new.layout ≡ session.old.layout }
     ensures cause { IsCaused (K.faults sink.old) (K.faults sink.new) result }
 {
-    match read_cut(session.config.bits, session.config.shards, &session.cutter, cut) {
+    match read_cut(
+        session.config.bits,
+        session.config.shards,
+        &session.cutter,
+        cut,
+    ) {
         Err(fault) => say(&mut session.out, sink, &Reply::Bad(fault)),
         Ok(None) => Ok(Turn::Goes),
         Ok(Some(request)) => meet(session, request, sink),

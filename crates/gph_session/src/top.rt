@@ -63,7 +63,7 @@ fn serve_any<S: Source, K: Sink>(
         (ends (S.left source.old) (S.faults source.old)) (ends (S.left source.new) (S.faults source.new))
         (ends (K.held sink.old) (K.faults sink.old)) (ends (K.held sink.new) (K.faults sink.new)) }
 {
-    for_width!(config.bits, serve_width, alloc, config, source, sink)
+    for_width!(config.bits, serve_width<_, _>, alloc, config, source, sink)
 }
 
 // Serves a session over codes of W words.

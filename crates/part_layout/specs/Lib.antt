@@ -1,0 +1,4 @@
+pub mod Contiguous
+pub mod Inside
+pub mod Laid
+pub mod Text

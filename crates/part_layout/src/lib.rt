@@ -1,8 +1,14 @@
-//! What a session is asked to be: the number of bits of its codes, and the limits of what it takes.
+//! A layout is the number of bits of a code and the list of its parts, each the list of its positions: every position below the
+//! number of bits stands in exactly one part, once. What is read, laid out, printed or taken of a code is what the definitions say.
 #![tactic(auto)]
 
 mod config;
+mod layout;
+mod layout_fault;
 mod layout_text;
+mod pieces;
 
 pub use config::Config;
+pub use layout::Layout;
+pub use layout_fault::LayoutFault;
 pub use layout_text::LayoutText;

@@ -1,4 +1,4 @@
-use Rattle.std.proofs.Common.{Ok, Some, ap, sym, ◌∙◌}
+use Rattle.std.proofs.Common.{Ok, Some, ap, sym, ◌∙◌, subst}
 use Rattle.query_protocol.specs.Replies.{reply_line}
 use Rattle.query_protocol.specs.declared.reply.Reply.TheVariants as reply
 use Rattle.part_layout.specs.Text.{layout_text}
@@ -26,4 +26,9 @@ returns-in-Next-clause-answers g c = λ history s means line asked.
     (ap (λ r. Ok (Some r)) (sym c.in-Next.is) ∙ asked) c.give.new.queries c.give.result c.give.ensures.gives
 
 pub returns-in-Layout-clause-answers : goal.returns-in-Layout-clause-answers
-returns-in-Layout-clause-answers g c = let w = c.text.ensures in ?
+returns-in-Layout-clause-answers g c = λ history s means line asked.
+    layout_turn g.row.W c.args.session.now.config history s c.args.session.now.rows c.args.session.now.queries means line
+    (g.K.Sink.held c.args.sink.now) (g.K.Sink.held c.say-in-Layout.new.sink) c.in-Layout.shard
+    (ap (λ r. Ok (Some r)) (sym c.in-Layout.is) ∙ asked) c.say-in-Layout.result c.say-in-Layout.ensures.goes
+    (subst (λ text. Writes (g.K.Sink.held c.args.sink.now) (g.K.Sink.held c.say-in-Layout.new.sink) c.say-in-Layout.result (reply_line (reply.Layout c.in-Layout.shard text)))
+    (c.text.ensures ∙ ap layout_text c.requires.ready.laid) c.say-in-Layout.ensures.written)

@@ -1,0 +1,57 @@
+-- What the options ask for can be asked of a session.
+use Rattle.std.proofs.Common.{◌≡◌, ℕ, ◌+◌, ◌-◌, ◌*◌, ◌/◌, ◌<◌, ◌≤◌, true, nat_le, Option, Some, None, IfSome, unwrap_or, refl, sym, subst, arith, lit≤}
+use Rattle.std.proofs.lemmas.Bool.{and_parts, leb-true}
+use Rattle.std.proofs.lemmas.Nat.{div_below}
+use Rattle.command_line.specs.CommandWords.{can_be_laid, config, IsConfig, IsLaid}
+use Rattle.command_line.specs.GivenValues.{entry_number_or, IsNumberOf, IsEntryOf}
+use Rattle.command_line.specs.declared.command_option.CommandOption.TheVariants.{Bits, Input}
+use Rattle.command_line.specs.declared.given.Entry.{Entry}
+
+-- a number that is there, or its default
+number_has : (P : ℕ → Type 0) (default : ℕ) (number : Option ℕ) → IfSome number P → P default → P (unwrap_or number default)
+number_has P default None held base = base
+number_has P default (Some number) held base = held
+
+-- the number of an entry, or its default
+entry_has : (P : ℕ → Type 0) (default : ℕ) (entry : Option Entry) → IfSome entry (λ kept. IfSome kept.number P) → P default → P (entry_number_or default entry)
+entry_has P default None held base = base
+entry_has P default (Some kept) held base = number_has P default kept.number held base
+
+-- the number of bits
+pub bits_of : (bits : ℕ) (entry : Option Entry) → IsEntryOf Bits entry → bits ≡ entry_number_or 64 entry → IsNumberOf Bits bits
+bits_of bits entry held same = subst (λ (n : ℕ). IsNumberOf Bits n) (sym same) (entry_has (IsNumberOf Bits) 64 entry held (lit≤ tt, lit≤ tt, refl))
+
+-- the number of bytes of the input
+pub input_of : (input : ℕ) (entry : Option Entry) → IsEntryOf Input entry → input ≡ entry_number_or 4294967296 entry → IsNumberOf Input input
+input_of input entry held same = subst (λ (n : ℕ). IsNumberOf Input n) (sym same) (entry_has (IsNumberOf Input) 4294967296 entry held (lit≤ tt, lit≤ tt))
+
+-- parts of eight bits each
+pub laid_by_bytes : (bits : ℕ) → IsNumberOf Bits bits → IsLaid bits (bits / 8)
+laid_by_bytes bits within =
+    let least : 8 ≤ bits = within.0 in
+    let most : bits ≤ 256 = within.1 in
+    let whole = within.2 in
+    let some : 1 ≤ bits / 8 = omega (arith, whole) in
+    let eight : bits ≡ 8 * (bits / 8) = omega (arith, whole) in
+    let below : (bits + bits / 8 - 1) / (bits / 8) < 13 = div_below (bits + bits / 8 - 1) (bits / 8) 13 (omega arith) (omega arith) in
+    record { some_parts = some; few_parts = omega arith; filled = omega arith; narrow = omega arith }
+
+-- parts that pass the test
+pub laid_by_test : (bits parts : ℕ) → 1 ≤ parts → parts ≤ 64 → can_be_laid bits parts ≡ true → IsLaid bits parts
+laid_by_test bits parts some few passed =
+    let both = and_parts (nat_le parts bits) (nat_le ((bits + parts - 1) / parts) 12) passed in
+    record { some_parts = some; few_parts = few; filled = leb-true parts bits both.0; narrow = leb-true ((bits + parts - 1) / parts) 12 both.1 }
+
+-- what is asked for
+pub config_within : (bits parts input : ℕ) → IsNumberOf Bits bits → IsLaid bits parts → IsNumberOf Input input → IsConfig (config bits parts input)
+config_within bits parts input of_bits laid of_input = record {
+  least_bits = of_bits.0;
+  greatest_bits = of_bits.1;
+  whole_bytes = of_bits.2;
+  laid = laid;
+  one_shard = refl;
+  room_of_64 = refl;
+  all_entries = refl;
+  least_input = of_input.0;
+  greatest_input = of_input.1;
+}

@@ -1,0 +1,325 @@
+-- What options ask for depends on their names and values alone, and not on their places or their order.
+use Rattle.std.proofs.Common.{◌≡◌, ◌≢◌, ℕ, ◌+◌, ◌/◌, ◌<◌, ◌==◌, Bool, true, false, not, cond, nat_lt, List, [], ◌∷◌, ◌++◌, map, length, take, drop, Option, Some, None, is_some, is_none, unwrap_or, Result, Ok, Err, refl, ap, sym, ◌∙◌, arith, add-one, length-append}
+use Rattle.std.specs.List.{prefix_len}
+use Rattle.std.specs.Option.{option_map, option_and_then}
+use Rattle.std.specs.Result.{result_ok}
+use Rattle.std.specs.Str.{bytes_eq}
+use Rattle.std.proofs.lemmas.Bool.{and_parts, lt-ltb, le-ltb, false_from_ne_true}
+use Rattle.std.proofs.lemmas.Slice.Eq.{bytes_eq-Decides}
+use Rattle.part_layout.specs.declared.config.Config.{Config}
+use Rattle.command_line.specs.CommandOptions.{name_of, option_named, number, is_value}
+use Rattle.command_line.specs.CommandWords.{Written, parted, has_no_equals, in_one_word, in_two_words, written, first_written, others_written, given, number_given, number_or, can_be_laid, config, parts_for, value_fault, option_fault, fault_of, or_fault, asked_after}
+use Rattle.command_line.proofs.OptionLemmas.{named_name}
+use Rattle.command_line.proofs.GivenLemmas.{written_one, written_two}
+use Rattle.command_line.specs.declared.command_option.CommandOption.{CommandOption}
+use Rattle.command_line.specs.declared.command_option.CommandOption.TheVariants.{Bits, Parts, Input}
+
+-- an option without its places
+abbrev Bare : Type 0
+Bare = List ℕ × Option (List ℕ)
+
+abbrev bare : Written → Bare
+bare one = (one.name, one.value)
+
+-- the value of an option, if it was given
+abbrev bare_given : CommandOption → List Bare → Option (Option (List ℕ))
+bare_given option [] = None
+bare_given option (one ∷ others) = cond (bytes_eq one.0 (name_of option)) (Some one.1) (bare_given option others)
+
+-- whether a value may stand
+abbrev stands : CommandOption → Option (List ℕ) → Bool
+stands option None = false
+stands option (Some value) = is_value option value
+
+-- whether what may be an option has no fault after others
+abbrev option_passes : List Bare → Bare → Option CommandOption → Bool
+option_passes before one None = false
+option_passes before one (Some option) = cond (is_some (bare_given option before)) false (stands option one.1)
+
+-- whether an option has no fault after others
+abbrev passes : List Bare → Bare → Bool
+passes before one = option_passes before one (option_named one.0)
+
+-- the number of a value that may be missing
+abbrev number_in : CommandOption → Option (List ℕ) → Option ℕ
+number_in option value = option_and_then (number option) value
+
+-- the number that an option was given, or its default
+abbrev bare_number : CommandOption → ℕ → Option (Option (List ℕ)) → ℕ
+bare_number option default found = unwrap_or (option_and_then (number_in option) found) default
+
+-- the parts for so many bits
+abbrev laid_parts : ℕ → Option ℕ → Option ℕ
+laid_parts bits None = None
+laid_parts bits (Some parts) = cond (can_be_laid bits parts) (Some parts) None
+
+-- the parts, or their default
+abbrev bare_parts : ℕ → Option (Option (List ℕ)) → Option ℕ
+bare_parts bits None = Some (bits / 8)
+bare_parts bits (Some value) = laid_parts bits (number_in Parts value)
+
+-- what is asked for by numbers
+abbrev bare_config : ℕ → ℕ → Option (Option (List ℕ)) → Option Config
+bare_config bits input found = option_map (λ parts. config bits parts input) (bare_parts bits found)
+
+-- what options ask for that are written after others, without their places
+abbrev bare_asked : List Bare → List Bare → Option Config
+bare_asked before [] =
+    bare_config (bare_number Bits 64 (bare_given Bits before)) (bare_number Input 4294967296 (bare_given Input before)) (bare_given Parts before)
+bare_asked before (one ∷ others) = cond (passes before one) (bare_asked (one ∷ before) others) None
+
+-- the value of an option that is found
+abbrev value_of : Option Written → Option (Option (List ℕ))
+value_of found = option_map (λ one. one.value) found
+
+-- one more option, found or not
+one_more : (test : Bool) (one : Written) (found : Option Written) (bared : Option (Option (List ℕ))) → value_of found ≡ bared
+    → value_of (cond test (Some one) found) ≡ cond test (Some one.value) bared
+one_more true one found bared same = refl
+one_more false one found bared same = same
+
+-- an option is found where it is without places
+given_bare : (option : CommandOption) (settings : List Written) → value_of (given option settings) ≡ bare_given option (map bare settings)
+given_bare option [] = refl
+given_bare option (one ∷ others) =
+    one_more (bytes_eq one.name (name_of option)) one (given option others) (bare_given option (map bare others)) (given_bare option others)
+
+-- an option that is found has a value or misses one
+value_some : (found : Option Written) → is_some (value_of found) ≡ is_some found
+value_some None = refl
+value_some (Some one) = refl
+
+-- a value has no fault where it may stand
+no_fault_passes : (passed : Bool) (place : ℕ) → is_none {T = ℕ} (cond passed None (Some place)) ≡ passed
+no_fault_passes true place = refl
+no_fault_passes false place = refl
+
+-- a value that may be missing has no fault where it may stand
+value_passes : (option : CommandOption) (place : ℕ) (value : Option (List ℕ)) → is_none (value_fault option place value) ≡ stands option value
+value_passes option place None = refl
+value_passes option place (Some value) = no_fault_passes (is_value option value) place
+
+-- an option that is new
+new_passes : (old : Bool) (place : ℕ) (fault : Option ℕ) → is_none (cond old (Some place) fault) ≡ cond old false (is_none fault)
+new_passes true place fault = refl
+new_passes false place fault = refl
+
+-- what may be an option has no fault where it passes
+named_passes : (before : List Written) (one : Written) (named : Option CommandOption)
+    → is_none (option_fault before one named) ≡ option_passes (map bare before) (bare one) named
+named_passes before one None = refl
+named_passes before one (Some option) =
+    let old : is_some (given option before) ≡ is_some (bare_given option (map bare before)) =
+    sym (value_some (given option before)) ∙ ap (λ (found : Option (Option (List ℕ))). is_some found) (given_bare option before) in
+    new_passes (is_some (given option before)) one.place (value_fault option one.value_place one.value)
+    ∙ ap (λ (passed : Bool). cond (is_some (given option before)) false passed) (value_passes option one.value_place one.value)
+    ∙ ap (λ (old : Bool). cond old false (stands option one.value)) old
+
+-- a result stands where there is no fault
+stood : (fault : Option ℕ) (result : Result Config ℕ) → result_ok (or_fault fault result) ≡ cond (is_none fault) (result_ok result) None
+stood None result = refl
+stood (Some place) result = refl
+
+-- the number of what is found
+number_bare : (option : CommandOption) (found : Option Written) → option_and_then (number_given option) found ≡ option_and_then (number_in option) (value_of found)
+number_bare option None = refl
+number_bare option (Some one) = refl
+
+-- the number that an option was given
+number_or_bare : (option : CommandOption) (default : ℕ) (settings : List Written)
+    → number_or option default settings ≡ bare_number option default (bare_given option (map bare settings))
+number_or_bare option default settings =
+    ap (λ (found : Option ℕ). unwrap_or found default) (number_bare option (given option settings))
+    ∙ ap (bare_number option default) (given_bare option settings)
+
+-- the parts that were found, by their number
+abbrev parts_by : ℕ → ℕ → Option ℕ → Result ℕ ℕ
+parts_by bits place number = elim number [ None ↦ Err place | Some parts ↦ cond (can_be_laid bits parts) (Ok parts) (Err place) ]
+
+-- the parts that were found
+abbrev parts_found : ℕ → Option Written → Result ℕ ℕ
+parts_found bits found = elim found [ None ↦ Ok (bits / 8) | Some one ↦ parts_for bits one ]
+
+-- a session of the parts
+abbrev with_parts : ℕ → ℕ → Result ℕ ℕ → Result Config ℕ
+with_parts bits input parts = elim parts [ Err place ↦ Err place | Ok parts ↦ Ok (config bits parts input) ]
+
+-- parts that were judged
+judged_bare : (bits input place parts : ℕ) (passed : Bool)
+    → result_ok (with_parts bits input (cond passed (Ok parts) (Err place))) ≡ option_map (λ parts. config bits parts input) (cond passed (Some parts) None)
+judged_bare bits input place parts true = refl
+judged_bare bits input place parts false = refl
+
+-- parts by their number
+parts_by_bare : (bits input place : ℕ) (number : Option ℕ)
+    → result_ok (with_parts bits input (parts_by bits place number)) ≡ option_map (λ parts. config bits parts input) (laid_parts bits number)
+parts_by_bare bits input place None = refl
+parts_by_bare bits input place (Some parts) = judged_bare bits input place parts (can_be_laid bits parts)
+
+-- what is asked for, by what was found of the parts
+config_bare : (bits input : ℕ) (found : Option Written) → result_ok (with_parts bits input (parts_found bits found)) ≡ bare_config bits input (value_of found)
+config_bare bits input None = refl
+config_bare bits input (Some one) = parts_by_bare bits input one.value_place (number_given Parts one)
+
+-- what options ask for, without their places
+pub asked_bare : (before settings : List Written) → result_ok (asked_after before settings) ≡ bare_asked (map bare before) (map bare settings)
+asked_bare before [] =
+    config_bare (number_or Bits 64 before) (number_or Input 4294967296 before) (given Parts before)
+    ∙ ap (bare_config (number_or Bits 64 before) (number_or Input 4294967296 before)) (given_bare Parts before)
+    ∙ ap (λ (bits : ℕ). bare_config bits (number_or Input 4294967296 before) (bare_given Parts (map bare before))) (number_or_bare Bits 64 before)
+    ∙ ap (λ (input : ℕ). bare_config (bare_number Bits 64 (bare_given Bits (map bare before))) input (bare_given Parts (map bare before))) (number_or_bare Input 4294967296 before)
+asked_bare before (one ∷ others) =
+    stood (fault_of before one) (asked_after (one ∷ before) others)
+    ∙ ap (λ (passed : Bool). cond passed (result_ok (asked_after (one ∷ before) others)) None) (named_passes before one (option_named one.name))
+    ∙ ap (λ (asked : Option Config). cond (passes (map bare before) (bare one)) asked None) (asked_bare (one ∷ before) others)
+
+-- options before which give each option the same
+abbrev GivesSame : List Bare → List Bare → Type 0
+GivesSame before other = (option : CommandOption) → bare_given option before ≡ bare_given option other
+
+-- what may be an option passes by what was given
+passes_same : (before other : List Bare) (one : Bare) (named : Option CommandOption) → GivesSame before other
+    → option_passes before one named ≡ option_passes other one named
+passes_same before other one None same = refl
+passes_same before other one (Some option) same =
+    ap (λ (found : Option (Option (List ℕ))). cond (is_some found) false (stands option one.1)) (same option)
+
+-- what was given decides what is asked for
+asked_same : (before other settings : List Bare) → GivesSame before other → bare_asked before settings ≡ bare_asked other settings
+asked_same before other [] same =
+    ap (λ (found : Option (Option (List ℕ))). bare_config (bare_number Bits 64 found) (bare_number Input 4294967296 (bare_given Input before)) (bare_given Parts before)) (same Bits)
+    ∙ ap (λ (found : Option (Option (List ℕ))). bare_config (bare_number Bits 64 (bare_given Bits other)) (bare_number Input 4294967296 found) (bare_given Parts before)) (same Input)
+    ∙ ap (bare_config (bare_number Bits 64 (bare_given Bits other)) (bare_number Input 4294967296 (bare_given Input other))) (same Parts)
+asked_same before other (one ∷ others) same =
+    ap (λ (passed : Bool). cond passed (bare_asked (one ∷ before) others) None) (passes_same before other one (option_named one.0) same)
+    ∙ ap (λ (asked : Option Config). cond (passes other one) asked None)
+    (asked_same (one ∷ before) (one ∷ other) others (λ option. ap (λ (found : Option (Option (List ℕ))). cond (bytes_eq one.0 (name_of option)) (Some one.1) found) (same option)))
+
+-- a name is not another option's
+not_named : (name : List ℕ) (option : CommandOption) → name ≢ name_of option → bytes_eq name (name_of option) ≡ false
+not_named name option other = false_from_ne_true (bytes_eq name (name_of option)) (λ same. other ((bytes_eq-Decides name (name_of option)).0 same))
+
+-- an option passes whether or not another one comes before it
+passes_after : (before : List Bare) (one other : Bare) (named : Option CommandOption) → option_named other.0 ≡ named → one.0 ≢ other.0
+    → option_passes (one ∷ before) other named ≡ option_passes before other named
+passes_after before one other None is differ = refl
+passes_after before one other (Some option) is differ =
+    let same : other.0 ≡ name_of option = named_name other.0 option is in
+    let apart : bytes_eq one.0 (name_of option) ≡ false = not_named one.0 option (λ equal. differ (equal ∙ sym same)) in
+    ap (λ (test : Bool). cond (is_some (cond test (Some one.1) (bare_given option before))) false (stands option other.1)) apart
+
+-- two tests in either order
+tests_swap : (first second : Bool) (asked : Option Config) → cond first (cond second asked None) None ≡ cond second (cond first asked None) None
+tests_swap true true asked = refl
+tests_swap true false asked = refl
+tests_swap false true asked = refl
+tests_swap false false asked = refl
+
+-- two finds in either order, of which one at most finds
+finds_swap : (first second : Bool) (one other found : Option (Option (List ℕ))) → (first ≡ true → second ≡ true → ⊥)
+    → cond first one (cond second other found) ≡ cond second other (cond first one found)
+finds_swap true true one other found apart = absurd (apart refl refl)
+finds_swap true false one other found apart = refl
+finds_swap false true one other found apart = refl
+finds_swap false false one other found apart = refl
+
+-- two options before, in either order
+gives_swap : (before : List Bare) (one other : Bare) → one.0 ≢ other.0 → GivesSame (other ∷ one ∷ before) (one ∷ other ∷ before)
+gives_swap before one other differ = λ option.
+    finds_swap (bytes_eq other.0 (name_of option)) (bytes_eq one.0 (name_of option)) (Some other.1) (Some one.1) (bare_given option before)
+    (λ is_other is_one. differ ((bytes_eq-Decides one.0 (name_of option)).0 is_one ∙ sym ((bytes_eq-Decides other.0 (name_of option)).0 is_other)))
+
+-- two options in either order
+bare_swap : (before settings : List Bare) (one other : Bare) → one.0 ≢ other.0
+    → bare_asked before (one ∷ other ∷ settings) ≡ bare_asked before (other ∷ one ∷ settings)
+bare_swap before settings one other differ =
+    ap (λ (test : Bool). cond (passes before one) (cond test (bare_asked (other ∷ one ∷ before) settings) None) None) (passes_after before one other (option_named other.0) refl differ)
+    ∙ ap (λ (asked : Option Config). cond (passes before one) (cond (passes before other) asked None) None) (asked_same (other ∷ one ∷ before) (one ∷ other ∷ before) settings (gives_swap before one other differ))
+    ∙ tests_swap (passes before one) (passes before other) (bare_asked (one ∷ other ∷ before) settings)
+    ∙ ap (λ (test : Bool). cond (passes before other) (cond test (bare_asked (one ∷ other ∷ before) settings) None) None)
+    (sym (passes_after before other one (option_named one.0) refl (λ same. differ (sym same))))
+
+-- two options in either order, with their places
+pub order_free : (before later : List Written) (one other : Written) → one.name ≢ other.name
+    → result_ok (asked_after before (one ∷ other ∷ later)) ≡ result_ok (asked_after before (other ∷ one ∷ later))
+order_free before later one other differ =
+    asked_bare before (one ∷ other ∷ later) ∙ bare_swap (map bare before) (map bare later) (bare one) (bare other) differ ∙ sym (asked_bare before (other ∷ one ∷ later))
+
+-- a name ends at the first `=`
+name_ends : (name rest : List ℕ) → has_no_equals name ≡ true → prefix_len (λ byte. not (byte == 61)) (name ++ 61 ∷ rest) ≡ length name
+name_ends [] rest plain = refl
+name_ends (byte ∷ name) rest plain =
+    let both = and_parts (not (byte == 61)) (has_no_equals name) plain in
+    let more : prefix_len (λ byte. not (byte == 61)) (name ++ 61 ∷ rest) ≡ length name = name_ends name rest both.1 in
+    ap (λ (test : Bool). cond test (1 + prefix_len (λ byte. not (byte == 61)) (name ++ 61 ∷ rest)) 0) both.0 ∙ omega (arith, more)
+
+-- a name has none
+name_whole : (name : List ℕ) → has_no_equals name ≡ true → prefix_len (λ byte. not (byte == 61)) name ≡ length name
+name_whole [] plain = refl
+name_whole (byte ∷ name) plain =
+    let both = and_parts (not (byte == 61)) (has_no_equals name) plain in
+    let more : prefix_len (λ byte. not (byte == 61)) name ≡ length name = name_whole name both.1 in
+    ap (λ (test : Bool). cond test (1 + prefix_len (λ byte. not (byte == 61)) name) 0) both.0 ∙ omega (arith, more)
+
+-- the name of a word
+taken : (name rest : List ℕ) → take (length name) (name ++ rest) ≡ name
+taken [] rest = refl
+taken (byte ∷ name) rest = ap (λ (bytes : List ℕ). byte ∷ bytes) (taken name rest)
+
+-- the value of a word
+dropped : (name rest : List ℕ) → drop (length name + 1) (name ++ 61 ∷ rest) ≡ rest
+dropped [] rest = refl
+dropped (byte ∷ name) rest = rw add-one (rw add-one at (dropped name rest))
+
+-- a name alone has no parts
+parted_none : (name : List ℕ) → has_no_equals name ≡ true → parted name ≡ None
+parted_none name plain =
+    let cut : ℕ → List ℕ × List ℕ = λ (equals : ℕ). (take equals name, drop (equals + 1) name) in
+    ap (λ (place : ℕ). option_map cut (cond (nat_lt place (length name)) (Some place) None)) (name_whole name plain)
+    ∙ ap (λ (within : Bool). option_map cut (cond within (Some (length name)) None)) (le-ltb (length name) (length name) (omega arith))
+
+-- a name, a `=` and a value have them
+parted_joined : (name value : List ℕ) → has_no_equals name ≡ true → parted (name ++ 61 ∷ value) ≡ Some (name, value)
+parted_joined name value plain =
+    let cut : ℕ → List ℕ × List ℕ = λ (equals : ℕ). (take equals (name ++ 61 ∷ value), drop (equals + 1) (name ++ 61 ∷ value)) in
+    let size : length name < length (name ++ 61 ∷ value) = rw (length-append name (61 ∷ value)) (omega arith) in
+    let Both : List ℕ → List ℕ → Option (List ℕ × List ℕ) = λ (a b : List ℕ). Some (a, b) in
+    ap (λ (place : ℕ). option_map cut (cond (nat_lt place (length (name ++ 61 ∷ value))) (Some place) None)) (name_ends name value plain)
+    ∙ ap (λ (within : Bool). option_map cut (cond within (Some (length name)) None)) (lt-ltb (length name) (length (name ++ 61 ∷ value)) size)
+    ∙ ap (λ (a : List ℕ). Both a (drop (length name + 1) (name ++ 61 ∷ value))) (taken name (61 ∷ value))
+    ∙ ap (Both name) (dropped name value)
+
+-- the first option without its places
+bare_first : (place other : ℕ) (word : List ℕ) (next : Option (List ℕ)) (found : Option (List ℕ × List ℕ))
+    → bare (first_written place word next found) ≡ bare (first_written other word next found)
+bare_first place other word next None = refl
+bare_first place other word next (Some parts) = refl
+
+-- the others without theirs
+bare_others : (found : Option (List ℕ × List ℕ)) (next later next_too later_too : List Written) → map bare next ≡ map bare next_too
+    → map bare later ≡ map bare later_too → map bare (others_written found next later) ≡ map bare (others_written found next_too later_too)
+bare_others None next later next_too later_too same same_later = same_later
+bare_others (Some parts) next later next_too later_too same same_later = same
+
+-- words write the same from another place on, but for the places
+bare_written : (texts : List (List ℕ)) (place other : ℕ) → map bare (written place texts) ≡ map bare (written other texts)
+bare_written [] place other = refl
+bare_written (word ∷ []) place other = ap (λ (one : Bare). one ∷ []) (bare_first place other word None (parted word))
+bare_written (word ∷ next ∷ texts) place other =
+    let rest = bare_others (parted word) (written (place + 1) (next ∷ texts)) (written (place + 2) texts) (written (other + 1) (next ∷ texts)) (written (other + 2) texts)
+    (bare_written (next ∷ texts) (place + 1) (other + 1)) (bare_written texts (place + 2) (other + 2)) in
+    ap (λ (one : Bare). one ∷ map bare (others_written (parted word) (written (place + 1) (next ∷ texts)) (written (place + 2) texts))) (bare_first place other word (Some next) (parted word))
+    ∙ ap (λ (others : List Bare). bare (first_written other word (Some next) (parted word)) ∷ others) rest
+
+-- an option in either form
+pub either_form : (name value : List ℕ) (words : List (List ℕ)) → has_no_equals name ≡ true
+    → result_ok (asked_after [] (written 2 ((name ++ 61 ∷ value) ∷ words))) ≡ result_ok (asked_after [] (written 2 (name ∷ value ∷ words)))
+either_form name value words plain =
+    let Asked : List Written → Option Config = λ (settings : List Written). result_ok (asked_after [] settings) in
+    let one = in_one_word 2 (name, value) in
+    let two = in_two_words 2 name (Some value) in
+    ap Asked (written_one 2 (name ++ 61 ∷ value) words (name, value) (parted_joined name value plain))
+    ∙ asked_bare [] (one ∷ written 3 words)
+    ∙ ap (λ (others : List Bare). bare_asked [] (bare one ∷ others)) (bare_written words 3 4)
+    ∙ sym (asked_bare [] (two ∷ written 4 words))
+    ∙ sym (ap Asked (written_two 2 name (value ∷ words) (parted_none name plain)))

@@ -1,0 +1,5 @@
+pub mod WordLemmas
+pub mod OptionLemmas
+pub mod GivenLemmas
+pub mod ConfigLemmas
+pub mod LawLemmas

@@ -1,0 +1,11 @@
+use Rattle.std.proofs.Common.{◌≡◌, ◌+◌, ◌*◌, ◌≤◌, List, [], length, map, string_bytes}
+use Rattle.command_line.specs.CommandWords.{Written, asked_after, written}
+use Rattle.command_line.specs.GivenValues.{kept, size}
+use Rattle.command_line.proofs.command_words.read_options.Given as goal
+
+abbrev pub invariant-loop-word : goal.invariant-loop-word
+invariant-loop-word l =
+    (before : List Written) × (l.given ≡ kept before) × (asked_after before (written l.place (map string_bytes l.rest)) ≡ asked_after [] (written 2 (map string_bytes l.options))) × (l.place ≤ 2 + 2 * size l.given) × (size l.given ≤ 3)
+
+abbrev pub decreases-loop-word : goal.decreases-loop-word
+decreases-loop-word l = length l.rest

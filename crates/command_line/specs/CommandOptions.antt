@@ -1,0 +1,46 @@
+-- The options of the command `run`: their names and the numbers that they may be given.
+use Rattle.std.specs.Prelude.{ℕ, ◌%◌, ◌==◌, Bool, if◌then◌else◌, List, codes, Option, Some, None, is_some}
+use Rattle.std.specs.Option.{option_and_then}
+use Rattle.std.specs.Str.{bytes_eq}
+use Rattle.query_protocol.specs.Forms.{is_decimal, number_of}
+use Rattle.command_line.specs.declared.command_option.CommandOption.{CommandOption}
+use Rattle.command_line.specs.declared.command_option.CommandOption.TheVariants.{Bits, Parts, Input}
+
+-- the name of an option
+abbrev pub name_of : CommandOption → List ℕ
+name_of Bits = codes "--bits"
+name_of Parts = codes "--parts"
+name_of Input = codes "--input"
+
+-- the least number that an option may be given
+abbrev pub least : CommandOption → ℕ
+least Bits = 8
+least Parts = 1
+least Input = 1
+
+-- the greatest number that an option may be given
+abbrev pub greatest : CommandOption → ℕ
+greatest Bits = 256
+greatest Parts = 64
+greatest Input = 4294967296
+
+-- the option that a name names
+abbrev pub option_named : List ℕ → Option CommandOption
+option_named name =
+    if bytes_eq name (name_of Bits) then Some Bits else
+    if bytes_eq name (name_of Parts) then Some Parts else
+    if bytes_eq name (name_of Input) then Some Input else None
+
+-- a multiple of eight
+abbrev pub multiple_of_8 : ℕ → Option ℕ
+multiple_of_8 number = if number % 8 == 0 then Some number else None
+
+-- the number that a value gives an option, where it may be given that number
+abbrev pub number : CommandOption → List ℕ → Option ℕ
+number Bits value = option_and_then multiple_of_8 (number_of 20 (least Bits) (greatest Bits) value)
+number option value = number_of 20 (least option) (greatest option) value
+
+-- whether a value may stand after an option: that of the parts is judged for its digits alone, since the bits may come after it
+abbrev pub is_value : CommandOption → List ℕ → Bool
+is_value Parts value = is_decimal 20 value
+is_value option value = is_some (number option value)

@@ -1,0 +1,3 @@
+pub mod CommandOptions
+pub mod CommandWords
+pub mod GivenValues

@@ -1,0 +1,94 @@
+//! The words after the program's name.
+
+ghost use Rattle.std.specs.Prelude.{◌≡◌, ◌==◌, ◌<◌, ◌-◌, [], length, map, position, string_bytes, option_copied, IfSome, IfOk};
+ghost use Rattle.std.specs.Option.{option_map};
+ghost use Rattle.command_line.specs.CommandWords.{asked, asked_after, written, parted, IsConfig};
+ghost use Rattle.command_line.specs.GivenValues.{next_in, after_next};
+
+use crate::given::Given;
+use part_layout::Config;
+
+/// What the words after the program's name ask for, or the place of the first word at fault, counted from 1.
+///
+/// The first word is the command `run`. Options follow it in any order, each at most once, as two words `--name VALUE`
+/// or as one word `--name=VALUE`; a value is 1 to 20 decimal digits, and leading zeros are allowed:
+///
+/// - `--bits`, a multiple of 8 from 8 to 256, and 64 where it is left out;
+/// - `--parts`, from 1 to 64, so that each has from 1 to 12 of the bits, and an eighth of the bits where it is left out;
+/// - `--input`, from 1 to 4,294,967,296, and the greatest where it is left out.
+///
+/// An unknown command is word 1, an unknown or repeated option is its own word, a bad value is its word, and a missing
+/// command or value is the number of words plus one. The words are judged from left to right, and after them the parts
+/// against the bits.
+pub fn read_words(words: &[String]) -> Result<Config, usize>
+    ensures value { result ≡ asked (map string_bytes words.now) }
+    ensures within { IfOk result (λ config. IsConfig config) }
+{
+    match words {
+        [] => Err(1),
+        [command, options @ ..] => {
+            if command.as_bytes() == b"run".as_slice() {
+                read_options(options)
+            } else {
+                Err(1)
+            }
+        }
+    }
+}
+
+// What the words after the command ask for, the first of them being word 2.
+fn read_options(options: &[String]) -> Result<Config, usize>
+    ensures value { result ≡ asked_after [] (written 2 (map string_bytes options.now)) }
+    ensures within { IfOk result (λ config. IsConfig config) }
+{
+    let mut given = Given {
+        bits: None,
+        parts: None,
+        input: None,
+    };
+    let mut place = 2;
+    let mut rest = options;
+    while let (Some(word), after) = next_word(rest) {
+        if let Some((name, value)) = parted(word) {
+            given = given.with(name, place, Some(value), place)?;
+            place += 1;
+            rest = after;
+            continue;
+        }
+        let (value, after) = next_word(after);
+        given = given.with(word, place, value, place + 1)?;
+        place += 2;
+        rest = after;
+    }
+    given.config()
+}
+
+// The name and the value that a word has before and after its first `=`.
+fn parted(word: &[u8]) -> Option<(&[u8], &[u8])>
+    ensures { option_map (λ parts. (parts.0.now, parts.1.now)) result ≡ parted word.now }
+{
+    match equals_in(word) {
+        None => None,
+        Some(equals) => Some((&word[..equals], &word[equals + 1..])),
+    }
+}
+
+// The place of the first `=` in a word.
+fn equals_in(word: &[u8]) -> Option<usize>
+    ensures value { result ≡ position (λ byte. byte == 61) word.now }
+    ensures within { IfSome result (λ equals. equals < length word.now) }
+{
+    word.iter().position(|byte| *byte == b'=')
+}
+
+// The next word, if there is one, and the words after it.
+fn next_word(words: &[String]) -> (Option<&[u8]>, &[String])
+    ensures next { option_copied result.0 ≡ next_in (map string_bytes words.now) }
+    ensures after { map string_bytes result.1.now ≡ after_next (map string_bytes words.now) }
+    ensures fewer { length result.1.now ≡ length words.now - 1 }
+{
+    match words {
+        [] => (None, words),
+        [next, after @ ..] => (Some(next.as_bytes()), after),
+    }
+}

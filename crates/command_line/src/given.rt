@@ -1,0 +1,155 @@
+//! What the options were given by the words read so far.
+
+ghost use Rattle.std.specs.Prelude.{◌≡◌, ◌+◌, ◌≤◌, ℕ, List, option_copied, IfOk};
+ghost use Rattle.command_line.specs.CommandWords.{Written, setting, can_be_laid, config_of, IsConfig, IsLaid};
+ghost use Rattle.command_line.specs.GivenValues.{entry_at, entry_number_or, entry_parts_or, put, size, kept, kept_after, IsNumberOf, IsEntryOf, AreEntries};
+ghost use Rattle.command_line.specs.declared.command_option.CommandOption.TheVariants.{Bits, Parts};
+
+use crate::CommandOption;
+use part_layout::Config;
+
+// What one option was given.
+#[derive(Clone, Copy, Debug, PartialEq, Eq)]
+pub(crate) struct Entry {
+    // The number, or None where the option may not be given it.
+    pub(crate) number: Option<u64>,
+    // The place of the value's word.
+    pub(crate) place: usize,
+}
+
+// What each option was given, if it was.
+#[derive(Clone, Copy, Debug, PartialEq, Eq)]
+pub(crate) struct Given {
+    pub(crate) bits: Option<Entry>,
+    pub(crate) parts: Option<Entry>,
+    pub(crate) input: Option<Entry>,
+}
+
+impl Given {
+    // What is kept with one more option, or the place of its fault.
+    pub(crate) fn with(
+        self,
+        name: &[u8],
+        place: usize,
+        value: Option<&[u8]>,
+        value_place: usize,
+    ) -> Result<Given, usize>
+        ensures value { (before : List Written) → self ≡ kept before →
+            result ≡ kept_after before (setting name.now place (option_copied value.entry) value_place) }
+        ensures more { IfOk result (λ given. size given ≡ size self + 1) }
+        ensures few { IfOk result (λ given. size given ≤ 3) }
+    {
+        let Some(option) = CommandOption::named(name) else {
+            return Err(place);
+        };
+        if self.at(option).is_some() {
+            return Err(place);
+        }
+        let Some(value) = value else {
+            return Err(value_place);
+        };
+        if option.is_value(value) {
+            let number = option.number(value);
+            Ok(self.put(
+                option,
+                Entry {
+                    number,
+                    place: value_place,
+                },
+            ))
+        } else {
+            Err(value_place)
+        }
+    }
+
+    // What is kept of one option.
+    fn at(self, option: CommandOption) -> Option<Entry>
+        ensures { result ≡ entry_at option self }
+    {
+        match option {
+            CommandOption::Bits => self.bits,
+            CommandOption::Parts => self.parts,
+            CommandOption::Input => self.input,
+        }
+    }
+
+    // What is kept once an option is given.
+    fn put(self, option: CommandOption, entry: Entry) -> Given
+        ensures { result ≡ put option entry self }
+    {
+        let entry = Some(entry);
+        match option {
+            CommandOption::Bits => Given {
+                bits: entry,
+                ..self
+            },
+            CommandOption::Parts => Given {
+                parts: entry,
+                ..self
+            },
+            CommandOption::Input => Given {
+                input: entry,
+                ..self
+            },
+        }
+    }
+
+    // What the options ask for, where none has a fault of its own.
+    pub(crate) fn config(self) -> Result<Config, usize>
+        requires { AreEntries self }
+        ensures value { (settings : List Written) → self ≡ kept settings → result ≡ config_of settings }
+        ensures within { IfOk result (λ config. IsConfig config) }
+    {
+        let bits = number_or(self.bits, 64);
+        let parts = parts_or(bits, self.parts)?;
+        Ok(Config {
+            bits: bits as u32,
+            parts: parts as u32,
+            shards: 1,
+            room: 64,
+            entries: 1_048_576,
+            input: number_or(self.input, 4_294_967_296),
+        })
+    }
+}
+
+// The number of an entry, or else the option's default.
+fn number_or(entry: Option<Entry>, default: u64) -> u64
+    ensures { result ≡ entry_number_or default entry }
+{
+    match entry {
+        None => default,
+        Some(entry) => entry.number.unwrap_or(default),
+    }
+}
+
+// The parts of an entry, where so many bits can be laid in them, or else the place of their word. Without an entry they
+// are eight bits each.
+fn parts_or(bits: u64, entry: Option<Entry>) -> Result<u64, usize>
+    requires bits { IsNumberOf Bits bits }
+    requires parts { IsEntryOf Parts entry }
+    ensures value { result ≡ entry_parts_or bits entry }
+    ensures laid { IfOk result (λ parts. IsLaid bits parts) }
+{
+    let Some(entry) = entry else {
+        return Ok(bits / 8);
+    };
+    let Some(parts) = entry.number else {
+        return Err(entry.place);
+    };
+    if can_be_laid(bits, parts) {
+        Ok(parts)
+    } else {
+        Err(entry.place)
+    }
+}
+
+// Whether so many bits can be laid contiguously in so many parts: none is empty, and none has over 12 positions.
+fn can_be_laid(bits: u64, parts: u64) -> bool
+    requires bits { bits ≤ 256 }
+    requires some { 1 ≤ parts }
+    requires few { parts ≤ 64 }
+    ensures { result ≡ can_be_laid bits parts }
+{
+    parts <= bits && (bits + parts - 1) / parts <= 12
+}

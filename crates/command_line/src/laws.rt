@@ -1,0 +1,19 @@
+//! What the words ask for, said of the options and not of their places.
+
+ghost use Rattle.std.specs.Prelude.{◌≡◌, ◌≢◌, ℕ, List, [], ◌∷◌, ◌++◌, true, codes};
+ghost use Rattle.std.specs.Result.{result_ok};
+ghost use Rattle.command_line.specs.CommandWords.{Written, asked, asked_after, has_no_equals};
+
+/// The order of two options is free: where neighbours with different names change places, the same is asked for.
+pub fn options_in_any_order()
+    ensures { (before later : List Written) (one other : Written) → one.name ≢ other.name →
+        result_ok (asked_after before (one ∷ other ∷ later)) ≡
+        result_ok (asked_after before (other ∷ one ∷ later)) }
+{}
+
+/// An option asks the same as two words and as one: `--name=VALUE` is `--name VALUE`.
+pub fn options_in_either_form()
+    ensures { (name value : List ℕ) (words : List (List ℕ)) → has_no_equals name ≡ true →
+        result_ok (asked (codes "run" ∷ (name ++ 61 ∷ value) ∷ words)) ≡
+        result_ok (asked (codes "run" ∷ name ∷ value ∷ words)) }
+{}

@@ -1,0 +1,12 @@
+//! The words of the command line ask for a session, or have a first word at fault. Reading them gives what they ask, or the
+//! place of that word.
+#![tactic(auto)]
+
+mod command_option;
+mod command_words;
+mod given;
+mod laws;
+
+pub use command_option::CommandOption;
+pub use command_words::read_words;
+pub use laws::{options_in_any_order, options_in_either_form};

@@ -1,0 +1,290 @@
+//! Lines, and the ends that bytes come from and go to.
+
+use line_io::{
+    Cut, Cutter, Failed, FromReader, Gathered, GatheredReader, GatheredWriter, LineBuf, Sink,
+    Source, ToWriter,
+};
+use std::alloc::Global;
+use std::cell::RefCell;
+use std::io;
+use std::io::{Cursor, ErrorKind, Read, Write};
+use std::test::Fail;
+
+// Adds what was cut and a bar.
+fn note(cutter: &Cutter, cut: Cut, noted: &mut Vec<u8>) -> Result<(), Fail> {
+    match cut {
+        Cut::Line => noted.extend_from_slice(cutter.line())?,
+        Cut::Long => noted.extend_from_slice(b"(long)")?,
+    }
+    noted.push(b'|')?;
+    Ok(())
+}
+
+// Pushes a piece, and notes what it ends.
+fn push_all(cutter: &mut Cutter, piece: &[u8], noted: &mut Vec<u8>) -> Result<(), Fail> {
+    let mut rest = piece;
+    for _ in 0..piece.len() {
+        if rest.is_empty() {
+            break;
+        }
+        let (taken, cut) = cutter.push(rest);
+        rest = &rest[taken..];
+        if let Some(cut) = cut {
+            note(cutter, cut, noted)?;
+        }
+    }
+    Ok(())
+}
+
+// What a cutter cuts off these pieces, each with a bar behind it.
+fn cut_off(alloc: Global, pieces: &[&[u8]]) -> Result<Vec<u8>, Fail> {
+    let mut cutter = Cutter::new(alloc)?;
+    let mut noted = Vec::new(alloc);
+    for piece in pieces {
+        push_all(&mut cutter, piece, &mut noted)?;
+    }
+    if let Some(cut) = cutter.finish() {
+        note(&cutter, cut, &mut noted)?;
+    }
+    Ok(noted)
+}
+
+// A text, and its lines with a bar behind each.
+const TEXTS: [(&[u8], &[u8]); 4] = [
+    (b"ab\r\n\n\r\nc\r\r\nde", b"ab|||c\r|de|"),
+    (b"\n\r\r\n a\nb \n\r", b"|\r| a|b |\r|"),
+    (b"a\rb\n\nc\r\n", b"a\rb||c|"),
+    (b"", b""),
+];
+
+#[test]
+fn lines_are_the_same_however_their_text_is_cut(rt: HostRuntime) -> Result<(), Fail> {
+    for (text, lines) in TEXTS {
+        for second in 0..=text.len() {
+            for third in second..=text.len() {
+                let (begun, last) = text.split_at(third);
+                let (first, middle) = begun.split_at(second);
+                let noted = cut_off(rt.alloc(), &[first, middle, last])?;
+                assert_eq!(rt; noted.as_slice(), lines, "cut at {second} and {third}");
+            }
+        }
+    }
+    Ok(())
+}
+
+// How often a letter stands, what follows it, whether the first line is long, and what else is cut off.
+const LENGTHS: [(usize, &[u8], bool, &[u8]); 8] = [
+    (4096, b"\n", false, b""),
+    (4096, b"\r\n", false, b""),
+    (4096, b"", false, b""),
+    (4096, b"\r", true, b""),
+    (4096, b"\r\r\n", true, b""),
+    (4097, b"\nab\n", true, b"ab|"),
+    (4097, b"", true, b""),
+    (10_000, b"\r\nab", true, b"ab|"),
+];
+
+// Whether a cutter keeps the letters or not, and cuts off what else is wanted.
+fn is_cut(
+    alloc: Global,
+    letters: &[u8],
+    rest: &[u8],
+    is_long: bool,
+    after: &[u8],
+) -> Result<bool, Fail> {
+    let mut lines = if is_long {
+        b"(long)".to_vec(alloc)?
+    } else {
+        letters.to_vec(alloc)?
+    };
+    lines.push(b'|')?;
+    lines.extend_from_slice(after)?;
+    let noted = cut_off(alloc, &[letters, rest])?;
+    Ok(noted == lines)
+}
+
+#[test]
+fn a_line_of_4096_bytes_is_kept_and_a_longer_one_is_not(rt: HostRuntime) -> Result<(), Fail> {
+    for (count, rest, is_long, after) in LENGTHS {
+        let letters = Vec::from_elem(rt.alloc(), b'x', count)?;
+        let cut = is_cut(rt.alloc(), letters.as_slice(), rest, is_long, after)?;
+        assert!(rt; cut, "{count} letters, then {rest:?}");
+    }
+    Ok(())
+}
+
+// Numbers, and their digits.
+const NUMBERS: [(u64, &[u8]); 6] = [
+    (0, b"at 0."),
+    (9, b"at 9."),
+    (10, b"at 10."),
+    (4096, b"at 4096."),
+    (9_223_372_036_854_775_808, b"at 9223372036854775808."),
+    (u64::MAX, b"at 18446744073709551615."),
+];
+
+#[test]
+fn a_line_holds_text_and_numbers_until_it_is_cleared(rt: HostRuntime) -> Result<(), Fail> {
+    let mut line = LineBuf::new(rt.alloc())?;
+    assert_eq!(rt; line.bytes(), b"".as_slice());
+    for (number, text) in NUMBERS {
+        line.clear();
+        line.put(b"at ");
+        line.put_number(number);
+        line.put(b".");
+        assert_eq!(rt; line.bytes(), text, "{number}");
+    }
+    line.clear();
+    let most = Vec::from_elem(rt.alloc(), b'x', 4096)?;
+    line.put(most.as_slice());
+    assert!(rt; line.bytes() == most.as_slice());
+    line.clear();
+    assert_eq!(rt; line.bytes(), b"".as_slice());
+    Ok(())
+}
+
+// A reader and a writer whose every call fails.
+#[derive(Drop)]
+struct Broken;
+
+impl Read for Broken {
+    fn read(&mut self, _: &mut [u8]) -> io::Result<usize> {
+        Err(io::Error::from(ErrorKind::TimedOut))
+    }
+}
+
+impl Write for Broken {
+    fn write(&mut self, _: &[u8]) -> io::Result<usize> {
+        Err(io::Error::from(ErrorKind::TimedOut))
+    }
+
+    fn flush(&mut self) -> io::Result<()> {
+        Ok(())
+    }
+}
+
+#[test]
+fn a_reader_and_a_writer_of_std_are_ends(rt: HostRuntime) -> Result<(), Fail> {
+    let mut room = [0; 4];
+    let mut source = FromReader::new(Cursor::new(b"line\nab".as_slice()));
+    for piece in [b"line".as_slice(), b"\nab".as_slice(), b"".as_slice()] {
+        let count = source.read(&mut room).ok().expect(&rt, "a read failed");
+        assert_eq!(rt; &room[..count], piece);
+    }
+    assert_eq!(rt; FromReader::new(Broken).read(&mut room), Err(Failed));
+
+    let mut written = Vec::new(rt.alloc());
+    let mut sink = ToWriter::new(&mut written);
+    for piece in [b"done ".as_slice(), b"a 2\n".as_slice()] {
+        assert_eq!(rt; sink.write(piece), Ok(piece.len()));
+    }
+    assert_eq!(rt; written.as_slice(), b"done a 2\n".as_slice());
+    assert_eq!(rt; ToWriter::new(Broken).write(b"a"), Err(Failed));
+    Ok(())
+}
+
+// A writer into a cell, whose calls fail while it is broken.
+#[derive(Drop)]
+struct Shared<'a> {
+    cell: &'a RefCell<Vec<u8>>,
+    is_broken: bool,
+}
+
+impl<'a> Write for Shared<'a> {
+    fn write(&mut self, bytes: &[u8]) -> io::Result<usize> {
+        if self.is_broken {
+            return Err(io::Error::from(ErrorKind::TimedOut));
+        }
+        match self.cell.try_borrow_mut() {
+            Ok(mut written) => {
+                written.extend_from_slice(bytes)?;
+                Ok(bytes.len())
+            }
+            Err(_) => Err(io::Error::from(ErrorKind::TimedOut)),
+        }
+    }
+
+    fn flush(&mut self) -> io::Result<()> {
+        Ok(())
+    }
+}
+
+// A reader whose every read gives what a writer has so far.
+#[derive(Drop)]
+struct Looking<'a> {
+    cell: &'a RefCell<Vec<u8>>,
+}
+
+impl<'a> Read for Looking<'a> {
+    fn read(&mut self, room: &mut [u8]) -> io::Result<usize> {
+        match self.cell.try_borrow() {
+            Ok(written) => {
+                let count = written.len().min(room.len());
+                room[..count].copy_from_slice(&written[..count]);
+                Ok(count)
+            }
+            Err(_) => Err(io::Error::from(ErrorKind::TimedOut)),
+        }
+    }
+}
+
+// How many bytes a cell has.
+fn count_of(cell: &RefCell<Vec<u8>>) -> Option<usize> {
+    match cell.try_borrow() {
+        Ok(bytes) => Some(bytes.len()),
+        Err(_) => None,
+    }
+}
+
+#[test]
+fn what_is_gathered_is_given_out_before_the_next_read(rt: HostRuntime) -> Result<(), Fail> {
+    let cell = RefCell::new(Vec::new(rt.alloc()));
+    let writer = Shared {
+        cell: &cell,
+        is_broken: false,
+    };
+    let gathered = Gathered::new(rt.alloc(), writer)?;
+    let mut source = GatheredReader::new(Looking { cell: &cell }, &gathered);
+    let mut sink = GatheredWriter::new(&gathered);
+    let mut room = [0; 16];
+    assert_eq!(rt; source.read(&mut room), Ok(0));
+    for (piece, before, after) in [
+        (b"open a".as_slice(), 0, b"open a".as_slice()),
+        (b" at 4".as_slice(), 6, b"open a at 4".as_slice()),
+        (b"".as_slice(), 11, b"open a at 4".as_slice()),
+    ] {
+        assert_eq!(rt; sink.write(piece), Ok(piece.len()));
+        assert_eq!(rt; count_of(&cell), Some(before));
+        let count = source.read(&mut room).ok().expect(&rt, "a read failed");
+        assert_eq!(rt; &room[..count], after);
+    }
+    // A full buffer is given out for the next piece.
+    let most = Vec::from_elem(rt.alloc(), b'x', 4096)?;
+    assert_eq!(rt; sink.write(most.as_slice()), Ok(4096));
+    assert_eq!(rt; count_of(&cell), Some(11));
+    assert_eq!(rt; sink.write(b"y"), Ok(1));
+    assert_eq!(rt; count_of(&cell), Some(4107));
+    assert!(rt; gathered.give_out());
+    assert_eq!(rt; count_of(&cell), Some(4108));
+    Ok(())
+}
+
+#[test]
+fn a_failed_giving_out_fails_the_next_write_and_no_read(rt: HostRuntime) -> Result<(), Fail> {
+    let cell = RefCell::new(Vec::new(rt.alloc()));
+    let writer = Shared {
+        cell: &cell,
+        is_broken: true,
+    };
+    let gathered = Gathered::new(rt.alloc(), writer)?;
+    let mut source = GatheredReader::new(Looking { cell: &cell }, &gathered);
+    let mut sink = GatheredWriter::new(&gathered);
+    let mut room = [0; 16];
+    assert_eq!(rt; sink.write(b"open a"), Ok(6));
+    assert_eq!(rt; source.read(&mut room), Ok(0));
+    assert_eq!(rt; sink.write(b"more a"), Err(Failed));
+    assert_eq!(rt; source.read(&mut room), Ok(0));
+    assert_eq!(rt; sink.write(b"more a"), Err(Failed));
+    assert!(rt; !gathered.give_out());
+    Ok(())
+}

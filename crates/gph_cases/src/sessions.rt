@@ -1,0 +1,326 @@
+//! Sessions from their bytes to their replies.
+
+use crate::trial::run_over;
+use gph_session::Outcome;
+use std::test::Fail;
+
+// What a session is about, its words, its input and its output. Rows 1 to 4 of most are at 0, 4, 8 and 1 bits from 00.
+const SESSIONS: [(&str, &str, &[u8], &[u8]); 32] = [
+    ("an empty input gives nothing", "run --bits 8", b"", b""),
+    (
+        "a taken key",
+        "run --bits 8",
+        b"add 1 00\nadd 1 ff\n",
+        b"added 1 at 1\ntaken 1 at 1\n",
+    ),
+    (
+        "two hits in order of distance",
+        "run --bits 8",
+        b"add 1 00\nadd 2 0f\nadd 3 ff\nadd 4 01\nrange a 1 00\nnext a 10\n",
+        b"added 1 at 1\nadded 2 at 2\nadded 3 at 3\nadded 4 at 4\nopen a at 4\nhit a 0 1\n\
+          hit a 1 4\ndone a 2\n",
+    ),
+    (
+        "a tie goes by key",
+        "run --bits 8",
+        b"add 9 01\nadd 3 80\nadd 5 00\nrange t 1 00\nnext t 9\n",
+        b"added 9 at 1\nadded 3 at 2\nadded 5 at 3\nopen t at 3\nhit t 0 5\nhit t 1 3\nhit t 1 9\n\
+          done t 3\n",
+    ),
+    (
+        "a radius of none",
+        "run --bits 8",
+        b"add 1 00\nadd 2 0f\nadd 3 ff\nadd 4 01\nrange a 0 00\nnext a 5\n",
+        b"added 1 at 1\nadded 2 at 2\nadded 3 at 3\nadded 4 at 4\nopen a at 4\nhit a 0 1\ndone a 1\n",
+    ),
+    (
+        "a radius of all bits",
+        "run --bits 8",
+        b"add 1 00\nadd 2 0f\nadd 3 ff\nadd 4 01\nrange a 8 00\nnext a 9\n",
+        b"added 1 at 1\nadded 2 at 2\nadded 3 at 3\nadded 4 at 4\nopen a at 4\nhit a 0 1\n\
+          hit a 1 4\nhit a 4 2\nhit a 8 3\ndone a 4\n",
+    ),
+    (
+        "a query on no rows",
+        "run --bits 8",
+        b"range a 8 00\nnext a 1\n",
+        b"open a at 0\ndone a 0\n",
+    ),
+    (
+        "an answer in two goes gives no hit twice",
+        "run --bits 8",
+        b"add 1 00\nadd 2 0f\nadd 3 ff\nadd 4 01\nrange a 1 00\nnext a 1\nnext a 1\nnext a 1\n",
+        b"added 1 at 1\nadded 2 at 2\nadded 3 at 3\nadded 4 at 4\nopen a at 4\nhit a 0 1\nmore a\n\
+          hit a 1 4\ndone a 2\ndone a 2\n",
+    ),
+    (
+        "a go that ends with the last hit is done",
+        "run --bits 8",
+        b"add 1 00\nadd 2 0f\nadd 3 ff\nadd 4 01\nrange a 8 00\nnext a 3\nnext a 1\n",
+        b"added 1 at 1\nadded 2 at 2\nadded 3 at 3\nadded 4 at 4\nopen a at 4\nhit a 0 1\n\
+          hit a 1 4\nhit a 4 2\nmore a\nhit a 8 3\ndone a 4\n",
+    ),
+    (
+        "two queries by turns",
+        "run --bits 8",
+        b"add 1 00\nadd 2 0f\nadd 3 ff\nadd 4 01\nrange a 1 00\nrange b 0 ff\nnext a 1\nnext b 1\n\
+          next a 1\n",
+        b"added 1 at 1\nadded 2 at 2\nadded 3 at 3\nadded 4 at 4\nopen a at 4\nopen b at 4\n\
+          hit a 0 1\nmore a\nhit b 0 3\ndone b 1\nhit a 1 4\ndone a 2\n",
+    ),
+    (
+        "a seventeenth query, and a tag in use before it",
+        "run --bits 8",
+        b"range q1 0 00\nrange q1 0 00\nrange q2 0 00\nrange q3 0 00\nrange q4 0 00\nrange q5 0 00\n\
+          range q6 0 00\nrange q7 0 00\nrange q8 0 00\nrange q9 0 00\nrange q10 0 00\n\
+          range q11 0 00\nrange q12 0 00\nrange q13 0 00\nrange q14 0 00\nrange q15 0 00\n\
+          range q16 0 00\nrange q17 0 00\nrange q2 0 00\nnext q16 1\nnext q17 1\n",
+        b"open q1 at 0\nbad 7\nopen q2 at 0\nopen q3 at 0\nopen q4 at 0\nopen q5 at 0\n\
+          open q6 at 0\nopen q7 at 0\nopen q8 at 0\nopen q9 at 0\nopen q10 at 0\nopen q11 at 0\n\
+          open q12 at 0\nopen q13 at 0\nopen q14 at 0\nopen q15 at 0\nopen q16 at 0\nbad 9\nbad 7\n\
+          done q16 0\nbad 8\n",
+    ),
+    (
+        "an unknown tag",
+        "run --bits 8",
+        b"next b 1\nrange b 1 00\nnext b 1\nnext B 1\n",
+        b"bad 8\nopen b at 0\ndone b 0\nbad 8\n",
+    ),
+    (
+        "a range stands on the rows of its opening",
+        "run --bits 8",
+        b"add 1 00\nadd 2 0f\nadd 3 ff\nadd 4 01\nrange a 1 00\nadd 5 00\nnext a 9\nrange b 1 00\n\
+          next b 9\n",
+        b"added 1 at 1\nadded 2 at 2\nadded 3 at 3\nadded 4 at 4\nopen a at 4\nadded 5 at 5\n\
+          hit a 0 1\nhit a 1 4\ndone a 2\nopen b at 5\nhit b 0 1\nhit b 0 5\nhit b 1 4\ndone b 3\n",
+    ),
+    (
+        "what stands behind quit is not read as lines",
+        "run --bits 8",
+        b"add 1 00\nquit\nadd 2 00\njump\n",
+        b"added 1 at 1\n",
+    ),
+    (
+        "quit as a last line without an end",
+        "run --bits 8",
+        b"add 1 00\nquit",
+        b"added 1 at 1\n",
+    ),
+    (
+        "a last line without an end",
+        "run --bits 8",
+        b"add 1 00\nadd 2 00",
+        b"added 1 at 1\nadded 2 at 2\n",
+    ),
+    (
+        "a CR before the end of a line",
+        "run --bits 8",
+        b"add 1 00\r\n\r\nadd 2 00\r\n",
+        b"added 1 at 1\nadded 2 at 2\n",
+    ),
+    (
+        "a CR that ends no line",
+        "run --bits 8",
+        b"add 1 00\r\r\nadd \r2 00\nadd 3 00\r",
+        b"bad 3\nbad 3\nbad 3\n",
+    ),
+    (
+        "spaces and lines without a word",
+        "run --bits 8",
+        b"  add   1 00  \n\n   \nnext  a 1\n",
+        b"added 1 at 1\nbad 8\n",
+    ),
+    (
+        "a byte that is not printable",
+        "run --bits 8",
+        b"add\t1 00\njump\x7f\n\x1f\n\xc3\xa9\n~\n",
+        b"bad 3\nbad 3\nbad 3\nbad 3\nbad 3\n",
+    ),
+    (
+        "no request word",
+        "run --bits 8",
+        b"jump\njump 1 00\nAdd 1 00\nadd1 00\nADD 1 00\n",
+        b"bad 3\nbad 3\nbad 3\nbad 3\nbad 3\n",
+    ),
+    (
+        "another number of words",
+        "run --bits 8",
+        b"add\nadd 1\nadd x\nadd 1 00 00\nrange a 1\nrange a 1 00 00\nnext a\nnext a 1 1\nquit now\n",
+        b"bad 3\nbad 3\nbad 3\nbad 3\nbad 3\nbad 3\nbad 3\nbad 3\nbad 3\n",
+    ),
+    (
+        "a key that is none",
+        "run --bits 8",
+        b"add x 00\nadd -1 00\nadd 0x1 00\nadd x 0g\nadd 18446744073709551616 00\n\
+          add 000000000000000000001 00\n",
+        b"bad 3\nbad 3\nbad 3\nbad 3\nbad 3\nbad 3\n",
+    ),
+    (
+        "the greatest key, and one with zeros before it",
+        "run --bits 8",
+        b"add 18446744073709551615 00\nadd 00000000000000000001 00\nadd 1 00\n",
+        b"added 18446744073709551615 at 1\nadded 1 at 2\ntaken 1 at 2\n",
+    ),
+    (
+        "a code that is none",
+        "run --bits 8",
+        b"add 1 0\nadd 1 000\nadd 1 0g\nrange a 1 000\nrange a 1 0g\n",
+        b"bad 3\nbad 3\nbad 3\nbad 3\nbad 3\n",
+    ),
+    (
+        "a tag that is none",
+        "run --bits 8",
+        b"range a-b 9 0g\nrange abcdefghijklmnopq 1 00\nnext a-b 1\nnext abcdefghijklmnopq 0\n",
+        b"bad 3\nbad 3\nbad 3\nbad 3\n",
+    ),
+    (
+        "the longest tag, and a tag of digits",
+        "run --bits 8",
+        b"range abcdefghijklmnop 1 00\nnext abcdefghijklmnop 1\nrange 0 1 00\nnext 0 1\n",
+        b"open abcdefghijklmnop at 0\ndone abcdefghijklmnop 0\nopen 0 at 0\ndone 0 0\n",
+    ),
+    (
+        "a radius that is none",
+        "run --bits 8",
+        b"range a 9 00\nrange a 0001 00\nrange a x 0g\nrange a 008 00\n",
+        b"bad 3\nbad 3\nbad 3\nopen a at 0\n",
+    ),
+    (
+        "a count that is none",
+        "run --bits 8",
+        b"next a 0\nnext a 65537\nnext a 000001\nnext a x\nnext a 65536\nnext a 00001\n",
+        b"bad 3\nbad 3\nbad 3\nbad 3\nbad 8\nbad 8\n",
+    ),
+    (
+        "a tag stays in use after its answer",
+        "run --bits 8",
+        b"range a 1 00\nnext a 1\nrange a 1 00\nnext a 1\n",
+        b"open a at 0\ndone a 0\nbad 7\ndone a 0\n",
+    ),
+    (
+        "a fault of form comes before a tag in use",
+        "run --bits 8",
+        b"range a 1 00\nrange a 9 00\nrange a 1 00\n",
+        b"open a at 0\nbad 3\nbad 7\n",
+    ),
+    (
+        "codes of 64 bits in either case",
+        "run --bits 64",
+        b"add 101 ffd8c0a0804020ff\nadd 102 FFD8C0A0804021FF\nadd 103 00273f5f7fbfdf00\n\
+          range p 6 ffd8c0a0804020ff\nnext p 100\nrange n 64 FFD8C0a0804020ff\nnext n 100\n\
+          add 104 ffd8c0a0804020f\n",
+        b"added 101 at 1\nadded 102 at 2\nadded 103 at 3\nopen p at 3\nhit p 0 101\nhit p 1 102\n\
+          done p 2\nopen n at 3\nhit n 0 101\nhit n 1 102\nhit n 64 103\ndone n 3\nbad 3\n",
+    ),
+];
+
+#[test]
+fn each_session_has_its_replies_however_its_input_is_cut(rt: HostRuntime) -> Result<(), Fail> {
+    for (about, words, input, output) in SESSIONS {
+        for piece in [4096, 7, 1] {
+            assert!(rt; piece >= 1);
+            let trial = run_over(rt.alloc(), words, input, piece, &[], &[])?;
+            assert_eq!(rt; trial.outcome, Outcome::Done, "{about}, by {piece}");
+            assert_eq!(rt; trial.output.as_slice(), output, "{about}, by {piece}");
+        }
+    }
+    Ok(())
+}
+
+// A byte, how often it stands at the front of the input, what follows it, and the output.
+const LONG_LINES: [(u8, usize, &[u8], &[u8]); 13] = [
+    (b' ', 4096, b"\nadd 1 00\n", b"added 1 at 1\n"),
+    (b' ', 4096, b"\r\nadd 1 00\n", b"added 1 at 1\n"),
+    (b' ', 4096, b"\r\r\nadd 1 00\n", b"bad 3\nadded 1 at 1\n"),
+    (b' ', 4096, b"", b""),
+    (b' ', 4096, b"\r", b"bad 3\n"),
+    (b' ', 4097, b"\nadd 1 00\n", b"bad 3\nadded 1 at 1\n"),
+    (
+        b' ',
+        4087,
+        b" add 1 00\nnext a 1\n",
+        b"added 1 at 1\nbad 8\n",
+    ),
+    (b'x', 4096, b"\nadd 1 00\n", b"bad 3\nadded 1 at 1\n"),
+    (b'x', 4097, b"\nadd 1 00\n", b"bad 3\nadded 1 at 1\n"),
+    (b'x', 4097, b"", b"bad 3\n"),
+    (b'x', 12_289, b"\nadd 1 00\n", b"bad 3\nadded 1 at 1\n"),
+    (b'\t', 4096, b"\nadd 1 00\n", b"bad 3\nadded 1 at 1\n"),
+    (b'\t', 4097, b"\nadd 1 00\n", b"bad 3\nadded 1 at 1\n"),
+];
+
+#[test]
+fn a_line_over_4096_bytes_is_refused_and_the_next_is_read(rt: HostRuntime) -> Result<(), Fail> {
+    for (byte, count, rest, output) in LONG_LINES {
+        let mut input = Vec::from_elem(rt.alloc(), byte, count)?;
+        input.extend_from_slice(rest)?;
+        for piece in [4096, 7, 1] {
+            assert!(rt; piece >= 1);
+            let trial = run_over(
+                rt.alloc(),
+                "run --bits 8",
+                input.as_slice(),
+                piece,
+                &[],
+                &[],
+            )?;
+            assert_eq!(rt;
+                trial.outcome,
+                Outcome::Done,
+                "{count} of {byte}, by {piece}"
+            );
+            assert_eq!(rt;
+                trial.output.as_slice(),
+                output,
+                "{count} of {byte}, by {piece}"
+            );
+        }
+    }
+    Ok(())
+}
+
+// Words, and how a call with them ends.
+const WORDS: [(&str, Outcome); 25] = [
+    ("", Outcome::Usage { word: 1 }),
+    ("jump", Outcome::Usage { word: 1 }),
+    ("run", Outcome::Usage { word: 1 }),
+    ("Run --bits 8", Outcome::Usage { word: 1 }),
+    ("jump --bits 8", Outcome::Usage { word: 1 }),
+    ("run --bits", Outcome::Usage { word: 1 }),
+    ("run bits 8", Outcome::Usage { word: 1 }),
+    ("--bits 8 run", Outcome::Usage { word: 1 }),
+    ("run --bits 8 8", Outcome::Usage { word: 1 }),
+    ("run --bits x", Outcome::Usage { word: 1 }),
+    ("run --bits -8", Outcome::Usage { word: 1 }),
+    ("run --bits 0", Outcome::Usage { word: 1 }),
+    ("run --bits 4", Outcome::Usage { word: 1 }),
+    ("run --bits 12", Outcome::Usage { word: 1 }),
+    ("run --bits 72", Outcome::Usage { word: 1 }),
+    (
+        "run --bits 000000000000000000008",
+        Outcome::Usage { word: 1 },
+    ),
+    ("run --bits 00000000000000000008", Outcome::Done),
+    ("run --bits 8", Outcome::Done),
+    ("run --bits 16", Outcome::Done),
+    ("run --bits 24", Outcome::Done),
+    ("run --bits 32", Outcome::Done),
+    ("run --bits 40", Outcome::Done),
+    ("run --bits 48", Outcome::Done),
+    ("run --bits 56", Outcome::Done),
+    ("run --bits 64", Outcome::Done),
+];
+
+#[test]
+fn words_are_run_and_a_number_of_bits(rt: HostRuntime) -> Result<(), Fail> {
+    for (words, outcome) in WORDS {
+        let trial = run_over(rt.alloc(), words, b"jump\n", 4096, &[], &[])?;
+        assert_eq!(rt; trial.outcome, outcome, "{words}");
+        let output: &[u8] = match outcome {
+            Outcome::Done => b"bad 3\n",
+            _ => b"",
+        };
+        assert_eq!(rt; trial.output.as_slice(), output, "{words}");
+    }
+    Ok(())
+}

@@ -1,0 +1,7 @@
+use Rattle.std.proofs.Common.{◌≡◌, ◌++◌}
+use Rattle.part_layout.specs.Contiguous.{runs}
+use Rattle.part_layout.specs.Inside.{lists_of}
+use Rattle.part_layout.proofs.pieces.push_runs.Given as goal
+
+abbrev pub invariant-loop-i : goal.invariant-loop-i
+invariant-loop-i l = lists_of l.parts.items ≡ lists_of l.initial.parts.items ++ runs l.i l.width l.first
