@@ -26,12 +26,12 @@ pub enum Decision {
 /// of at most `limit`. That the key is taken or absent comes before that there is no room.
 pub fn decide<const W: usize>(op: &Op<W>, present: bool, entries: u64, limit: u64) -> Decision
     // The operation doesn't fit the rows.
-    ensures taken { (result ≡ Taken) ↔ ((is_add op.now ≡ true) × (present ≡ true)) }
-    ensures absent { (result ≡ Absent) ↔ ((is_add op.now ≡ false) × (present ≡ false)) }
+    ensures taken { (result ≡ Taken) ↔ (is_add op.now ≡ true × present ≡ true) }
+    ensures absent { (result ≡ Absent) ↔ (is_add op.now ≡ false × present ≡ false) }
     // It fits them.
-    ensures full { (result ≡ Full) ↔ (Fits op.now present × (limit ≤ entries)) }
-    ensures added { (result ≡ Added) ↔ ((is_add op.now ≡ true) × (present ≡ false) × (entries < limit)) }
-    ensures deleted { (result ≡ Deleted) ↔ ((is_add op.now ≡ false) × (present ≡ true) × (entries < limit)) }
+    ensures full { (result ≡ Full) ↔ (Fits op.now present × limit ≤ entries) }
+    ensures added { (result ≡ Added) ↔ (is_add op.now ≡ true × present ≡ false × entries < limit) }
+    ensures deleted { (result ≡ Deleted) ↔ (is_add op.now ≡ false × present ≡ true × entries < limit) }
     // The decision of the definitions, on rows that have the key where `present` says so.
     ensures defined { DecidesAs op.now present entries limit result }
 {
