@@ -29,7 +29,10 @@ const WORDS: [(&str, Outcome); 41] = [
     ("run --bits=264", Outcome::Usage { word: 2 }),
     ("run --bits 520", Outcome::Usage { word: 3 }),
     ("run --bits 00000000000000000008", Outcome::Done),
-    ("run --bits 000000000000000000008", Outcome::Usage { word: 3 }),
+    (
+        "run --bits 000000000000000000008",
+        Outcome::Usage { word: 3 },
+    ),
     ("run --bits 8 --parts", Outcome::Usage { word: 5 }),
     ("run --parts 0", Outcome::Usage { word: 3 }),
     ("run --bits 8 --parts 1", Outcome::Done),
@@ -41,7 +44,10 @@ const WORDS: [(&str, Outcome); 41] = [
     ("run --bits 256 --parts 64", Outcome::Done),
     ("run --parts=65 --bits 256", Outcome::Usage { word: 2 }),
     ("run --parts 9 --bits 8 --bits", Outcome::Usage { word: 6 }),
-    ("run --parts 99999999999999999999 --bits 12", Outcome::Usage { word: 5 }),
+    (
+        "run --parts 99999999999999999999 --bits 12",
+        Outcome::Usage { word: 5 },
+    ),
     ("run --parts x --bits 12", Outcome::Usage { word: 3 }),
     ("run --input 0", Outcome::Usage { word: 3 }),
     ("run --input 1", Outcome::InputLimit),
@@ -71,10 +77,7 @@ const LAYOUTS: [(&str, &[u8]); 5] = [
         b"layout 0 0,1,2,3,4,5,6,7/8,9,10,11,12,13,14,15/16,17,18,19,20,21,22,23\n",
     ),
     ("run --bits 8 --parts 8", b"layout 0 0/1/2/3/4/5/6/7\n"),
-    (
-        "run --parts=3 --bits=8",
-        b"layout 0 0,1,2/3,4,5/6,7\n",
-    ),
+    ("run --parts=3 --bits=8", b"layout 0 0,1,2/3,4,5/6,7\n"),
     (
         "run --bits 16 --parts 2",
         b"layout 0 0,1,2,3,4,5,6,7/8,9,10,11,12,13,14,15\n",
@@ -138,7 +141,11 @@ fn an_input_ends_at_its_limit(rt: HostRuntime) -> Result<(), Fail> {
             assert!(rt; piece >= 1);
             let trial = run_over(rt.alloc(), words, input, piece, &[], &[])?;
             assert_eq!(rt; trial.outcome, outcome, "{words}, {input:?}, by {piece}");
-            assert_eq!(rt; trial.output.as_slice(), output, "{words}, {input:?}, by {piece}");
+            assert_eq!(rt;
+                trial.output.as_slice(),
+                output,
+                "{words}, {input:?}, by {piece}"
+            );
         }
     }
     Ok(())
