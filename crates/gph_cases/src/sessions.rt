@@ -5,7 +5,7 @@ use gph_session::Outcome;
 use std::test::Fail;
 
 // What a session is about, its words, its input and its output. Rows 1 to 4 of most are at 0, 4, 8 and 1 bits from 00.
-const SESSIONS: [(&str, &str, &[u8], &[u8]); 37] = [
+const SESSIONS: [(&str, &str, &[u8], &[u8]); 38] = [
     ("an empty input gives nothing", "run --bits 8", b"", b""),
     (
         "a taken key",
@@ -228,6 +228,14 @@ const SESSIONS: [(&str, &str, &[u8], &[u8]); 37] = [
           next a 9\nrange b 128 FFFFFFFFFFFFFFFFFFFFFFFFFFFFFFFF\nnext b 9\n",
         b"added 1 at 1\nadded 2 at 2\nadded 3 at 3\nopen a at 3\nhit a 0 1\nhit a 2 2\ndone a 2\n\
           open b at 3\nhit b 0 3\nhit b 126 2\nhit b 128 1\ndone b 3\n",
+    ),
+    (
+        "codes of 136 bits",
+        "run --bits 136",
+        b"add 1 0000000000000000000000000000000000\nadd 2 8000000000000000000000000000000001\n\
+          range a 136 0000000000000000000000000000000000\nnext a 9\n\
+          range b 137 0000000000000000000000000000000000\n",
+        b"added 1 at 1\nadded 2 at 2\nopen a at 2\nhit a 0 1\nhit a 2 2\ndone a 2\nbad 5 3\n",
     ),
     (
         "codes of 256 bits",
