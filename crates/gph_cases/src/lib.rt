@@ -12,3 +12,5 @@ mod protocol;
 mod sessions;
 #[cfg(test)]
 mod trial;
+#[cfg(test)]
+mod words;

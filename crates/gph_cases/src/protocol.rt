@@ -1,22 +1,24 @@
 //! Lines as requests, and replies as lines.
 
 use line_io::LineBuf;
+use part_layout::LayoutText;
 use query_protocol::{Bad, Reply, Request, Tag, read_line, write_hit};
 use std::test::Fail;
 
-// What a line is read as: the request's word, tag, number and the first eight bits of its code.
+// What a line is read as: the request's word, tag, number and the first eight bits of its code; or its first fault.
 #[derive(Clone, Copy, Debug, PartialEq, Eq)]
 enum Read {
     Nothing,
     Add(u64, u64),
     Range(&'static [u8], u32, u64),
     Next(&'static [u8], u32),
+    Layout(u32),
     Quit,
-    Refused,
+    Fault(u8, u8),
 }
 
-// A line, and what it is read as where codes have 8 bits.
-const LINES: [(&[u8], Read); 44] = [
+// A line, and what it is read as where codes have 8 bits and there is one shard.
+const LINES: [(&[u8], Read); 52] = [
     (b"", Read::Nothing),
     (b"   ", Read::Nothing),
     (b"add 1 00", Read::Add(1, 0x00)),
@@ -33,37 +35,45 @@ const LINES: [(&[u8], Read); 44] = [
     (b"next a 1", Read::Next(b"a", 1)),
     (b"next 9 00002", Read::Next(b"9", 2)),
     (b"next a 65536", Read::Next(b"a", 65536)),
+    (b"layout 0", Read::Layout(0)),
+    (b" layout  00 ", Read::Layout(0)),
     (b"quit", Read::Quit),
     (b" quit ", Read::Quit),
-    (b"add\t1 00", Read::Refused),
-    (b"\x1f", Read::Refused),
-    (b"jump \x7f", Read::Refused),
-    (b"quit\r", Read::Refused),
-    (b"add 1 \xc3\xa9", Read::Refused),
-    (b"~", Read::Refused),
-    (b"jump", Read::Refused),
-    (b"QUIT", Read::Refused),
-    (b"quits", Read::Refused),
-    (b"1 add 00", Read::Refused),
-    (b"add", Read::Refused),
-    (b"add x", Read::Refused),
-    (b"add 1 00 00", Read::Refused),
-    (b"range a 1", Read::Refused),
-    (b"range a 1 00 00", Read::Refused),
-    (b"next a", Read::Refused),
-    (b"next a 1 1", Read::Refused),
-    (b"quit now", Read::Refused),
-    (b"add 18446744073709551616 00", Read::Refused),
-    (b"add 000000000000000000001 0g", Read::Refused),
-    (b"add 1 000", Read::Refused),
-    (b"add 1 0g", Read::Refused),
-    (b"range abcdefghijklmnopq 9 00", Read::Refused),
-    (b"range a_b 1 00", Read::Refused),
-    (b"range a 9 0g", Read::Refused),
-    (b"range a 0001 00", Read::Refused),
-    (b"range a 1 0", Read::Refused),
-    (b"next a 0", Read::Refused),
-    (b"next a 65537", Read::Refused),
+    (b"add\t1 00", Read::Fault(2, 0)),
+    (b"\x1f", Read::Fault(2, 0)),
+    (b"jump \x7f", Read::Fault(2, 0)),
+    (b"quit\r", Read::Fault(2, 0)),
+    (b"add 1 \xc3\xa9", Read::Fault(2, 0)),
+    (b"~", Read::Fault(3, 0)),
+    (b"jump", Read::Fault(3, 0)),
+    (b"QUIT", Read::Fault(3, 0)),
+    (b"quits", Read::Fault(3, 0)),
+    (b"1 add 00", Read::Fault(3, 0)),
+    (b"add", Read::Fault(4, 0)),
+    (b"add x", Read::Fault(4, 0)),
+    (b"add 1 00 00", Read::Fault(4, 0)),
+    (b"range a 1", Read::Fault(4, 0)),
+    (b"range a 1 00 00", Read::Fault(4, 0)),
+    (b"next a", Read::Fault(4, 0)),
+    (b"next a 1 1", Read::Fault(4, 0)),
+    (b"layout", Read::Fault(4, 0)),
+    (b"layout 1 x", Read::Fault(4, 0)),
+    (b"quit now", Read::Fault(4, 0)),
+    (b"add 18446744073709551616 00", Read::Fault(5, 2)),
+    (b"add 000000000000000000001 0g", Read::Fault(5, 2)),
+    (b"add 1 000", Read::Fault(5, 3)),
+    (b"add 1 0g", Read::Fault(5, 3)),
+    (b"range abcdefghijklmnopq 9 00", Read::Fault(5, 2)),
+    (b"range a_b 1 00", Read::Fault(5, 2)),
+    (b"range a 9 0g", Read::Fault(5, 3)),
+    (b"range a 0001 00", Read::Fault(5, 3)),
+    (b"range a 1 0", Read::Fault(5, 4)),
+    (b"next a 0", Read::Fault(5, 3)),
+    (b"next a 65537", Read::Fault(5, 3)),
+    (b"layout x", Read::Fault(5, 2)),
+    (b"layout 000", Read::Fault(5, 2)),
+    (b"layout 1", Read::Fault(6, 0)),
+    (b"layout 99", Read::Fault(6, 0)),
 ];
 
 // Whether a line was read as it has to be.
@@ -71,7 +81,7 @@ fn is_read(read: &Result<Option<Request<1>>, Bad>, wanted: Read) -> bool {
     match read {
         Ok(None) => wanted == Read::Nothing,
         Ok(Some(request)) => is_request(request, wanted),
-        Err(fault) => wanted == Read::Refused && *fault == Bad::line_too_long(),
+        Err(fault) => wanted == Read::Fault(fault.number, fault.word),
     }
 }
 
@@ -87,21 +97,25 @@ fn is_request(request: &Request<1>, wanted: Read) -> bool {
         (Request::Next { tag, count }, Read::Next(name, number)) => {
             tag.bytes() == name && *count == number
         }
+        (Request::Layout { shard }, Read::Layout(number)) => *shard == number,
         (Request::Quit, Read::Quit) => true,
         _ => false,
     }
 }
 
 #[test]
-fn a_line_is_a_request_or_nothing_or_refused(rt: HostRuntime) {
+fn a_line_is_a_request_or_has_its_first_fault(rt: HostRuntime) {
     for (line, wanted) in LINES {
         assert!(rt; line.len() <= 4096);
         assert!(rt;
-            is_read(&read_line::<1>(8, line), wanted),
+            is_read(&read_line::<1>(8, 1, line), wanted),
             "{line:?} is not {wanted:?}"
         );
     }
-    assert_eq!(rt; Bad::line_too_long(), Bad { number: 3, word: 0 });
+    assert_eq!(rt; Bad::line_too_long(), Bad { number: 1, word: 0 });
+    // The last shard of sixteen, and none.
+    assert!(rt; is_read(&read_line::<1>(8, 16, b"layout 15"), Read::Layout(15)));
+    assert!(rt; is_read(&read_line::<1>(8, 16, b"layout 16"), Read::Fault(6, 0)));
 }
 
 // Words, and whether they are tags.
@@ -144,18 +158,28 @@ fn a_tag_is_its_text(rt: HostRuntime) -> Result<(), Fail> {
 fn each_reply_is_its_line(rt: HostRuntime) -> Result<(), Fail> {
     let tag = Tag::of(b"q16").ok_or("no tag")?;
     let mut line = LineBuf::new(rt.alloc())?;
-    for (reply, text) in replies(tag) {
+    let rows = replies(tag);
+    for (reply, text) in rows.iter() {
         line.clear();
         reply.write(&mut line);
-        assert_eq!(rt; line.bytes(), text);
+        assert_eq!(rt; line.bytes(), *text);
     }
+    let mut bytes = [0u8; 2048];
+    bytes[..15].copy_from_slice(b"0,1,2/3,4,5/6,7");
+    let reply = Reply::Layout {
+        shard: 12,
+        text: LayoutText::new(bytes, 15),
+    };
+    line.clear();
+    reply.write(&mut line);
+    assert_eq!(rt; line.bytes(), b"layout 12 0,1,2/3,4,5/6,7\n".as_slice());
     line.clear();
     write_hit(&tag, 4, 2, &mut line);
     assert_eq!(rt; line.bytes(), b"hit q16 4 2\n".as_slice());
     Ok(())
 }
 
-// Each reply, and its line.
+// Each reply but that of a layout, and its line.
 fn replies(tag: Tag) -> [(Reply, &'static [u8]); 13] {
     [
         (Reply::Added { key: 1, at: 2 }, b"added 1 at 2\n"),

@@ -5,7 +5,7 @@ use gph_session::Outcome;
 use std::test::Fail;
 
 // What a session is about, its words, its input and its output. Rows 1 to 4 of most are at 0, 4, 8 and 1 bits from 00.
-const SESSIONS: [(&str, &str, &[u8], &[u8]); 32] = [
+const SESSIONS: [(&str, &str, &[u8], &[u8]); 38] = [
     ("an empty input gives nothing", "run --bits 8", b"", b""),
     (
         "a taken key",
@@ -122,7 +122,7 @@ const SESSIONS: [(&str, &str, &[u8], &[u8]); 32] = [
         "a CR that ends no line",
         "run --bits 8",
         b"add 1 00\r\r\nadd \r2 00\nadd 3 00\r",
-        b"bad 3\nbad 3\nbad 3\n",
+        b"bad 2\nbad 2\nbad 2\n",
     ),
     (
         "spaces and lines without a word",
@@ -134,7 +134,7 @@ const SESSIONS: [(&str, &str, &[u8], &[u8]); 32] = [
         "a byte that is not printable",
         "run --bits 8",
         b"add\t1 00\njump\x7f\n\x1f\n\xc3\xa9\n~\n",
-        b"bad 3\nbad 3\nbad 3\nbad 3\nbad 3\n",
+        b"bad 2\nbad 2\nbad 2\nbad 2\nbad 3\n",
     ),
     (
         "no request word",
@@ -146,14 +146,14 @@ const SESSIONS: [(&str, &str, &[u8], &[u8]); 32] = [
         "another number of words",
         "run --bits 8",
         b"add\nadd 1\nadd x\nadd 1 00 00\nrange a 1\nrange a 1 00 00\nnext a\nnext a 1 1\nquit now\n",
-        b"bad 3\nbad 3\nbad 3\nbad 3\nbad 3\nbad 3\nbad 3\nbad 3\nbad 3\n",
+        b"bad 4\nbad 4\nbad 4\nbad 4\nbad 4\nbad 4\nbad 4\nbad 4\nbad 4\n",
     ),
     (
         "a key that is none",
         "run --bits 8",
         b"add x 00\nadd -1 00\nadd 0x1 00\nadd x 0g\nadd 18446744073709551616 00\n\
           add 000000000000000000001 00\n",
-        b"bad 3\nbad 3\nbad 3\nbad 3\nbad 3\nbad 3\n",
+        b"bad 5 2\nbad 5 2\nbad 5 2\nbad 5 2\nbad 5 2\nbad 5 2\n",
     ),
     (
         "the greatest key, and one with zeros before it",
@@ -165,13 +165,13 @@ const SESSIONS: [(&str, &str, &[u8], &[u8]); 32] = [
         "a code that is none",
         "run --bits 8",
         b"add 1 0\nadd 1 000\nadd 1 0g\nrange a 1 000\nrange a 1 0g\n",
-        b"bad 3\nbad 3\nbad 3\nbad 3\nbad 3\n",
+        b"bad 5 3\nbad 5 3\nbad 5 3\nbad 5 4\nbad 5 4\n",
     ),
     (
         "a tag that is none",
         "run --bits 8",
         b"range a-b 9 0g\nrange abcdefghijklmnopq 1 00\nnext a-b 1\nnext abcdefghijklmnopq 0\n",
-        b"bad 3\nbad 3\nbad 3\nbad 3\n",
+        b"bad 5 2\nbad 5 2\nbad 5 2\nbad 5 2\n",
     ),
     (
         "the longest tag, and a tag of digits",
@@ -183,13 +183,13 @@ const SESSIONS: [(&str, &str, &[u8], &[u8]); 32] = [
         "a radius that is none",
         "run --bits 8",
         b"range a 9 00\nrange a 0001 00\nrange a x 0g\nrange a 008 00\n",
-        b"bad 3\nbad 3\nbad 3\nopen a at 0\n",
+        b"bad 5 3\nbad 5 3\nbad 5 3\nopen a at 0\n",
     ),
     (
         "a count that is none",
         "run --bits 8",
         b"next a 0\nnext a 65537\nnext a 000001\nnext a x\nnext a 65536\nnext a 00001\n",
-        b"bad 3\nbad 3\nbad 3\nbad 3\nbad 8\nbad 8\n",
+        b"bad 5 3\nbad 5 3\nbad 5 3\nbad 5 3\nbad 8\nbad 8\n",
     ),
     (
         "a tag stays in use after its answer",
@@ -201,16 +201,67 @@ const SESSIONS: [(&str, &str, &[u8], &[u8]); 32] = [
         "a fault of form comes before a tag in use",
         "run --bits 8",
         b"range a 1 00\nrange a 9 00\nrange a 1 00\n",
-        b"open a at 0\nbad 3\nbad 7\n",
+        b"open a at 0\nbad 5 3\nbad 7\n",
     ),
     (
-        "codes of 64 bits in either case",
-        "run --bits 64",
+        "codes of 64 bits in either case, which words without an option ask for",
+        "run",
         b"add 101 ffd8c0a0804020ff\nadd 102 FFD8C0A0804021FF\nadd 103 00273f5f7fbfdf00\n\
           range p 6 ffd8c0a0804020ff\nnext p 100\nrange n 64 FFD8C0a0804020ff\nnext n 100\n\
           add 104 ffd8c0a0804020f\n",
         b"added 101 at 1\nadded 102 at 2\nadded 103 at 3\nopen p at 3\nhit p 0 101\nhit p 1 102\n\
-          done p 2\nopen n at 3\nhit n 0 101\nhit n 1 102\nhit n 64 103\ndone n 3\nbad 3\n",
+          done p 2\nopen n at 3\nhit n 0 101\nhit n 1 102\nhit n 64 103\ndone n 3\nbad 5 3\n",
+    ),
+    (
+        "codes of 72 bits",
+        "run --bits 72",
+        b"add 1 000000000000000000\nadd 2 000000000000000001\nadd 3 ffffffffffffffffff\nadd 4 00000000000000000\n\
+          range a 72 000000000000000000\nnext a 9\nrange b 73 000000000000000000\n",
+        b"added 1 at 1\nadded 2 at 2\nadded 3 at 3\nbad 5 3\nopen a at 3\nhit a 0 1\nhit a 1 2\n\
+          hit a 72 3\ndone a 3\nbad 5 3\n",
+    ),
+    (
+        "codes of 128 bits",
+        "run --bits=128",
+        b"add 1 00000000000000000000000000000000\nadd 2 80000000000000000000000000000001\n\
+          add 3 ffffffffffffffffffffffffffffffff\nrange a 127 00000000000000000000000000000000\n\
+          next a 9\nrange b 128 FFFFFFFFFFFFFFFFFFFFFFFFFFFFFFFF\nnext b 9\n",
+        b"added 1 at 1\nadded 2 at 2\nadded 3 at 3\nopen a at 3\nhit a 0 1\nhit a 2 2\ndone a 2\n\
+          open b at 3\nhit b 0 3\nhit b 126 2\nhit b 128 1\ndone b 3\n",
+    ),
+    (
+        "codes of 136 bits",
+        "run --bits 136",
+        b"add 1 0000000000000000000000000000000000\nadd 2 8000000000000000000000000000000001\n\
+          range a 136 0000000000000000000000000000000000\nnext a 9\n\
+          range b 137 0000000000000000000000000000000000\n",
+        b"added 1 at 1\nadded 2 at 2\nopen a at 2\nhit a 0 1\nhit a 2 2\ndone a 2\nbad 5 3\n",
+    ),
+    (
+        "codes of 256 bits",
+        "run --bits 256",
+        b"add 1 0000000000000000000000000000000000000000000000000000000000000000\n\
+          add 2 8000000000000000000000000000000000000000000000000000000000000001\n\
+          add 3 ffffffffffffffffffffffffffffffffffffffffffffffffffffffffffffffff\n\
+          range a 256 0000000000000000000000000000000000000000000000000000000000000000\n\
+          next a 9\n\
+          range b 257 0000000000000000000000000000000000000000000000000000000000000000\n",
+        b"added 1 at 1\nadded 2 at 2\nadded 3 at 3\nopen a at 3\nhit a 0 1\nhit a 2 2\nhit a 256 3\n\
+          done a 3\nbad 5 3\n",
+    ),
+    (
+        "the layout of a shard that is none",
+        "run --bits 16 --parts 3",
+        b"layout 0\nlayout 1\nlayout 00\nlayout 99\nlayout 100\nlayout x\nlayout\nlayout 1 x\n",
+        b"layout 0 0,1,2,3,4,5/6,7,8,9,10/11,12,13,14,15\nbad 6\n\
+          layout 0 0,1,2,3,4,5/6,7,8,9,10/11,12,13,14,15\nbad 6\nbad 5 2\nbad 5 2\nbad 4\nbad 4\n",
+    ),
+    (
+        "of two faults of a line the first is told",
+        "run --bits 8",
+        b"jump 1\x7f\nlayout 1\x7f\njump 1 0g\nlayout x x\nadd x\nadd x 0g\nrange - 9 0\nrange a 9 0\n\
+          next - 0\nlayout 100\nlayout 1\n",
+        b"bad 2\nbad 2\nbad 3\nbad 4\nbad 4\nbad 5 2\nbad 5 2\nbad 5 3\nbad 5 2\nbad 5 2\nbad 6\n",
     ),
 ];
 
@@ -231,10 +282,10 @@ fn each_session_has_its_replies_however_its_input_is_cut(rt: HostRuntime) -> Res
 const LONG_LINES: [(u8, usize, &[u8], &[u8]); 13] = [
     (b' ', 4096, b"\nadd 1 00\n", b"added 1 at 1\n"),
     (b' ', 4096, b"\r\nadd 1 00\n", b"added 1 at 1\n"),
-    (b' ', 4096, b"\r\r\nadd 1 00\n", b"bad 3\nadded 1 at 1\n"),
+    (b' ', 4096, b"\r\r\nadd 1 00\n", b"bad 1\nadded 1 at 1\n"),
     (b' ', 4096, b"", b""),
-    (b' ', 4096, b"\r", b"bad 3\n"),
-    (b' ', 4097, b"\nadd 1 00\n", b"bad 3\nadded 1 at 1\n"),
+    (b' ', 4096, b"\r", b"bad 1\n"),
+    (b' ', 4097, b"\nadd 1 00\n", b"bad 1\nadded 1 at 1\n"),
     (
         b' ',
         4087,
@@ -242,11 +293,11 @@ const LONG_LINES: [(u8, usize, &[u8], &[u8]); 13] = [
         b"added 1 at 1\nbad 8\n",
     ),
     (b'x', 4096, b"\nadd 1 00\n", b"bad 3\nadded 1 at 1\n"),
-    (b'x', 4097, b"\nadd 1 00\n", b"bad 3\nadded 1 at 1\n"),
-    (b'x', 4097, b"", b"bad 3\n"),
-    (b'x', 12_289, b"\nadd 1 00\n", b"bad 3\nadded 1 at 1\n"),
-    (b'\t', 4096, b"\nadd 1 00\n", b"bad 3\nadded 1 at 1\n"),
-    (b'\t', 4097, b"\nadd 1 00\n", b"bad 3\nadded 1 at 1\n"),
+    (b'x', 4097, b"\nadd 1 00\n", b"bad 1\nadded 1 at 1\n"),
+    (b'x', 4097, b"", b"bad 1\n"),
+    (b'x', 12_289, b"\nadd 1 00\n", b"bad 1\nadded 1 at 1\n"),
+    (b'\t', 4096, b"\nadd 1 00\n", b"bad 2\nadded 1 at 1\n"),
+    (b'\t', 4097, b"\nadd 1 00\n", b"bad 1\nadded 1 at 1\n"),
 ];
 
 #[test]
@@ -275,52 +326,6 @@ fn a_line_over_4096_bytes_is_refused_and_the_next_is_read(rt: HostRuntime) -> Re
                 "{count} of {byte}, by {piece}"
             );
         }
-    }
-    Ok(())
-}
-
-// Words, and how a call with them ends.
-const WORDS: [(&str, Outcome); 25] = [
-    ("", Outcome::Usage { word: 1 }),
-    ("jump", Outcome::Usage { word: 1 }),
-    ("run", Outcome::Usage { word: 1 }),
-    ("Run --bits 8", Outcome::Usage { word: 1 }),
-    ("jump --bits 8", Outcome::Usage { word: 1 }),
-    ("run --bits", Outcome::Usage { word: 1 }),
-    ("run bits 8", Outcome::Usage { word: 1 }),
-    ("--bits 8 run", Outcome::Usage { word: 1 }),
-    ("run --bits 8 8", Outcome::Usage { word: 1 }),
-    ("run --bits x", Outcome::Usage { word: 1 }),
-    ("run --bits -8", Outcome::Usage { word: 1 }),
-    ("run --bits 0", Outcome::Usage { word: 1 }),
-    ("run --bits 4", Outcome::Usage { word: 1 }),
-    ("run --bits 12", Outcome::Usage { word: 1 }),
-    ("run --bits 72", Outcome::Usage { word: 1 }),
-    (
-        "run --bits 000000000000000000008",
-        Outcome::Usage { word: 1 },
-    ),
-    ("run --bits 00000000000000000008", Outcome::Done),
-    ("run --bits 8", Outcome::Done),
-    ("run --bits 16", Outcome::Done),
-    ("run --bits 24", Outcome::Done),
-    ("run --bits 32", Outcome::Done),
-    ("run --bits 40", Outcome::Done),
-    ("run --bits 48", Outcome::Done),
-    ("run --bits 56", Outcome::Done),
-    ("run --bits 64", Outcome::Done),
-];
-
-#[test]
-fn words_are_run_and_a_number_of_bits(rt: HostRuntime) -> Result<(), Fail> {
-    for (words, outcome) in WORDS {
-        let trial = run_over(rt.alloc(), words, b"jump\n", 4096, &[], &[])?;
-        assert_eq!(rt; trial.outcome, outcome, "{words}");
-        let output: &[u8] = match outcome {
-            Outcome::Done => b"bad 3\n",
-            _ => b"",
-        };
-        assert_eq!(rt; trial.output.as_slice(), output, "{words}");
     }
     Ok(())
 }
