@@ -1,0 +1,9 @@
+//! A source of hits is what it is asked, a list of hits in order, and where it stands: how many were given, which wait, what was read.
+//! A poll reads and moves hits into the room within a budget, and the hits given and waiting are always the first of that list.
+#![tactic(auto)]
+
+mod hit_source;
+mod polled;
+
+pub use hit_source::HitSource;
+pub use polled::Polled;
