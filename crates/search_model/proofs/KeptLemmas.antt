@@ -58,16 +58,18 @@ kept_nothing (u ∷ us) (d ∷ ds) part place =
 pub kept_once : (us ds : List ℕ) (part place amount : ℕ) → length us ≡ length ds → first_part us ds < length us → place ≡ part + first_part us ds → kept_amount us ds part place amount ≡ amount
 kept_once [] ds part place amount size within at = absurd (omega arith)
 kept_once (u ∷ us) [] part place amount size within at = absurd (omega arith)
-kept_once (u ∷ us) (d ∷ ds) part place amount size within at = go (nat_lt d u) within at
+kept_once (u ∷ us) (d ∷ ds) part place amount size within at =
+    go (λ less e. kept_once us ds (part + 1) place amount (omega arith) less e) (nat_lt d u) within at
   where
-    go : (found : Bool) → cond found 0 (first_part us ds + 1) < suc (length us) → place ≡ part + cond found 0 (first_part us ds + 1)
+    go : (first_part us ds < length us → place ≡ part + 1 + first_part us ds → kept_amount us ds (part + 1) place amount ≡ amount)
+        → (found : Bool) → cond found 0 (first_part us ds + 1) < suc (length us) → place ≡ part + cond found 0 (first_part us ds + 1)
         → cond found (cond (place == part) amount 0) 0 + kept_amount us ds (part + 1) place amount ≡ amount
-    go true less e =
+    go later true less e =
         let here : cond (place == part) amount 0 ≡ amount = rw (eq-eqb place part (omega arith)) refl in
         let rest = kept_before us ds (part + 1) place amount (omega arith) in
         omega arith
-    go false less e =
-        let rest = kept_once us ds (part + 1) place amount (omega arith) (omega arith) (omega arith) in
+    go later false less e =
+        let rest = later (omega arith) (omega arith) in
         omega arith
 
 -- the parts of a vector keep a code within tau once, and no other

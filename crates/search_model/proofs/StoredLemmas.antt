@@ -3,7 +3,7 @@ use Rattle.std.proofs.Common.{◌≡◌, ℕ, ◌-◌, ◌*◌, ◌<◌, ◌≤�
 use Rattle.std.specs.Prelude.{nat_le}
 use Rattle.std.specs.Int.Digits.{number_from_digits}
 use Rattle.std.specs.List.{flat_map, AllByRecursion}
-use Rattle.std.proofs.lemmas.List.{get_or_append_left, take-append-le, take-all}
+use Rattle.std.proofs.lemmas.List.{get_or_append_left, take-append-le, take_all}
 use Rattle.std.proofs.lemmas.List.Elements.{recursion_from_All}
 use Rattle.hamming_model.specs.declared.hit.Hit.{Hit}
 use Rattle.hamming_model.specs.Codes.{IsCode, StandsFor, distance, padded}
@@ -20,7 +20,7 @@ use Rattle.search_model.proofs.SameLemmas.{all_front, all_back}
 pub stored_taken : (words bits : ℕ) (stored code : List ℕ) → StandsFor words bits stored code → take bits stored ≡ code
 stored_taken words bits stored code stands =
     let size = stands.is_code.size in
-    ap (take bits) stands.is_padded ∙ take-append-le bits code (replicate (64 * words - length code) 0) (omega arith) ∙ take-all bits code (omega arith)
+    ap (take bits) stands.is_padded ∙ take-append-le bits code (replicate (64 * words - length code) 0) (omega arith) ∙ take_all bits code (omega arith)
 
 bits_alike : (words bits : ℕ) (stored code part : List ℕ) → StandsFor words bits stored code → AllByRecursion (λ position. position < bits) part → bits_at stored part ≡ bits_at code part
 bits_alike words bits stored code [] stands all = refl
