@@ -1,25 +1,24 @@
 -- Each near row is kept exactly once: by the parts, at the first that finds it, and so by all rows.
-use Rattle.std.proofs.Common.{◌≡◌, ℕ, zero, suc, ◌+◌, ◌<◌, ◌≤◌, ◌==◌, nat_lt, Bool, true, false, cond, ℤ, List, [], ◌∷◌, ◌++◌, length, map, filter, get_or, sum_by, refl, sym, ap, ◌∙◌, arith, eq-eqb}
+use Rattle.std.proofs.Common.{◌≡◌, ℕ, suc, ◌+◌, ◌<◌, ◌==◌, nat_lt, Bool, true, false, cond, ℤ, List, [], ◌∷◌, length, map, filter, get_or, sum_by, refl, sym, ap, ◌∙◌, arith, eq-eqb}
 use Rattle.std.specs.Prelude.{nat_le}
 use Rattle.std.specs.List.{AllByRecursion}
 use Rattle.std.proofs.lemmas.Bool.{ne_eqb, leb-true}
 use Rattle.std.proofs.lemmas.List.{length-map}
-use Rattle.std.proofs.lemmas.List.Sums.{sum_by-cons, sum_by-append}
+use Rattle.std.proofs.lemmas.List.Sums.{sum_by-append}
 use Rattle.hamming_model.specs.declared.hit.Hit.{Hit}
 use Rattle.hamming_model.specs.Codes.{IsCode, distance}
-use Rattle.hamming_model.specs.Layouts.{IsLayout, part_distance, part_count}
+use Rattle.hamming_model.specs.Layouts.{IsLayout, part_distance}
 use Rattle.hamming_model.specs.Scan.{hit_of, hits_within, in_order, scan}
 use Rattle.hamming_model.specs.Order.{is_same_hit}
 use Rattle.hamming_model.specs.Stored.{AreCodeRows}
 use Rattle.hamming_model.proofs.OrderLemmas.{same_in_order}
-use Rattle.threshold_model.specs.Vectors.{IsVector, units_of, cost_from, cost, row_counts}
+use Rattle.threshold_model.specs.Vectors.{IsVector, units_of}
 use Rattle.threshold_model.specs.Finding.{part_distances, first_part, threshold_at}
 use Rattle.threshold_model.proofs.FindingLemmas.{near_code_found}
 use Rattle.ball_walk.proofs.SumLemmas.{sum_same, sum_plus, sum_filter}
-use Rattle.search_model.specs.Reading.{HasSame, IsReading, rows_found, number_read}
+use Rattle.search_model.specs.Reading.{HasSame, IsReading, rows_found}
 use Rattle.search_model.specs.Keeping.{is_kept, hits_kept, hits_of_parts}
 use Rattle.search_model.proofs.SameLemmas.{sum_map, sum_none, sum_agrees, both_let}
-use Rattle.search_model.proofs.PostingLemmas.{number_found}
 
 -- what the parts from one on keep of a row: its amount at its place, where the part there finds the row
 abbrev pub kept_amount : List ℕ → List ℕ → ℕ → ℕ → ℕ → ℕ
@@ -102,7 +101,6 @@ abbrev pub place_of : List (List ℕ) → List ℤ → List ℕ → ℕ × List 
 place_of layout thresholds query row = first_part (map units_of thresholds) (part_distances layout row.1 query)
 
 module _ (layout : List (List ℕ)) (thresholds : List ℤ) (query : List ℕ) (tau : ℕ) where
-
   sum_of_part : (f : Hit → ℕ) (part : ℕ) (rows : List (ℕ × List ℕ))
       → sum_by f (hits_kept layout thresholds query tau part rows) ≡ sum_by (λ row. cond (place_of layout thresholds query row == part) (worth f query tau row) 0) rows
   sum_of_part f part rows =

@@ -1,9 +1,9 @@
 -- The postings of a ball are the rows that a part finds.
-use Rattle.std.proofs.Common.{◌≡◌, ◌≢◌, ℕ, zero, suc, ◌+◌, ◌^◌, ◌<◌, ◌==◌, nat_lt, Bool, true, false, cond, ℤ, List, [], ◌∷◌, length, map, filter, get_or, sum_by, count_by, refl, sym, ap, ◌∙◌, arith, eq-eqb}
-use Rattle.std.specs.List.{flat_map, range_with_len, AllByRecursion}
+use Rattle.std.proofs.Common.{◌≡◌, ◌≢◌, ℕ, zero, suc, ◌+◌, ◌^◌, ◌<◌, ◌==◌, nat_lt, Bool, true, false, cond, ℤ, List, [], ◌∷◌, length, filter, get_or, sum_by, refl, sym, ap, ◌∙◌, arith, eq-eqb}
+use Rattle.std.specs.List.{range_with_len, AllByRecursion}
 use Rattle.std.proofs.lemmas.Bool.{ne_eqb}
 use Rattle.std.proofs.lemmas.List.{length-map}
-use Rattle.std.proofs.lemmas.List.Sums.{sum_by-cons, length-filter}
+use Rattle.std.proofs.lemmas.List.Sums.{length-filter}
 use Rattle.std.proofs.lemmas.List.Elements.{recursion_from_All, All-weaker}
 use Rattle.hamming_model.specs.Codes.{IsCode}
 use Rattle.hamming_model.specs.Layouts.{bits_at, part_value, part_distance, part_count}
@@ -14,7 +14,7 @@ use Rattle.ball_walk.specs.Balls.{values, ball, is_near, values_near}
 use Rattle.ball_walk.proofs.BallLemmas.{ball_sum, near_below}
 use Rattle.ball_walk.proofs.DigitLemmas.{distance_codes, number_below}
 use Rattle.ball_walk.proofs.SumLemmas.{sum_same, sum_plus, sum_filter, sum_zeros, sum_one}
-use Rattle.search_model.specs.Reading.{HasSame, AreLists, IsReading, rows_found, rows_with, rows_read, parts_read}
+use Rattle.search_model.specs.Reading.{HasSame, AreLists, rows_found, rows_with, rows_read, parts_read}
 use Rattle.search_model.proofs.SameLemmas.{sum_flat_map, sum_agrees, sum_kept, same_length}
 
 zero_either : (keep : Bool) → cond {A = ℕ} keep 0 0 ≡ 0

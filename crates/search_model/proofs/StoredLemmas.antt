@@ -1,14 +1,15 @@
 -- Codes that are kept with zeros after them are, to the parts of a layout, the codes.
-use Rattle.std.proofs.Common.{◌≡◌, ℕ, ◌-◌, ◌*◌, ◌<◌, ◌≤◌, ◌==◌, ◌&&◌, ℤ, List, [], ◌∷◌, ◌++◌, length, map, replicate, take, get_or, All, refl, sym, ap, ◌∙◌, arith}
+use Rattle.std.proofs.Common.{◌≡◌, ℕ, ◌-◌, ◌*◌, ◌<◌, ◌==◌, ◌&&◌, ℤ, List, [], ◌∷◌, length, map, replicate, take, get_or, All, refl, sym, ap, ◌∙◌, arith}
 use Rattle.std.specs.Prelude.{nat_le}
 use Rattle.std.specs.Int.Digits.{number_from_digits}
 use Rattle.std.specs.List.{flat_map, AllByRecursion}
 use Rattle.std.proofs.lemmas.List.{get_or_append_left, take-append-le, take_all}
 use Rattle.std.proofs.lemmas.List.Elements.{recursion_from_All}
 use Rattle.hamming_model.specs.declared.hit.Hit.{Hit}
-use Rattle.hamming_model.specs.Codes.{IsCode, StandsFor, distance, padded}
+use Rattle.hamming_model.specs.Codes.{StandsFor, distance, padded}
 use Rattle.hamming_model.specs.Layouts.{IsLayout, bits_at, part_value, part_distance}
 use Rattle.hamming_model.specs.Scan.{hit_of}
+use Rattle.hamming_model.specs.Stored.{stored_rows, AreCodeRows}
 use Rattle.hamming_model.proofs.RowLemmas.{distance_of_padded}
 use Rattle.threshold_model.specs.Vectors.{units_of}
 use Rattle.threshold_model.specs.Finding.{part_distances, first_part}
@@ -21,6 +22,14 @@ pub stored_taken : (words bits : ℕ) (stored code : List ℕ) → StandsFor wor
 stored_taken words bits stored code stands =
     let size = stands.is_code.size in
     ap (take bits) stands.is_padded ∙ take-append-le bits code (replicate (64 * words - length code) 0) (omega arith) ∙ take_all bits code (omega arith)
+
+-- stored rows without their zeros are the rows
+pub stored_rows_taken : (bits positions : ℕ) (rows : List (ℕ × List ℕ)) → AreCodeRows bits rows → map (unpadded bits) (stored_rows positions rows) ≡ rows
+stored_rows_taken bits positions [] codes = refl
+stored_rows_taken bits positions (row ∷ rows) codes =
+    let size = codes.0.size in
+    let taken = take-append-le bits row.1 (replicate (positions - length row.1) 0) (omega arith) ∙ take_all bits row.1 (omega arith) in
+    ap (λ code. (row.0, code) ∷ map (unpadded bits) (stored_rows positions rows)) taken ∙ ap (λ others. row ∷ others) (stored_rows_taken bits positions rows codes.1)
 
 bits_alike : (words bits : ℕ) (stored code part : List ℕ) → StandsFor words bits stored code → AllByRecursion (λ position. position < bits) part → bits_at stored part ≡ bits_at code part
 bits_alike words bits stored code [] stands all = refl
@@ -67,7 +76,6 @@ stored_distance words bits stored other code query stands stands_other =
     ∙ distance_of_padded (64 * words) code query (stands.is_code.size ∙ sym stands_other.is_code.size)
 
 module _ (words bits : ℕ) (row : ℕ × List ℕ) (other code query : List ℕ) (stands : StandsFor words bits row.1 code) (stands_other : StandsFor words bits other query) where
-
   near_alike : distance row.1 other ≡ distance (take bits row.1) query
   near_alike = stored_distance words bits row.1 other code query stands stands_other ∙ ap (λ one. distance one query) (sym (stored_taken words bits row.1 code stands))
 

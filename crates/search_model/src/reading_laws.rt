@@ -24,6 +24,6 @@ pub fn lists_read_by_parts()
         (query : List ℕ) (lists : ℕ → ℕ → List (ℕ × List ℕ)) →
         AreCodeRows bits rows → IsCode bits query → length thresholds ≡ length layout →
         ((part : ℕ) → part < length layout →
-            AreLists rows (slice_index_or layout part []) (lists part)) →
+        AreLists rows (slice_index_or layout part []) (lists part)) →
         IsReading rows layout thresholds query (parts_read lists 0 layout thresholds query) }
 {}

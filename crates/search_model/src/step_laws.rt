@@ -12,7 +12,7 @@ pub fn a_row_is_read()
         (found : List Hit) → is_kept layout thresholds query tau part row ≡ true →
         found ++ hits_of_parts layout thresholds query tau part ((row ∷ rest) ∷ read)
         ≡ (found ++ hit_of query row ∷ [])
-            ++ hits_of_parts layout thresholds query tau part (rest ∷ read) }
+        ++ hits_of_parts layout thresholds query tau part (rest ∷ read) }
     ensures passed { (layout : List (List ℕ)) (thresholds : List ℤ) (query : List ℕ) (tau part : ℕ)
         (row : ℕ × List ℕ) (rest : List (ℕ × List ℕ)) (read : List (List (ℕ × List ℕ))) →
         is_kept layout thresholds query tau part row ≡ false →
@@ -25,7 +25,7 @@ pub fn a_row_is_read()
         (rows_before : List (ℕ × List ℕ)) (row : ℕ × List ℕ) →
         hits_kept layout thresholds query tau part (rows_before ++ row ∷ [])
         ≡ hits_kept layout thresholds query tau part rows_before
-            ++ (if is_kept layout thresholds query tau part row then hit_of query row ∷ [] else []) }
+        ++ (if is_kept layout thresholds query tau part row then hit_of query row ∷ [] else []) }
 {}
 
 /// Law: a part with no row left is done with, and rows that are joined are read one list after the other.
@@ -39,5 +39,5 @@ pub fn a_part_is_read_to_its_end()
         (xs ys : List (ℕ × List ℕ)) →
         hits_kept layout thresholds query tau part (xs ++ ys)
         ≡ hits_kept layout thresholds query tau part xs
-            ++ hits_kept layout thresholds query tau part ys }
+        ++ hits_kept layout thresholds query tau part ys }
 {}

@@ -1,7 +1,8 @@
-ghost use Rattle.std.specs.Prelude.{◌≡◌, ◌<◌, ℕ, ℤ, List, take, All};
+ghost use Rattle.std.specs.Prelude.{◌≡◌, ◌<◌, ℕ, ℤ, List, map, take, All};
 ghost use Rattle.hamming_model.specs.Codes.{StandsFor};
 ghost use Rattle.hamming_model.specs.Layouts.{IsLayout, part_value, part_distance};
 ghost use Rattle.hamming_model.specs.Scan.{hit_of};
+ghost use Rattle.hamming_model.specs.Stored.{stored_rows, AreCodeRows};
 ghost use Rattle.threshold_model.specs.Finding.{part_distances};
 ghost use Rattle.search_model.specs.Reading.{unpadded};
 ghost use Rattle.search_model.specs.Keeping.{is_kept};
@@ -11,6 +12,8 @@ ghost use Rattle.search_model.specs.Keeping.{is_kept};
 pub fn stored_rows_search_alike()
     ensures taken { (words bits : ℕ) (stored code : List ℕ) →
         StandsFor words bits stored code → take bits stored ≡ code }
+    ensures rows { (bits positions : ℕ) (rows : List (ℕ × List ℕ)) → AreCodeRows bits rows →
+        map (unpadded bits) (stored_rows positions rows) ≡ rows }
     ensures values { (words bits : ℕ) (stored code part : List ℕ) → StandsFor words bits stored code →
         All (λ position. position < bits) part → part_value stored part ≡ part_value code part }
     ensures apart { (words bits : ℕ) (stored other code query part : List ℕ) →

@@ -1,5 +1,5 @@
 -- The lemmas on postings.
-use Rattle.search_model.specs.Reading.{rows_found, rows_read}
+use Rattle.search_model.specs.Reading.{rows_read}
 use Rattle.search_model.proofs.PostingLemmas.{ball_reads, number_found}
 use Rattle.search_model.proofs.reading_laws.balls_read_the_rows_found.Goals as goal
 
