@@ -2,6 +2,8 @@
 //! The tables agree with the one set of rows, and an entry changes all of them together.
 #![tactic(auto)]
 
+mod laws;
 mod version;
 
+pub use laws::counts_are_of_the_rows;
 pub use version::Version;

@@ -4,10 +4,13 @@ ghost use Rattle.std.specs.Prelude.{◌≡◌, ◌*◌, ◌<◌, ◌≤◌, ℕ,
 ghost use Rattle.std.specs.Arc.{arc_value};
 ghost use Rattle.hamming_model.specs.History.{code_at};
 ghost use Rattle.entry_log.specs.Meaning.{MeansEntry};
+ghost use Rattle.shard_version.specs.Tables.{ArePostings, HasTables, counts_of, table_at};
 ghost use Rattle.shard_version.specs.Contents.{IsVersion, FitsShard, after_entry, empty_of, entry_of};
 
+use count_table::Counts;
 use entry_log::Entry;
 use part_layout::Layout;
+use posting_table::Postings;
 use read_meter::NoMemory;
 use std::alloc::Global;
 use std::marker::Model;
@@ -39,7 +42,7 @@ impl<const W: usize> Model for Version<W> {
 
     ghost coded = { contents_code };
 
-    ghost view = { λ kept. record { shard = kept.shard; shards = kept.shards; at = kept.at; layout = arc_value kept.layout; rows = [] } };
+    ghost view = { λ kept. record { shard = kept.shard; shards = kept.shards; at = kept.at; layout = arc_value kept.layout; rows = []; tables = [] } };
 
 }
 
@@ -128,9 +131,28 @@ impl<const W: usize> Version<W> {
         match self.never {}
     }
 
-    /// The layout.
+    /// The layout, for whose parts there are tables.
     pub fn layout(&self) -> &Arc<Layout>
-        ensures { arc_value result.now ≡ self.now.layout }
+        ensures layout { arc_value result.now ≡ self.now.layout }
+        ensures version { IsVersion self.now }
+        ensures tables { HasTables W self.now }
+    {
+        match self.never {}
+    }
+
+    /// The posting lists of a part: each row once, in the list of its code's value at the part.
+    pub fn postings(&self, part: u32) -> &Postings<W>
+        requires { part < length self.now.layout.parts }
+        ensures table { result.now ≡ table_at self.now part }
+        ensures postings { ArePostings W self.now part result.now }
+    {
+        match self.never {}
+    }
+
+    /// How many rows have each value of a part.
+    pub fn counts(&self, part: u32) -> &Counts
+        requires { part < length self.now.layout.parts }
+        ensures { result.now ≡ counts_of self.now part }
     {
         match self.never {}
     }

@@ -1,0 +1,4 @@
+pub mod ChoiceLemmas
+pub mod KeepLemmas
+pub mod PlanLemmas
+pub mod TableLemmas
