@@ -1,5 +1,5 @@
 -- A walk over the posting lists of a plan, part by part, each by the values of its ball: where it stands, and what it still has to read.
-use Rattle.std.specs.Prelude.{◌≡◌, ℕ, ◌+◌, ◌^◌, ◌<◌, ◌≤◌, ℤ, List, [], ◌∷◌, ◌++◌, length, take, drop, All}
+use Rattle.std.specs.Prelude.{◌≡◌, ℕ, ◌+◌, ◌^◌, ◌<◌, ◌≤◌, ℤ, List, [], ◌∷◌, ◌++◌, length, take, drop, sum_by, All}
 use Rattle.std.specs.List.{flat_map}
 use Rattle.hamming_model.specs.declared.hit.Hit.{Hit}
 use Rattle.hamming_model.specs.Layouts.{part_value}
@@ -65,14 +65,30 @@ values_left p w = length w.ball + values_of (drop (w.part + 1) (parts_of p)) (dr
 
 -- a place at a part of the plan, in the posting list of a value there
 pub record IsPlace (p : Planned) (w : Place) : Type 0 where
+  pub few_parts : length (parts_of p) ≤ 64
+  pub thresholds : length p.thresholds ≡ length (parts_of p)
   pub part : w.part < length (parts_of p)
   pub ball : All (λ value. value < 2 ^ length (part_of p w.part)) w.ball
   pub value : w.value < 2 ^ length (part_of p w.part)
   pub next : w.next ≤ w.size
   pub size : w.size ≤ length (list_of p w.part w.value)
 
--- nothing that is left has changed: the hits to be kept, the rows to be read, and the values
-pub record KeepsLeft (p : Planned) (old new : Place) : Type 0 where
-  pub hits : hits_left p old ≡ hits_left p new
-  pub reads : reads_left p old ≡ reads_left p new
-  pub values : values_left p old ≡ values_left p new
+-- the next value of a ball was taken, and what is left to read is as before
+pub record BeginsValue (p : Planned) (old new : Place) : Type 0 where
+  pub place : IsPlace p new
+  pub hits : hits_left p new ≡ hits_left p old
+  pub reads : reads_left p new ≡ reads_left p old
+  pub values : values_left p old ≡ values_left p new + 1
+
+-- a part with nothing left was passed, and what is left to read is as before
+pub record PassesPart (p : Planned) (old new : Place) : Type 0 where
+  pub place : IsPlace p new
+  pub next_part : new.part ≡ old.part + 1
+  pub at_start : new.next ≡ new.size
+  pub hits : hits_left p new ≡ hits_left p old
+  pub reads : reads_left p new ≡ reads_left p old
+  pub values : values_left p new ≡ values_left p old
+
+-- the values of all parts of a layout
+abbrev pub all_values : List (List ℕ) → ℕ
+all_values parts = sum_by (λ part. 2 ^ length part) parts

@@ -123,6 +123,7 @@ impl<const W: usize> Plan<W> {
         requires { part < length (parts_of self.now) }
         ensures values { result ≡ ball_of self.now part }
         ensures in_width { All (λ value. value < 2 ^ length (part_of self.now part)) result }
+        ensures plan { IsPlan W self.now }
     {
         Ball::new(
             self.values[part],
