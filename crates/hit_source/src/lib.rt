@@ -3,7 +3,9 @@
 #![tactic(auto)]
 
 mod hit_source;
+mod hit_window;
 mod polled;
 
 pub use hit_source::HitSource;
+pub use hit_window::HitWindow;
 pub use polled::Polled;
