@@ -4,8 +4,10 @@
 
 mod hit_source;
 mod hit_window;
+mod listed_hits;
 mod polled;
 
 pub use hit_source::HitSource;
 pub use hit_window::HitWindow;
+pub use listed_hits::ListedHits;
 pub use polled::Polled;
