@@ -5,3 +5,4 @@ pub mod Work
 pub mod Listed
 pub mod WindowLaws
 pub mod ListedLaw
+pub mod Drains
