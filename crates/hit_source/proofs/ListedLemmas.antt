@@ -24,3 +24,7 @@ listed_pops w reads is = record {
   begun = refl;
   units = refl;
 }
+
+-- the same hits and room ask the same
+pub asked_alike : (hits others : List Hit) (room space : ℕ) → hits ≡ others → room ≡ space → asked_of_list hits room ≡ asked_of_list others space
+asked_alike hits others room space same as_wide = ap (λ xs. asked_of_list xs room) same ∙ ap (λ n. asked_of_list others n) as_wide

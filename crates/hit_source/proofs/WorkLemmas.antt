@@ -51,10 +51,9 @@ moved_on a s answers (inr full) = go s.ended refl
     go false e = let f : Moved ≡ Full = answers.full.1 (e, full) in cc
 
 -- a poll is at most a budget of units of work, and stops before the budget is spent only where none can be done
-pub polls_by_work : (budget count : ℕ) (a : Asked) (old new : Standing) (from to : ℕ) (result : Polled) → 1 ≤ budget → old.waiting ≡ [] → Works count old new from to → count ≤ budget → (count ≡ budget) ⊎ IsStopped a new → PollAnswers a new result → Polls budget a old new from to result
-polls_by_work budget count a old new from to result some none works within stops answers =
+pub polls_by_work : (budget count : ℕ) (a b : Asked) (old new : Standing) (from to : ℕ) (result : Polled) → 1 ≤ budget → old.waiting ≡ [] → b ≡ a → Works count old new from to → count ≤ budget → (count ≡ budget) ⊎ IsStopped b new → PollAnswers b new result → Polls budget a old new from to result
+polls_by_work budget count a b old new from to result some none same works within stops answers =
     let empty : length old.waiting ≡ 0 = ap length none in
-    let whole : result ≡ Moved → new.units + budget ≤ old.units = λ moved. by_stop stops moved in
     record {
       given = works.given;
       floor = works.floor;
@@ -63,14 +62,14 @@ polls_by_work budget count a old new from to result some none works within stops
       spent = omega (arith, works.spent, empty, within);
       begun = inl works.begun;
       stays_ended = works.stays_ended;
-      answers = answers;
+      answers = subst (λ x. PollAnswers x new result) same answers;
       spends = record {
         units = omega (arith, works.units);
-        moved = λ moved. omega (arith, whole moved, some);
-        whole = λ moved waiting floor. whole moved;
+        moved = λ moved. omega (arith, by_stop stops moved, some);
+        whole = λ moved waiting floor. by_stop stops moved;
       };
     }
   where
-    by_stop : (count ≡ budget) ⊎ IsStopped a new → result ≡ Moved → new.units + budget ≤ old.units
+    by_stop : (count ≡ budget) ⊎ IsStopped b new → result ≡ Moved → new.units + budget ≤ old.units
     by_stop (inl all) moved = omega (arith, works.units, all)
-    by_stop (inr stopped) moved = absurd (moved_on a new (subst (λ r. PollAnswers a new r) moved answers) stopped)
+    by_stop (inr stopped) moved = absurd (moved_on b new (subst (λ r. PollAnswers b new r) moved answers) stopped)
