@@ -1,11 +1,11 @@
 -- Taking hits one after the other takes the next hits of the list.
-use Rattle.std.proofs.Common.{◌≡◌, ℕ, ◌+◌, ◌-◌, ◌≤◌, ◌<◌, List, [], ◌∷◌, ◌++◌, length, take, drop, refl, sym, ap, subst, ◌∙◌, arith, append_assoc, Bool, true, false, zero, suc, Option, Some, None}
-use Rattle.std.proofs.lemmas.List.{append-nil, length-drop, drop-drop, take_rest}
+use Rattle.std.proofs.Common.{◌≡◌, ℕ, ◌+◌, ◌-◌, ◌≤◌, ◌<◌, List, [], ◌∷◌, ◌++◌, length, take, drop, refl, sym, ap, subst, ◌∙◌, arith, append_assoc, true, Option, Some}
+use Rattle.std.proofs.lemmas.List.{append-nil, drop-drop, take_rest}
 use Rattle.std.proofs.Math.Seq.{take-add}
 use Rattle.hamming_model.specs.declared.hit.Hit.{Hit}
 use Rattle.hit_source.specs.declared.polled.Polled.{Polled}
 use Rattle.hit_source.specs.declared.polled.Polled.TheVariants.{Moved, Full, Ended}
-use Rattle.hit_source.specs.Sources.{Asked, Standing, IsLawful, reached}
+use Rattle.hit_source.specs.Sources.{Asked, Standing, IsLawful}
 use Rattle.hit_source.specs.Moves.{Polls, Pops, first_of}
 use Rattle.hit_source.specs.Drains.{Takes, Drains, OnlyGives}
 

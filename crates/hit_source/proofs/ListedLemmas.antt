@@ -1,16 +1,12 @@
 -- What a unit of work and a pop do to a source that reads a fixed list of hits.
-use Rattle.std.proofs.Common.{◌≡◌, ℕ, ◌+◌, ◌-◌, ◌≤◌, ◌<◌, List, [], ◌∷◌, length, take, drop, refl, sym, ap, subst, ◌∙◌, arith, Bool, true, false, zero, suc, Option, Some, None}
-use Rattle.std.specs.Prelude.{◌↔◌, ◌==◌, ◌⊎◌}
-use Rattle.std.proofs.lemmas.Bool.{eqb-true, eq-eqb}
-use Rattle.std.proofs.lemmas.List.{length-drop, drop-drop}
+use Rattle.std.proofs.Common.{◌≡◌, ℕ, List, length, take, refl, ap, subst, ◌∙◌}
+use Rattle.std.proofs.lemmas.List.{drop-drop}
 use Rattle.hamming_model.specs.declared.hit.Hit.{Hit}
-use Rattle.hamming_model.proofs.OrderLemmas.{Ascends, ascends_from_sorted}
-use Rattle.hit_source.specs.Sources.{Asked, Standing, IsLawful, IsFloor, IsEnd, reached}
+use Rattle.hamming_model.proofs.OrderLemmas.{ascends_from_sorted}
 use Rattle.hit_source.specs.Moves.{NotBelow, Pops, first_of}
-use Rattle.hit_source.specs.Windows.{Window, IsWindow, left_of, waiting_of, first_distance, with_moved, with_given}
-use Rattle.hit_source.specs.Work.{Works, IsStopped, window_standing}
+use Rattle.hit_source.specs.Windows.{Window, left_of, waiting_of, first_distance, with_given}
 use Rattle.hit_source.specs.Listed.{asked_of_list, standing_of_list, IsListed}
-use Rattle.hit_source.specs.WindowLaws.{none_nearer, ascends_drop, floor_rises, not_below_itself, none_where_empty, empty_where_none, floor_of_head, waits, window_prefix, rest_waits}
+use Rattle.hit_source.specs.WindowLaws.{ascends_drop, floor_rises, rest_waits}
 
 -- taking the first hit that waits
 pub listed_pops : (w : Window) (reads : ℕ) → IsListed w reads → Pops (standing_of_list w reads) (standing_of_list (with_given w) reads) (first_of (waiting_of w))

@@ -1,10 +1,10 @@
 -- Units of work one after the other, and what a poll made of them does.
-use Rattle.std.proofs.Common.{◌≡◌, ℕ, ◌+◌, ◌-◌, ◌≤◌, ◌<◌, List, [], ◌∷◌, length, refl, sym, ap, subst, ◌∙◌, arith, Bool, true, false, zero, suc, Option, Some, None, inl, inr}
+use Rattle.std.proofs.Common.{◌≡◌, ℕ, ◌+◌, ◌≤◌, [], length, refl, ap, subst, ◌∙◌, arith, Bool, true, false, Option, Some, None, inl, inr}
 use Rattle.std.specs.Prelude.{◌⊎◌}
 use Rattle.hit_source.specs.declared.polled.Polled.{Polled}
 use Rattle.hit_source.specs.declared.polled.Polled.TheVariants.{Moved, Full, Ended}
 use Rattle.hit_source.specs.Sources.{Asked, Standing}
-use Rattle.hit_source.specs.Moves.{NotBelow, BeginsWithin, PollAnswers, PollSpends, Polls}
+use Rattle.hit_source.specs.Moves.{NotBelow, PollAnswers, Polls}
 use Rattle.hit_source.specs.Work.{Works, IsStopped}
 use Rattle.hit_source.specs.WindowLaws.{not_below_itself}
 

@@ -1,5 +1,5 @@
 -- A source whose hits are a fixed list: each hit costs a read and a move.
-use Rattle.std.specs.Prelude.{◌≡◌, ℕ, ◌+◌, ◌-◌, ◌*◌, ◌≤◌, ◌==◌, false, List, [], length, Option, None}
+use Rattle.std.specs.Prelude.{ℕ, ◌+◌, ◌-◌, ◌*◌, ◌≤◌, ◌==◌, false, List, [], length, None}
 use Rattle.std.specs.List.Sorted.{IsSorted}
 use Rattle.hamming_model.specs.declared.hit.Hit.{Hit}
 use Rattle.hamming_model.specs.Scan.{hit_cmp}

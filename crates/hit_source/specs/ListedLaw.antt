@@ -1,16 +1,14 @@
 -- A source that reads a fixed list of hits is lawful at every moment.
-use Rattle.std.proofs.Common.{◌≡◌, ℕ, ◌+◌, ◌-◌, ◌≤◌, ◌<◌, List, [], ◌∷◌, length, take, drop, refl, sym, ap, subst, ◌∙◌, arith, Bool, true, false, zero, suc, Option, Some, None}
-use Rattle.std.specs.Prelude.{◌↔◌, ◌==◌, ◌⊎◌}
+use Rattle.std.proofs.Common.{◌≡◌, ℕ, ◌+◌, ◌-◌, length, refl, arith, Bool, true, None}
+use Rattle.std.specs.Prelude.{◌==◌}
 use Rattle.std.proofs.lemmas.Bool.{eqb-true, eq-eqb}
-use Rattle.std.proofs.lemmas.List.{length-drop, drop-drop}
-use Rattle.hamming_model.specs.declared.hit.Hit.{Hit}
+use Rattle.std.proofs.lemmas.List.{length-drop}
 use Rattle.hamming_model.proofs.OrderLemmas.{Ascends, ascends_from_sorted}
-use Rattle.hit_source.specs.Sources.{Asked, Standing, IsLawful, IsFloor, IsEnd, reached}
-use Rattle.hit_source.specs.Moves.{NotBelow, Pops, first_of}
-use Rattle.hit_source.specs.Windows.{Window, IsWindow, left_of, waiting_of, first_distance, with_moved, with_given}
-use Rattle.hit_source.specs.Work.{Works, IsStopped, window_standing}
+use Rattle.hit_source.specs.Sources.{Asked, IsLawful, IsFloor, reached}
+use Rattle.hit_source.specs.Windows.{Window, IsWindow, left_of, first_distance}
+use Rattle.hit_source.specs.Work.{window_standing}
 use Rattle.hit_source.specs.Listed.{asked_of_list, standing_of_list, IsListed}
-use Rattle.hit_source.specs.WindowLaws.{none_nearer, ascends_drop, floor_rises, not_below_itself, none_where_empty, empty_where_none, floor_of_head, waits, window_prefix, rest_waits}
+use Rattle.hit_source.specs.WindowLaws.{none_nearer, ascends_drop, none_where_empty, empty_where_none, floor_of_head, waits, window_prefix}
 
 -- the hits given or waiting are those moved
 pub window_reached : (w : Window) (reads : ℕ) (ended : Bool) (units : ℕ) → IsWindow w → reached (window_standing w reads ended units) ≡ w.moved

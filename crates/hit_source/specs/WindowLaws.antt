@@ -1,8 +1,7 @@
 -- A window over hits in order: what waits is the next of the hits, and its floor is that of what wasn't given.
-use Rattle.std.proofs.Common.{◌≡◌, ℕ, ◌+◌, ◌-◌, ◌≤◌, ◌<◌, List, [], ◌∷◌, length, take, drop, refl, sym, ap, subst, ◌∙◌, arith, add-one, true, false, zero, suc, Option, Some, None}
-use Rattle.std.specs.Prelude.{All, IfSome, ◌↔◌}
+use Rattle.std.proofs.Common.{◌≡◌, ℕ, ◌+◌, ◌-◌, ◌≤◌, ◌<◌, List, [], ◌∷◌, length, take, drop, refl, sym, ap, ◌∙◌, arith, false, zero, suc, Option, Some, None}
+use Rattle.std.specs.Prelude.{All, IfSome}
 use Rattle.std.specs.List.{AllByRecursion}
-use Rattle.std.specs.List.Sorted.{IsSorted}
 use Rattle.std.specs.declared.cmp.Ordering.{Ordering}
 use Rattle.std.specs.declared.cmp.Ordering.TheVariants.{Less, Equal, Greater}
 use Rattle.std.specs.Ordering.{nat_cmp, ordering_then, is_gt, MatchOrdering}
@@ -11,8 +10,8 @@ use Rattle.std.proofs.lemmas.List.{length-take-le, length-drop, drop-drop}
 use Rattle.std.proofs.lemmas.List.Elements.{All-from_recursion}
 use Rattle.hamming_model.specs.declared.hit.Hit.{Hit}
 use Rattle.hamming_model.specs.Scan.{hit_cmp}
-use Rattle.hamming_model.proofs.OrderLemmas.{IsFirst, Ascends, ascends_from_sorted}
-use Rattle.hit_source.specs.Moves.{NotBelow, first_of}
+use Rattle.hamming_model.proofs.OrderLemmas.{IsFirst, Ascends}
+use Rattle.hit_source.specs.Moves.{NotBelow}
 use Rattle.hit_source.specs.Windows.{Window, IsWindow, left_of, waiting_of, first_distance, with_given}
 
 by_rank : (o p : Ordering) (x y : ℕ) → MatchOrdering o (x < y) (x ≡ y) (y < x) → is_gt (ordering_then o p) ≡ false → x ≤ y

@@ -1,8 +1,7 @@
 -- How a source gets on by units of work, and a source that reads a window's hits.
-use Rattle.std.specs.Prelude.{◌≡◌, ℕ, ◌+◌, ◌-◌, ◌*◌, ◌<◌, ◌≤◌, ◌==◌, ◌⊎◌, Bool, true, false, List, [], length, Option, None}
-use Rattle.hamming_model.specs.declared.hit.Hit.{Hit}
+use Rattle.std.specs.Prelude.{◌≡◌, ℕ, ◌+◌, ◌≤◌, ◌⊎◌, Bool, true, length, None}
 use Rattle.hit_source.specs.Sources.{Asked, Standing}
-use Rattle.hit_source.specs.Moves.{NotBelow, BeginsWithin}
+use Rattle.hit_source.specs.Moves.{NotBelow}
 use Rattle.hit_source.specs.Windows.{Window, left_of, waiting_of, first_distance}
 
 -- what so many units of work do to where a source stands, with the ledger before and after them

@@ -41,8 +41,12 @@ pub fn drain<H: HitSource, L>(
     }
 }
 
-// Takes the hits that wait.
-fn take_waiting<H: HitSource>(source: &mut H, out: &mut Vec<Hit>) -> Result<(), NoMemory>
+/// Takes the hits that wait, and pushes them behind those in `out`, in order.
+///
+/// # Errors
+///
+/// `NoMemory` where there is no memory for one hit more in `out`: that hit still waits.
+pub fn take_waiting<H: HitSource>(source: &mut H, out: &mut Vec<Hit>) -> Result<(), NoMemory>
     ensures empties { OnOk result ((H.standing source.new).waiting ≡ []) }
     ensures takes { Takes
         (H.asked source.old) (H.standing source.old) (H.standing source.new) out.old.items out.new.items }

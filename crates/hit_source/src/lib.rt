@@ -8,7 +8,7 @@ mod hit_window;
 mod listed_hits;
 mod polled;
 
-pub use draining::drain;
+pub use draining::{drain, take_waiting};
 pub use hit_source::HitSource;
 pub use hit_window::HitWindow;
 pub use listed_hits::ListedHits;
