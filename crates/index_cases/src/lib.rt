@@ -19,4 +19,6 @@ mod postings;
 #[cfg(test)]
 mod scan;
 #[cfg(test)]
+mod sources;
+#[cfg(test)]
 mod thresholds;

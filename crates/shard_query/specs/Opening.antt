@@ -1,0 +1,47 @@
+-- What a range query on a version asks, and where it stands when it is opened.
+use Rattle.std.specs.Prelude.{◌≡◌, ℕ, ◌+◌, ◌*◌, ◌≤◌, true, false, List, [], length, take, Option, Some, None, sum_by}
+use Rattle.std.specs.Prelude.{◌^◌}
+use Rattle.hamming_model.specs.Codes.{StandsFor}
+use Rattle.hamming_model.specs.Scan.{scan}
+use Rattle.threshold_model.specs.Vectors.{IsChoice, IsLeast, row_counts}
+use Rattle.shard_version.specs.Contents.{Contents}
+use Rattle.hit_source.specs.Sources.{Asked, Standing}
+
+-- the code that the words of a query keep
+abbrev pub code_of : Contents → List ℕ → List ℕ
+code_of version stored = take version.layout.bits stored
+
+-- the counts of a version's rows at the parts of its layout round a query
+abbrev pub counts_of : Contents → List ℕ → ℕ → ℕ → ℕ
+counts_of version query = row_counts version.rows version.layout.parts query
+
+-- a range query's hits are the scan of the version's rows; its one radius has the first of the cheapest vectors as its plan and
+-- the least cost as its bound
+pub record AsksRange (version : Contents) (query : List ℕ) (tau room : ℕ) (a : Asked) : Type 0 where
+  pub hits : a.hits ≡ scan version.rows query tau
+  pub rows : a.rows ≡ length version.rows
+  pub near : a.near ≡ false
+  pub room_is : a.room ≡ room
+  pub farthest : a.farthest ≡ version.layout.bits
+  pub vector : (given : Option ℕ) → IsChoice (counts_of version query) tau (length version.layout.parts) (a.plan given).0
+  pub cost : (given : Option ℕ) → IsLeast (counts_of version query) tau (length version.layout.parts) (a.plan given).1
+  pub bound : (given : Option ℕ) → IsLeast (counts_of version query) tau (length version.layout.parts) (a.bound given)
+
+-- the values of all parts of a layout
+abbrev pub values_of_parts : List (List ℕ) → ℕ
+values_of_parts parts = sum_by (λ part. 2 ^ length part) parts
+
+-- a range query that has read and given nothing: its units are at most the values of all parts, twice its bound and one
+pub record BeginsRange (version : Contents) (a : Asked) (s : Standing) : Type 0 where
+  pub given : s.given ≡ 0
+  pub waiting : s.waiting ≡ []
+  pub reads : s.reads ≡ 0
+  pub begun : s.begun ≡ None
+  pub units : s.units ≤ values_of_parts version.layout.parts + 2 * a.bound None + 1
+
+-- STUB
+abbrev pub nothing_asked : Asked
+nothing_asked = record { hits = []; rows = 0; near = false; room = 1; farthest = 0; plan = λ given. ([], 0); bound = λ given. 0 }
+
+abbrev pub nowhere : Standing
+nowhere = record { given = 0; waiting = []; floor = None; reads = 0; ended = true; begun = None; units = 0 }

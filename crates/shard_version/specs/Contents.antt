@@ -1,0 +1,69 @@
+-- What a contract sees of a version: its shard, how much of the history it has taken in, its layout and its rows.
+use Rattle.std.specs.Prelude.{◌≡◌, ℕ, ◌+◌, ◌%◌, ◌==◌, ◌<◌, ◌≤◌, if◌then◌else◌, List, [], length, take, refl}
+use Rattle.std.specs.Coded.{Coded, code_by, coded×, coded_list, coded_ℕ}
+use Rattle.std.specs.List.{AllByRecursion}
+use Rattle.std.specs.List.Sorted.{IsStrictlySortedBy}
+use Rattle.std.specs.Map.{keys_of}
+use Rattle.std.specs.Ordering.{nat_cmp}
+use Rattle.hamming_model.specs.History.{Operation, JournalEntry, Fits, changed}
+use Rattle.hamming_model.specs.History as journal
+use Rattle.hamming_model.specs.Stored.{AreCodeRows}
+use Rattle.entry_log.specs.Meaning.{key_of}
+use Rattle.entry_log.specs.declared.entry.Entry.{Entry}
+use Rattle.entry_log.specs.declared.op.Op.{Op}
+use Rattle.entry_log.specs.declared.op.Op.TheVariants.{Add, Delete}
+use Rattle.part_layout.specs.Laid.{Laid, IsLaid, laid_code}
+
+-- the shard of so many, the number of entries taken in, the layout, and the rows: key and code, ascending by key
+pub record Contents : Type 0 where
+  pub shard : ℕ
+  pub shards : ℕ
+  pub at : ℕ
+  pub layout : Laid
+  pub rows : List (ℕ × List ℕ)
+
+-- the contents as a tuple
+abbrev pub contents_code : Coded Contents
+contents_code =
+    code_by (ℕ × (ℕ × (ℕ × (Laid × List (ℕ × List ℕ)))))
+    (coded× coded_ℕ (coded× coded_ℕ (coded× coded_ℕ (coded× laid_code (coded_list (coded× coded_ℕ (coded_list coded_ℕ)))))))
+    (λ c. (c.shard, (c.shards, (c.at, (c.layout, c.rows)))))
+    (λ t. record { shard = t.0; shards = t.1.0; at = t.1.1.0; layout = t.1.1.1.0; rows = t.1.1.1.1 })
+    (λ _. refl)
+
+-- no entry taken in, and no row
+abbrev pub empty_of : ℕ → ℕ → Laid → Contents
+empty_of shard shards layout = record { shard = shard; shards = shards; at = 0; layout = layout; rows = [] }
+
+-- the operation of an entry in the definitions' words: its code is the first so many bits that the words keep
+abbrev pub operation_of : {W : ℕ} → ℕ → Op W → Operation
+operation_of bits (Add key stored) = journal.Add key (take bits stored)
+operation_of bits (Delete key) = journal.Delete key
+
+-- an entry in the definitions' words
+abbrev pub entry_of : {W : ℕ} → ℕ → Entry W → JournalEntry
+entry_of bits entry = record { who = entry.who; operation = operation_of bits entry.op }
+
+-- a shard's rows after an operation, which changes those of its own shard alone
+abbrev pub changed_in : ℕ → ℕ → List (ℕ × List ℕ) → Operation → List (ℕ × List ℕ)
+changed_in shard shards rows operation = if key_of operation % shards == shard then changed rows operation else rows
+
+-- a version after one more entry
+abbrev pub after_entry : Contents → JournalEntry → Contents
+after_entry version entry =
+    record version { at = version.at + 1; rows = changed_in version.shard version.shards version.rows entry.operation }
+
+-- an operation of the version's own shard fits its rows: an added key is absent, a deleted one present
+abbrev pub FitsShard : Contents → Operation → Type 0
+FitsShard version operation = key_of operation % version.shards ≡ version.shard → Fits version.rows operation
+
+-- what is true of every version
+pub record IsVersion (version : Contents) : Type 0 where
+  pub laid : IsLaid version.layout
+  pub own_shard : version.shard < version.shards
+  pub few_shards : version.shards ≤ 16
+  pub codes : AreCodeRows version.layout.bits version.rows
+  pub ascending : IsStrictlySortedBy nat_cmp (keys_of version.rows)
+  pub own_keys : AllByRecursion (λ row. row.0 % version.shards ≡ version.shard) version.rows
+  pub from_entries : length version.rows ≤ version.at
+  pub few_entries : version.at ≤ 1048576

@@ -1,0 +1,7 @@
+//! A version is a shard's rows after the first entries of a history, with a posting table and counts for each part of its layout.
+//! The tables agree with the one set of rows, and an entry changes all of them together.
+#![tactic(auto)]
+
+mod version;
+
+pub use version::Version;
