@@ -5,9 +5,12 @@ ghost use Rattle.std.specs.Arc.{arc_value};
 ghost use Rattle.hamming_model.specs.History.{code_at};
 ghost use Rattle.entry_log.specs.Meaning.{MeansEntry};
 ghost use Rattle.shard_version.specs.Contents.{IsVersion, FitsShard, after_entry, empty_of, entry_of};
+ghost use Rattle.shard_version.specs.Tables.{ArePostings, counts_of};
 
+use count_table::Counts;
 use entry_log::Entry;
 use part_layout::Layout;
+use posting_table::Postings;
 use read_meter::NoMemory;
 use std::alloc::Global;
 use std::marker::Model;
@@ -40,7 +43,6 @@ impl<const W: usize> Model for Version<W> {
     ghost coded = { contents_code };
 
     ghost view = { λ kept. record { shard = kept.shard; shards = kept.shards; at = kept.at; layout = arc_value kept.layout; rows = [] } };
-
 }
 
 impl<const W: usize> Version<W> {
@@ -131,6 +133,22 @@ impl<const W: usize> Version<W> {
     /// The layout.
     pub fn layout(&self) -> &Arc<Layout>
         ensures { arc_value result.now ≡ self.now.layout }
+    {
+        match self.never {}
+    }
+
+    /// The posting lists of a part: each row once, in the list of its code's value at the part.
+    pub fn postings(&self, part: u32) -> &Postings<W>
+        requires { part < length self.now.layout.parts }
+        ensures { ArePostings W self.now part result.now }
+    {
+        match self.never {}
+    }
+
+    /// How many rows have each value of a part.
+    pub fn counts(&self, part: u32) -> &Counts
+        requires { part < length self.now.layout.parts }
+        ensures { result.now ≡ counts_of self.now part }
     {
         match self.never {}
     }

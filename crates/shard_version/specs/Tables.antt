@@ -1,0 +1,24 @@
+-- What the tables of a part are to the rows of a version.
+use Rattle.std.specs.Prelude.{◌≡◌, ℕ, List, map, take, length}
+use Rattle.std.specs.List.{AllByRecursion}
+use Rattle.hamming_model.specs.Codes.{StandsFor}
+use Rattle.hamming_model.specs.Layouts.{part_value}
+use Rattle.part_layout.specs.Laid.{part_at}
+use Rattle.posting_table.specs.Tables.{Table, posting_list}
+use Rattle.count_table.specs.Copies.{CopyTable, table_of}
+use Rattle.search_model.specs.Reading.{AreLists, unpadded}
+use Rattle.shard_version.specs.Contents.{Contents}
+
+-- the values of rows at a part, in the order of the rows
+abbrev pub part_values : List (ℕ × List ℕ) → List ℕ → List ℕ
+part_values rows part = map (λ row. part_value row.1 part) rows
+
+-- the posting lists of a part have each row of a version once, in the list of its value, with the words of its code
+pub record ArePostings (words : ℕ) (version : Contents) (part : ℕ) (table : Table) : Type 0 where
+  pub width : table.width ≡ length (part_at version.layout part)
+  pub lists : AreLists version.rows (part_at version.layout part) (λ value. map (unpadded version.layout.bits) (posting_list table value))
+  pub codes : (value : ℕ) → AllByRecursion (λ entry. StandsFor words version.layout.bits entry.1 (take version.layout.bits entry.1)) (posting_list table value)
+
+-- the counts of a part: each value has as many copies as the version has rows with it
+abbrev pub counts_of : Contents → ℕ → CopyTable
+counts_of version part = table_of (length (part_at version.layout part)) (part_values version.rows (part_at version.layout part))
