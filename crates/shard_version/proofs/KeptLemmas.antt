@@ -1,7 +1,7 @@
 -- A version as it is kept: empty, and with one row more or less.
-use Rattle.std.proofs.Common.{◌≡◌, ◌≢◌, ℕ, zero, suc, ◌+◌, ◌*◌, ◌%◌, ◌^◌, ◌<◌, ◌≤◌, ◌==◌, nat_lt, Bool, true, false, cond, List, [], ◌∷◌, ◌++◌, length, map, get_or, replicate, take, drop, refl, sym, ap, subst, ◌∙◌, arith, eqb-true, length-append, take-append-drop, All}
+use Rattle.std.proofs.Common.{◌≡◌, ◌≢◌, ℕ, zero, suc, ◌+◌, ◌*◌, ◌%◌, ◌^◌, ◌<◌, ◌≤◌, ◌==◌, nat_lt, min, Bool, true, false, cond, List, [], ◌∷◌, ◌++◌, length, map, get_or, replicate, take, drop, refl, sym, ap, subst, ◌∙◌, arith, eqb-true, length-append, take-append-drop, All}
 use Rattle.std.specs.Prelude.{None, Some, is_some}
-use Rattle.std.specs.List.{AllByRecursion}
+use Rattle.std.specs.List.{AllByRecursion, take-map}
 use Rattle.std.specs.List.Sorted.{IsStrictlySortedBy}
 use Rattle.std.specs.BTreeMap.{insert_entry, is_at}
 use Rattle.std.specs.Map.{keys_of, remove_entry}
@@ -350,3 +350,23 @@ kept_empty shard shards layout tables laid own few words room counts empty = rec
       let number = empty.number in
       subst (λ (table : PartTable _). IsPartTable (empty_of shard shards layout) part table) (sym (empty.each part other (omega arith))) (empty_part shard shards layout part counts));
 }
+
+-- as many as there are, or so many
+take_few : {X : Type 0} (n number : ℕ) (xs : List X) → number ≡ min (length xs) n → take number xs ≡ take n xs
+take_few zero zero xs is = refl
+take_few zero (suc number) xs is = absurd (omega arith)
+take_few (suc n) zero [] is = refl
+take_few (suc n) (suc number) [] is = refl
+take_few (suc n) zero (x ∷ xs) is = absurd (omega arith)
+take_few (suc n) (suc number) (x ∷ xs) is = ap (λ more. x ∷ more) (take_few n number xs (omega arith))
+
+-- the first rows, once the zeros are left out
+pub first_taken : (bits n number : ℕ) (rows first : List (ℕ × List ℕ)) → first ≡ take number rows → number ≡ min (length rows) n → map (unpadded bits) first ≡ take n (map (unpadded bits) rows)
+first_taken bits n number rows first is few = ap (map (unpadded bits)) (is ∙ take_few n number rows few) ∙ sym (take-map (unpadded bits) n rows)
+
+-- the codes of the first rows are kept as those of all
+pub first_stored : (words bits number : ℕ) (rows first : List (ℕ × List ℕ)) → first ≡ take number rows → AreStored words bits rows → AreStored words bits first
+first_stored words bits number rows first is all =
+    let stand : ℕ × List ℕ → Type 0 = λ row. StandsFor words bits row.1 (take bits row.1) in
+    let split : AreStored words bits (take number rows ++ drop number rows) = subst (λ (others : List (ℕ × List ℕ)). AreStored words bits others) (sym (take-append-drop number rows)) all in
+    subst (λ (others : List (ℕ × List ℕ)). AreStored words bits others) (sym is) (all_front stand (take number rows) (drop number rows) split)
