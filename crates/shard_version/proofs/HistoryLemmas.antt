@@ -1,6 +1,6 @@
 -- The rows of one shard change with each entry as the shard's own do.
-use Rattle.std.proofs.Common.{◌≡◌, ◌≢◌, ℕ, zero, suc, ◌+◌, ◌%◌, ◌<◌, ◌==◌, nat_lt, Bool, true, false, cond, List, [], ◌∷◌, ◌++◌, length, filter, refl, sym, ap, subst, ◌∙◌, arith, eq-eqb, eqb-true, length-append, append_assoc}
-use Rattle.std.specs.Prelude.{if◌then◌else◌, None, Some, is_some}
+use Rattle.std.proofs.Common.{◌≡◌, ℕ, ◌+◌, ◌%◌, ◌<◌, ◌==◌, nat_lt, Bool, true, false, cond, List, [], ◌∷◌, ◌++◌, length, filter, refl, sym, ap, subst, ◌∙◌, arith, eq-eqb, eqb-true, length-append, append_assoc}
+use Rattle.std.specs.Prelude.{is_some}
 use Rattle.std.specs.List.{AllByRecursion}
 use Rattle.std.specs.List.Sorted.{IsStrictlySortedBy}
 use Rattle.std.specs.declared.cmp.Ordering.{Ordering}
@@ -10,7 +10,7 @@ use Rattle.std.specs.BTreeMap.{insert_entry, is_at}
 use Rattle.std.specs.Map.{keys_of, remove_entry}
 use Rattle.std.proofs.lemmas.List.{append-nil}
 use Rattle.std.proofs.lemmas.Map.Entries.{lookup-filter-keys}
-use Rattle.hamming_model.specs.History.{Operation, JournalEntry, Add, Delete, Fits, changed, code_at, rows_from, rows_of, shard_rows}
+use Rattle.hamming_model.specs.History.{Operation, JournalEntry, Add, Delete, Fits, changed, code_at, rows_of, shard_rows}
 use Rattle.hamming_model.proofs.RowLemmas.{rows_of_append, rows_ascend}
 use Rattle.entry_log.specs.Meaning.{key_of}
 use Rattle.part_layout.specs.Laid.{Laid}

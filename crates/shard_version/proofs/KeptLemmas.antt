@@ -1,5 +1,5 @@
 -- A version as it is kept: empty, and with one row more or less.
-use Rattle.std.proofs.Common.{◌≡◌, ◌≢◌, ℕ, zero, suc, ◌+◌, ◌*◌, ◌%◌, ◌^◌, ◌<◌, ◌≤◌, ◌==◌, nat_lt, min, Bool, true, false, cond, List, [], ◌∷◌, ◌++◌, length, map, get_or, replicate, take, drop, refl, sym, ap, subst, ◌∙◌, arith, eqb-true, length-append, take-append-drop, All}
+use Rattle.std.proofs.Common.{◌≡◌, ◌≢◌, ℕ, zero, suc, ◌+◌, ◌*◌, ◌%◌, ◌^◌, ◌<◌, ◌≤◌, nat_lt, min, Bool, true, false, cond, List, [], ◌∷◌, ◌++◌, length, map, get_or, replicate, take, drop, refl, sym, ap, subst, ◌∙◌, arith, eqb-true, take-append-drop, All}
 use Rattle.std.specs.Prelude.{None, Some, is_some}
 use Rattle.std.specs.List.{AllByRecursion, take-map}
 use Rattle.std.specs.List.Sorted.{IsStrictlySortedBy}
@@ -8,22 +8,21 @@ use Rattle.std.specs.Map.{keys_of, remove_entry}
 use Rattle.std.specs.Ordering.{nat_cmp}
 use Rattle.std.proofs.lemmas.Bool.{ltb-true, ltb-false}
 use Rattle.std.proofs.lemmas.List.{get_or_default, map-append, length-map, length-replicate, length-set}
-use Rattle.hamming_model.specs.Codes.{StandsFor, IsCode}
+use Rattle.hamming_model.specs.Codes.{StandsFor}
 use Rattle.hamming_model.specs.History.{code_at}
 use Rattle.hamming_model.specs.Layouts.{part_value}
 use Rattle.hamming_model.specs.Stored.{AreCodeRows}
 use Rattle.hamming_model.proofs.RowLemmas.{ascends_inserted, ascends_removed, codes_inserted, codes_removed, length_inserted, length_removed}
 use Rattle.part_layout.specs.Laid.{Laid, IsLaid, part_at}
 use Rattle.count_table.specs.Copies.{CopyTable, copies_at, empty_table, table_of, total_of, with_one, without_one}
-use Rattle.posting_table.specs.Tables.{Table, posting_list, with_list}
-use Rattle.posting_table.specs.Tables as postings
+use Rattle.posting_table.specs.Tables.{Table, posting_list}
 use Rattle.search_model.specs.Reading.{HasSame, unpadded}
 use Rattle.search_model.proofs.SameLemmas.{all_front, all_back}
 use Rattle.shard_version.specs.Contents.{Contents, IsVersion, empty_of}
-use Rattle.shard_version.specs.Tables.{ArePostings, AreStored, counts_of, part_values}
-use Rattle.shard_version.specs.Kept.{AreChanged, AreEmpty, EachHas, EachTakes, IsKept, IsPartTable, IsPlace, LosesRow, Lost, Taken, TakesRow, HasRow, contents_of, next_with, with_row, no_rows}
+use Rattle.shard_version.specs.Tables.{AreStored, counts_of, part_values}
+use Rattle.shard_version.specs.Kept.{AreChanged, AreEmpty, EachHas, EachTakes, IsKept, IsPartTable, IsPlace, Lost, Taken, TakesRow, HasRow, contents_of, next_with, no_rows}
 use Rattle.shard_version.specs.declared.part_table.PartTable.{PartTable}
-use Rattle.shard_version.proofs.PlaceLemmas.{above_absent, above_first, all_append, all_both, all_mapped, all_weaker, ascend_from, code_behind, code_split, cut_here, drop_here, inserted_between, removed_between, stands_here, stands_nowhere}
+use Rattle.shard_version.proofs.PlaceLemmas.{above_absent, above_first, all_append, all_mapped, all_weaker, ascend_from, code_behind, cut_here, drop_here, inserted_between, removed_between, stands_here, stands_nowhere}
 use Rattle.shard_version.proofs.PartLemmas.{AddsValue, CountsValue, RemovesValue, counted_row, counts_lost, counts_taken, key_absent, key_present, list_short, postings_lost, postings_taken, value_fits, values_in_width}
 
 -- rows without their zeros have the same keys
@@ -127,8 +126,10 @@ module _ {W : ℕ} (shard shards at : ℕ) (layout : Laid) (stored : List (ℕ �
   module _ (placed : IsPlace stored key place) where
     abbrev front : List (ℕ × List ℕ)
     front = map (unpadded layout.bits) (take place stored)
+
     abbrev back : List (ℕ × List ℕ)
     back = map (unpadded layout.bits) (drop place stored)
+
     abbrev past : List (ℕ × List ℕ)
     past = map (unpadded layout.bits) (drop (suc place) stored)
 
@@ -161,8 +162,10 @@ module _ {W : ℕ} (shard shards at : ℕ) (layout : Laid) (stored : List (ℕ �
 
       -- each part takes the row
       pub each_takes : at < 1048576 → CountsAll → EachTakes layout tables key (take layout.bits stored_code)
-      each_takes room all = record { each = λ part other below.
-          takes_row seen front back key stored_code part (get_or tables part other) stands rows_cut apart kept.sound room all (kept.each part other below) }
+      each_takes room all = record {
+        each = λ part other below.
+            takes_row seen front back key stored_code part (get_or tables part other) stands rows_cut apart kept.sound room all (kept.each part other below);
+      }
 
       new_sound : at < 1048576 → key % shards ≡ shard → IsVersion (next_with seen (front ++ (key, code) ∷ back))
       new_sound room own =
@@ -188,7 +191,7 @@ module _ {W : ℕ} (shard shards at : ℕ) (layout : Laid) (stored : List (ℕ �
           → IsKept (contents_of shard shards (at + 1) layout (take place stored ++ (key, stored_code) ∷ drop place stored)) (take place stored ++ (key, stored_code) ∷ drop place stored) new
       kept_with_row new room own added changed =
           let after : next_with seen (front ++ (key, code) ∷ back) ≡ contents_of shard shards (at + 1) layout (take place stored ++ (key, stored_code) ∷ drop place stored) =
-              ap (next_with seen) (sym (unpadded_with layout.bits (take place stored) (drop place stored) (key, stored_code))) in
+          ap (next_with seen) (sym (unpadded_with layout.bits (take place stored) (drop place stored) (key, stored_code))) in
           let all : AreStored W layout.bits (take place stored ++ drop place stored) = subst (λ (others : List (ℕ × List ℕ)). AreStored W layout.bits others) (sym (take-append-drop place stored)) kept.stored_codes in
           let stand : ℕ × List ℕ → Type 0 = λ row. StandsFor W layout.bits row.1 (take layout.bits row.1) in
           let number = changed.number in
@@ -242,7 +245,7 @@ module _ {W : ℕ} (shard shards at : ℕ) (layout : Laid) (stored : List (ℕ �
         past_above : AllByRecursion (λ row. key < row.0) past
         past_above =
             let from : IsStrictlySortedBy nat_cmp (keys_of ((key, stored_code) ∷ drop (suc place) stored)) = subst (λ (rows : List (ℕ × List ℕ)). IsStrictlySortedBy nat_cmp (keys_of rows))
-                (drop_here place stored (key, stored_code) place_inside ∙ ap (λ (row : ℕ × List ℕ). row ∷ drop (suc place) stored) (sym is)) (ascend_from place stored (stored_ascend shard shards at layout stored tables kept)) in
+            (drop_here place stored (key, stored_code) place_inside ∙ ap (λ (row : ℕ × List ℕ). row ∷ drop (suc place) stored) (sym is)) (ascend_from place stored (stored_ascend shard shards at layout stored tables kept)) in
             all_mapped (λ row. key < row.0) (unpadded layout.bits) (drop (suc place) stored) (above_first (key, stored_code) (drop (suc place) stored) from)
 
         apart_left : AllByRecursion (λ row. row.0 ≢ key) (front ++ past)
@@ -262,8 +265,10 @@ module _ {W : ℕ} (shard shards at : ℕ) (layout : Laid) (stored : List (ℕ �
 
         -- each part has the row
         pub each_has : CountsValue → EachHas layout tables key (take layout.bits stored_code)
-        each_has present = record { each = λ part other below.
-            has_row seen front past key stored_code part (get_or tables part other) stands_own full_cut present (kept.each part other below) }
+        each_has present = record {
+          each = λ part other below.
+              has_row seen front past key stored_code part (get_or tables part other) stands_own full_cut present (kept.each part other below);
+        }
 
         left_sound : at < 1048576 → IsVersion (next_with seen (front ++ past))
         left_sound room =

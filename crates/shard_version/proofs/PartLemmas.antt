@@ -1,8 +1,8 @@
 -- The tables of one part, when a row comes or goes.
-use Rattle.std.proofs.Common.{◌≡◌, ◌≢◌, ℕ, zero, suc, ◌+◌, ◌^◌, ◌<◌, ◌≤◌, ◌==◌, Bool, true, false, cond, List, [], ◌∷◌, ◌++◌, length, map, filter, set, get_or, count_by, nat_lt, sum_by, take, replicate, refl, sym, ap, subst, ◌∙◌, arith, eq-eqb, eqb-true, All}
+use Rattle.std.proofs.Common.{◌≡◌, ◌≢◌, ℕ, ◌+◌, ◌^◌, ◌<◌, ◌≤◌, ◌==◌, Bool, true, false, cond, List, [], ◌∷◌, ◌++◌, length, map, filter, get_or, count_by, nat_lt, sum_by, take, refl, sym, ap, subst, ◌∙◌, arith, eq-eqb, eqb-true, All}
 use Rattle.std.specs.List.{AllByRecursion, swap_remove}
 use Rattle.std.proofs.lemmas.Bool.{ne_eqb, eqb-false}
-use Rattle.std.proofs.lemmas.List.{get_or-set_same, get_or-set_other, length-map, map-append, length-set}
+use Rattle.std.proofs.lemmas.List.{get_or-set_same, get_or-set_other, length-map, map-append}
 use Rattle.std.proofs.lemmas.List.Elements.{All-tail, All-from_recursion, recursion_from_All}
 use Rattle.std.proofs.lemmas.List.Sorted.{All-permutation, IsPermutation-swap_remove}
 use Rattle.std.proofs.lemmas.List.Sums.{sum_by-cons, sum_by-append}
@@ -10,16 +10,15 @@ use Rattle.hamming_model.specs.Codes.{StandsFor, IsCode}
 use Rattle.hamming_model.specs.Layouts.{part_count, part_distance, part_value}
 use Rattle.hamming_model.specs.Stored.{AreCodeRows}
 use Rattle.ball_walk.specs.Balls.{is_near}
-use Rattle.part_layout.specs.Laid.{Laid, part_at}
+use Rattle.part_layout.specs.Laid.{part_at}
 use Rattle.posting_table.specs.Tables.{Table, LosesEntry, has_key, posting_list, with_entry, with_list}
-use Rattle.count_table.specs.Copies.{copies_at, table_of, total_of, with_one, without_one}
-use Rattle.search_model.specs.Reading.{HasSame, AreLists, rows_with, unpadded}
+use Rattle.count_table.specs.Copies.{copies_at, table_of, with_one, without_one}
+use Rattle.search_model.specs.Reading.{HasSame, rows_with, unpadded}
 use Rattle.search_model.proofs.PostingLemmas.{near_at_part, value_below}
 use Rattle.search_model.proofs.SameLemmas.{same_length, sum_agrees, sum_map}
 use Rattle.shard_version.specs.Contents.{Contents}
 use Rattle.shard_version.specs.Tables.{ArePostings, AreStored, counts_of, part_values}
-use Rattle.shard_version.specs.Kept.{IsPartTable, TakesRow, HasRow, LosesRow, next_with, with_row}
-use Rattle.shard_version.specs.declared.part_table.PartTable.{PartTable}
+use Rattle.shard_version.specs.Kept.{next_with}
 use Rattle.shard_version.proofs.PlaceLemmas.{all_append, all_weaker}
 use Rattle.shard_version.proofs.SumLemmas.{sum_with, of_key, none_of_key, lacks_key, holds_key, same_without}
 
@@ -78,10 +77,13 @@ module _ {W : ℕ} (version : Contents) (front back : List (ℕ × List ℕ)) (k
     (stands : StandsFor W version.layout.bits stored (take version.layout.bits stored)) where
   abbrev bits : ℕ
   bits = version.layout.bits
+
   abbrev positions : List ℕ
   positions = part_at version.layout part
+
   abbrev value : ℕ
   value = part_value (take version.layout.bits stored) (part_at version.layout part)
+
   abbrev row : ℕ × List ℕ
   row = (key, take version.layout.bits stored)
 
@@ -122,12 +124,12 @@ module _ {W : ℕ} (version : Contents) (front back : List (ℕ × List ℕ)) (k
         let list = posting_list table value in
         let here = get_or-set_same table.lists value (list ++ (key, stored) ∷ []) [] in_lists in
         let sums : (f : ℕ × List ℕ → ℕ) → sum_by f (map (unpadded bits) (posting_list (with_entry table value (key, stored)) value)) ≡ sum_by f (rows_with (front ++ row ∷ back) positions value) = λ f. (
-            let mapped = ap (λ (entries : List (ℕ × List ℕ)). sum_by f (map (unpadded bits) entries)) here ∙ ap (sum_by f) (map-append (unpadded bits) list ((key, stored) ∷ [])) in
-            let split = sum_by-append f (map (unpadded bits) list) (row ∷ []) in
-            let one = sum_by-cons f row [] in
-            let before = old_sums value value_fits f in
-            let after = own_more f in
-            omega arith) in
+        let mapped = ap (λ (entries : List (ℕ × List ℕ)). sum_by f (map (unpadded bits) entries)) here ∙ ap (sum_by f) (map-append (unpadded bits) list ((key, stored) ∷ [])) in
+        let split = sum_by-append f (map (unpadded bits) list) (row ∷ []) in
+        let one = sum_by-cons f row [] in
+        let before = old_sums value value_fits f in
+        let after = own_more f in
+        omega arith) in
         record { sums = λ f. subst (λ (u : ℕ). sum_by f (map (unpadded bits) (posting_list (with_entry table value (key, stored)) u)) ≡ sum_by f (rows_with (front ++ row ∷ back) positions u)) (sym own) (sums f) }
 
     new_codes : (v : ℕ) → (same : Bool) → (v == value) ≡ same → AreStored W bits (posting_list (with_entry table value (key, stored)) v)
@@ -209,12 +211,12 @@ module _ {W : ℕ} (version : Contents) (front back : List (ℕ × List ℕ)) (k
       own_list = same_without key (unpadded bits (key, loses.code)) row (map (unpadded bits) (posting_list new value)) (rows_with (front ++ back) positions value) refl refl
           (all_filter (λ other. other.0 ≢ key) (λ other. part_value other.1 positions == value) (front ++ back) apart)
           (λ f. (
-              let counted = loses.counts (λ entry. f (unpadded bits entry)) in
-              let before = sum_map f (unpadded bits) (posting_list table value) in
-              let after = sum_map f (unpadded bits) (posting_list new value) in
-              let full = full_sums value value_fits f in
-              let more = own_more f in
-              omega arith))
+          let counted = loses.counts (λ entry. f (unpadded bits entry)) in
+          let before = sum_map f (unpadded bits) (posting_list table value) in
+          let after = sum_map f (unpadded bits) (posting_list new value) in
+          let full = full_sums value value_fits f in
+          let more = own_more f in
+          omega arith))
 
       left_lists : (v : ℕ) → v < 2 ^ length positions → (same : Bool) → (v == value) ≡ same → HasSame (map (unpadded bits) (posting_list new v)) (rows_with (front ++ back) positions v)
       left_lists v below true e = subst (λ (u : ℕ). HasSame (map (unpadded bits) (posting_list new u)) (rows_with (front ++ back) positions u)) (sym (eqb-true v value e)) own_list

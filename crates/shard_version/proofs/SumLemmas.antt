@@ -1,5 +1,5 @@
 -- Lists with the same rows, after a row comes or goes, and after a list of values changes with them.
-use Rattle.std.proofs.Common.{◌≡◌, ◌≢◌, ℕ, zero, suc, ◌+◌, ◌<◌, ◌≤◌, ◌==◌, Bool, true, false, cond, ◌||◌, List, [], ◌∷◌, ◌++◌, length, map, filter, sum_by, refl, sym, ap, ◌∙◌, arith, eq-eqb}
+use Rattle.std.proofs.Common.{◌≡◌, ◌≢◌, ℕ, ◌+◌, ◌<◌, ◌==◌, Bool, true, false, cond, ◌||◌, List, [], ◌∷◌, ◌++◌, map, filter, sum_by, refl, sym, ap, ◌∙◌, arith, eq-eqb}
 use Rattle.std.specs.List.{AllByRecursion}
 use Rattle.std.proofs.lemmas.Bool.{ne_eqb}
 use Rattle.std.proofs.lemmas.List.Elements.{filter-append}
@@ -75,15 +75,17 @@ without_key key f (entry ∷ entries) none =
 -- two lists that have the same once each gets a row of the key have the same, where one has no row of it
 pub same_without : (key : ℕ) (gone row : ℕ × List ℕ) (xs ys : List (ℕ × List ℕ)) → gone.0 ≡ key → row.0 ≡ key → AllByRecursion (λ other. other.0 ≢ key) ys
     → ((f : ℕ × List ℕ → ℕ) → f gone + sum_by f xs ≡ f row + sum_by f ys) → HasSame xs ys
-same_without key gone row xs ys own same apart sums = record { sums = λ f. (
-    let no_more = none_of_key key ys apart in
-    let counted = sums (of_key key) in
-    let gone_one : of_key key gone ≡ 1 = rw (eq-eqb gone.0 key own) refl in
-    let row_one : of_key key row ≡ 1 = rw (eq-eqb row.0 key same) refl in
-    let none_left : sum_by (of_key key) xs ≡ 0 = omega arith in
-    let masked = sums (but_key key f) in
-    let gone_none : but_key key f gone ≡ 0 = rw (eq-eqb gone.0 key own) refl in
-    let row_none : but_key key f row ≡ 0 = rw (eq-eqb row.0 key same) refl in
-    let left = without_key key f xs none_left in
-    let right = without_key key f ys no_more in
-    omega arith) }
+same_without key gone row xs ys own same apart sums = record {
+  sums = λ f. (
+      let no_more = none_of_key key ys apart in
+      let counted = sums (of_key key) in
+      let gone_one : of_key key gone ≡ 1 = rw (eq-eqb gone.0 key own) refl in
+      let row_one : of_key key row ≡ 1 = rw (eq-eqb row.0 key same) refl in
+      let none_left : sum_by (of_key key) xs ≡ 0 = omega arith in
+      let masked = sums (but_key key f) in
+      let gone_none : but_key key f gone ≡ 0 = rw (eq-eqb gone.0 key own) refl in
+      let row_none : but_key key f row ≡ 0 = rw (eq-eqb row.0 key same) refl in
+      let left = without_key key f xs none_left in
+      let right = without_key key f ys no_more in
+      omega arith);
+}

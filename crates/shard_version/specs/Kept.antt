@@ -11,6 +11,7 @@ use Rattle.search_model.specs.Reading.{unpadded}
 use Rattle.shard_version.specs.Contents.{Contents, IsVersion}
 use Rattle.shard_version.specs.Tables.{ArePostings, AreStored, counts_of}
 use Rattle.shard_version.specs.declared.part_table.PartTable.{PartTable}
+use Rattle.shard_version.specs.declared.version.TheConstants.{ENTRIES}
 
 -- the contents that callers see: the codes of the rows without their zeros
 abbrev pub contents_of : ℕ → ℕ → ℕ → Laid → List (ℕ × List ℕ) → Contents
@@ -53,8 +54,8 @@ pub record TakesRow {W : ℕ} (table : PartTable W) (value key : ℕ) : Type 0 w
   pub in_width : value < 2 ^ table.postings.width
   pub counted : value < 2 ^ table.counts.width
   pub absent : has_key (posting_list table.postings value) key ≡ false
-  pub room : length (posting_list table.postings value) < 1048576
-  pub few : total_of table.counts < 1048576
+  pub room : length (posting_list table.postings value) < ENTRIES
+  pub few : total_of table.counts < ENTRIES
 
 -- the tables with one row more
 abbrev pub with_row : {W : ℕ} → PartTable W → ℕ → ℕ × List ℕ → PartTable W

@@ -14,9 +14,11 @@ pub fn place_of<const W: usize>(rows: &[(u64, Code<W>)], key: u64) -> usize
     requires { IsStrictlySortedBy nat_cmp (keys_of rows.now) }
     ensures { IsPlace rows.now key result }
 {
-    rows.partition_point(|row: &(u64, Code<W>)| -> bool
-        ensures { result ≡ nat_lt row.now.0 key }
-    { row.0 < key })
+    rows.partition_point(
+        |row: &(u64, Code<W>)| -> bool
+            ensures { result ≡ nat_lt row.now.0 key }
+        { row.0 < key },
+    )
 }
 
 // Whether the row of a key stands at its place.

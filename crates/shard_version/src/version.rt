@@ -263,7 +263,11 @@ impl<const W: usize> Version<W> {
     /// # Errors
     ///
     /// `NoMemory` where there is no memory for that many; no row is read then.
-    pub fn first_rows<M>(&self, n: u32, steps: &mut Steps<M>) -> Result<Vec<(u64, Code<W>)>, NoMemory>
+    pub fn first_rows<M>(
+        &self,
+        n: u32,
+        steps: &mut Steps<M>,
+    ) -> Result<Vec<(u64, Code<W>)>, NoMemory>
         ensures rows { IfOk result (λ rows. map (unpadded self.now.layout.bits) rows.items ≡ take n self.now.rows) }
         ensures codes { IfOk result (λ rows. AreStored W self.now.layout.bits rows.items) }
         ensures steps { OnOk result (steps.new ≡ steps.old + min n (length self.now.rows)) }

@@ -1,4 +1,3 @@
-use Rattle.std.proofs.Common.{rules, ◌≡◌, is_some, ℕ, ◌+◌, ◌<◌, ◌≤◌, length, List, nat_eq, nat_lt, slice_index_or, sym, ◌∙◌, arith}
 use Rattle.shard_version.proofs.PlaceLemmas.{stands_here, stands_nowhere}
 use Rattle.shard_version.proofs.places.stands_at.Goals as goal
 

@@ -1,5 +1,5 @@
 -- The first rows, read one by one.
-use Rattle.std.proofs.Common.{rules, ◌≡◌, ◌≤◌, length, map, min, take, ap, sym, subst, ◌∙◌, arith}
+use Rattle.std.proofs.Common.{rules, ◌≡◌, length, map, take, ap, subst, arith}
 use Rattle.std.specs.Arc.{arc_value}
 use Rattle.std.proofs.lemmas.List.{length-map}
 use Rattle.search_model.specs.Reading.{unpadded}

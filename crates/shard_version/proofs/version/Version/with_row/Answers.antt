@@ -1,5 +1,5 @@
 -- The version after a row more.
-use Rattle.std.proofs.Common.{rules, ◌≡◌, ◌+◌, ◌%◌, ◌<◌, map, length, take, ap, sym, subst, ◌∙◌, arith}
+use Rattle.std.proofs.Common.{rules, ◌≡◌, ◌%◌, ◌<◌, map, length, take, ap, sym, subst, ◌∙◌, arith}
 use Rattle.std.specs.Prelude.{None}
 use Rattle.std.specs.Arc.{arc_value}
 use Rattle.std.specs.BTreeMap.{insert_entry}
@@ -32,8 +32,22 @@ insert_in_each-requires g c =
     let absent : code_at (map (unpadded layout.bits) stored) key ≡ None = ap (λ (contents : Contents). code_at contents.rows key) c.self.view_is ∙ c.requires.absent in
     let stands : StandsFor g.row.W layout.bits c.args.code (take layout.bits c.args.code) = subst (λ (contents : Contents). StandsFor g.row.W contents.layout.bits c.args.code (take contents.layout.bits c.args.code)) (sym c.self.view_is) c.requires.code in
     let room : c.self.inside.at < 1048576 = subst (λ (contents : Contents). contents.at < 1048576) (sym c.self.view_is) c.requires.room in
-    rw c.deref-2.ensures (omega arith, (search rules, (kept.room, (kept.number, (stands,
-    each_takes c.self.inside.shard c.self.inside.shards c.self.inside.at layout stored tables kept key place placed c.args.code absent stands room c.counts_are_those_of_a_list.ensures.total)))))
+    rw c.deref-2.ensures (
+      omega arith,
+      (
+        search rules,
+        (
+          kept.room,
+          (
+            kept.number,
+            (
+              stands,
+              each_takes c.self.inside.shard c.self.inside.shards c.self.inside.at layout stored tables kept key place placed c.args.code absent stands room c.counts_are_those_of_a_list.ensures.total,
+            ),
+          ),
+        ),
+      ),
+    )
 
 pub invariant_of-self : goal.invariant_of-self
 invariant_of-self g c =
@@ -49,7 +63,7 @@ invariant_of-self g c =
     let room : c.self.inside.at < 1048576 = subst (λ (contents : Contents). contents.at < 1048576) (sym c.self.view_is) c.requires.room in
     let own : key % c.self.inside.shards ≡ c.self.inside.shard = subst (λ (contents : Contents). key % contents.shards ≡ contents.shard) (sym c.self.view_is) c.requires.own in
     let changed : AreChanged (Taken layout key c.args.code (take layout.bits c.args.code)) tables c.insert_in_each.new.tables.items (length tables) =
-        subst (λ (laid : Laid). AreChanged (Taken laid key c.args.code (take laid.bits c.args.code)) tables c.insert_in_each.new.tables.items (length tables)) c.deref-2.ensures c.in_ok-insert_in_each.ensures in
+    subst (λ (laid : Laid). AreChanged (Taken laid key c.args.code (take laid.bits c.args.code)) tables c.insert_in_each.new.tables.items (length tables)) c.deref-2.ensures c.in_ok-insert_in_each.ensures in
     rw c.in-Ok.ensures.items
     (kept_with_row c.self.inside.shard c.self.inside.shards c.self.inside.at layout stored tables kept key place placed c.args.code absent stands
     c.insert_in_each.new.tables.items room own c.changes_follow_a_list.ensures.added changed)

@@ -1,5 +1,5 @@
 -- The version after a row less.
-use Rattle.std.proofs.Common.{rules, ◌≡◌, ◌+◌, ◌<◌, true, get_or, map, length, take, ap, sym, subst, ◌∙◌, arith}
+use Rattle.std.proofs.Common.{rules, ◌≡◌, ◌<◌, true, get_or, map, length, take, ap, sym, subst, ◌∙◌, arith}
 use Rattle.std.specs.Prelude.{is_some}
 use Rattle.std.specs.Arc.{arc_value}
 use Rattle.std.specs.BTreeMap.{is_at}
@@ -45,8 +45,22 @@ remove_from_each-requires g c =
     let code = c.index.result.now.1 in
     let is : (key, code) ≡ get_or stored place (key, code) = row_there c.self.inside.shard c.self.inside.shards c.self.inside.at layout stored tables kept key place placed present c.index.result.now c.index.ensures in
     let few = c.self.invariant.few_words in
-    rw c.deref-2.ensures (omega arith, (search rules, (kept.room, (kept.number, (stands_own c.self.inside.shard c.self.inside.shards c.self.inside.at layout stored tables kept key place placed present code is,
-    each_has c.self.inside.shard c.self.inside.shards c.self.inside.at layout stored tables kept key place placed present code is c.changes_follow_a_list.ensures.present)))))
+    rw c.deref-2.ensures (
+      omega arith,
+      (
+        search rules,
+        (
+          kept.room,
+          (
+            kept.number,
+            (
+              stands_own c.self.inside.shard c.self.inside.shards c.self.inside.at layout stored tables kept key place placed present code is,
+              each_has c.self.inside.shard c.self.inside.shards c.self.inside.at layout stored tables kept key place placed present code is c.changes_follow_a_list.ensures.present,
+            ),
+          ),
+        ),
+      ),
+    )
 
 pub remove-requires : goal.remove-requires
 remove-requires g c =
@@ -75,7 +89,7 @@ invariant_of-self g c =
     let is : (key, code) ≡ get_or stored place (key, code) = row_there c.self.inside.shard c.self.inside.shards c.self.inside.at layout stored tables kept key place placed present c.index.result.now c.index.ensures in
     let room : c.self.inside.at < 1048576 = subst (λ (contents : Contents). contents.at < 1048576) (sym c.self.view_is) c.requires.room in
     let changed : AreChanged (Lost layout key (take layout.bits code)) tables c.remove_from_each.new.tables.items (length tables) =
-        subst (λ (laid : Laid). AreChanged (Lost laid key (take laid.bits code)) tables c.remove_from_each.new.tables.items (length tables)) c.deref-2.ensures c.in_ok-remove_from_each.ensures in
+    subst (λ (laid : Laid). AreChanged (Lost laid key (take laid.bits code)) tables c.remove_from_each.new.tables.items (length tables)) c.deref-2.ensures c.in_ok-remove_from_each.ensures in
     rw c.remove.ensures.items
     (kept_without_row c.self.inside.shard c.self.inside.shards c.self.inside.at layout stored tables kept key place placed present code is c.remove_from_each.new.tables.items room c.changes_follow_a_list.ensures.removed changed)
 
