@@ -130,20 +130,9 @@ impl<const W: usize> Version<W> {
         ensures { IfOk result (λ version. version ≡ after_entry self.entry (entry_of self.entry.layout.bits entry.now)) }
     {
         match entry.op {
-            Op::Add { key, code } => {
-                if self.owns(key) {
-                    self.with_row(key, code)
-                } else {
-                    Ok(self.passed())
-                }
-            }
-            Op::Delete { key } => {
-                if self.owns(key) {
-                    self.without_row(key)
-                } else {
-                    Ok(self.passed())
-                }
-            }
+            Op::Add { key, code } if self.owns(key) => self.with_row(key, code),
+            Op::Delete { key } if self.owns(key) => self.without_row(key),
+            _ => Ok(self.passed()),
         }
     }
 
