@@ -7,7 +7,7 @@ use Rattle.std.specs.BTreeMap.{insert_entry, is_at}
 use Rattle.std.specs.Map.{keys_of, remove_entry}
 use Rattle.std.specs.Ordering.{nat_cmp}
 use Rattle.std.proofs.lemmas.Bool.{ltb-true, ltb-false}
-use Rattle.std.proofs.lemmas.List.{get_or_default, map-append, length-map, length-replicate, length-set}
+use Rattle.std.proofs.lemmas.List.{get_or_default, get_or-map, map-append, length-map, length-replicate, length-set}
 use Rattle.hamming_model.specs.Codes.{StandsFor}
 use Rattle.hamming_model.specs.History.{code_at}
 use Rattle.hamming_model.specs.Layouts.{part_value}
@@ -19,8 +19,8 @@ use Rattle.posting_table.specs.Tables.{Table, posting_list}
 use Rattle.search_model.specs.Reading.{HasSame, unpadded}
 use Rattle.search_model.proofs.SameLemmas.{all_front, all_back}
 use Rattle.shard_version.specs.Contents.{Contents, IsVersion, empty_of}
-use Rattle.shard_version.specs.Tables.{AreStored, counts_of, part_values}
-use Rattle.shard_version.specs.Kept.{AreChanged, AreEmpty, EachHas, EachTakes, IsKept, IsPartTable, IsPlace, Lost, Taken, TakesRow, HasRow, contents_of, next_with, no_rows}
+use Rattle.shard_version.specs.Tables.{AreStored, HasTables, counts_of, part_values}
+use Rattle.shard_version.specs.Kept.{AreChanged, AreEmpty, EachHas, EachTakes, IsKept, IsPartTable, IsPlace, Lost, Taken, TakesRow, HasRow, contents_of, next_with, no_rows, tabled_of}
 use Rattle.shard_version.specs.declared.part_table.PartTable.{PartTable}
 use Rattle.shard_version.proofs.PlaceLemmas.{above_absent, above_first, all_append, all_mapped, all_weaker, ascend_from, code_behind, cut_here, drop_here, inserted_between, removed_between, stands_here, stands_nowhere}
 use Rattle.shard_version.proofs.PartLemmas.{AddsValue, CountsValue, RemovesValue, counted_row, counts_lost, counts_taken, key_absent, key_present, list_short, postings_lost, postings_taken, value_fits, values_in_width}
@@ -375,3 +375,13 @@ first_stored words bits number rows first is all =
     let stand : ℕ × List ℕ → Type 0 = λ row. StandsFor words bits row.1 (take bits row.1) in
     let split : AreStored words bits (take number rows ++ drop number rows) = subst (λ (others : List (ℕ × List ℕ)). AreStored words bits others) (sym (take-append-drop number rows)) all in
     subst (λ (others : List (ℕ × List ℕ)). AreStored words bits others) (sym is) (all_front stand (take number rows) (drop number rows) split)
+
+-- the posting tables that callers see have the rows
+pub kept_tables : {W : ℕ} (contents : Contents) (stored : List (ℕ × List ℕ)) (tables : List (PartTable W)) → IsKept contents stored tables → HasTables W (tabled_of contents tables)
+kept_tables {W} contents stored tables kept = record {
+  each = λ part inside.
+      let number = kept.number in
+      let short : part < length tables = omega arith in
+      let same = get_or-map (λ (table : PartTable W). table.postings) tables part (no_rows 0) (record { width = 0; lists = [] }) short in
+      rw same (kept.each part (no_rows 0) short).postings;
+}

@@ -9,7 +9,7 @@ use Rattle.count_table.specs.Copies.{copies_at, total_of, with_one, without_one}
 use Rattle.count_table.specs.Copies as counts
 use Rattle.search_model.specs.Reading.{unpadded}
 use Rattle.shard_version.specs.Contents.{Contents, IsVersion}
-use Rattle.shard_version.specs.Tables.{ArePostings, AreStored, counts_of}
+use Rattle.shard_version.specs.Tables.{ArePostings, AreStored, Tabled, counts_of}
 use Rattle.shard_version.specs.declared.part_table.PartTable.{PartTable}
 use Rattle.shard_version.specs.declared.version.TheConstants.{ENTRIES}
 
@@ -17,6 +17,10 @@ use Rattle.shard_version.specs.declared.version.TheConstants.{ENTRIES}
 abbrev pub contents_of : ℕ → ℕ → ℕ → Laid → List (ℕ × List ℕ) → Contents
 contents_of shard shards at layout stored =
     record { shard = shard; shards = shards; at = at; layout = layout; rows = map (unpadded layout.bits) stored }
+
+-- the version that callers see: its contents, and the posting tables of its parts
+abbrev pub tabled_of : {W : ℕ} → Contents → List (PartTable W) → Tabled
+tabled_of contents tables = record { contents = contents; tables = map (λ table. table.postings) tables }
 
 -- a version after one more entry, with these rows
 abbrev pub next_with : Contents → List (ℕ × List ℕ) → Contents

@@ -2,6 +2,7 @@ use Rattle.std.proofs.Common.{rules, ◌∙◌, sym, ap}
 use Rattle.std.specs.Prelude.{is_some}
 use Rattle.hamming_model.specs.History.{code_at}
 use Rattle.shard_version.specs.Contents.{Contents}
+use Rattle.shard_version.specs.Tables.{Tabled}
 use Rattle.shard_version.proofs.KeptLemmas.{stands_unpadded, stored_ascend}
 use Rattle.shard_version.proofs.version.Version.has_key.Goals as goal
 
@@ -20,4 +21,4 @@ stands_at-requires g c =
 pub returns : goal.returns
 returns g c =
     c.stands_at.ensures ∙ ap (λ rows. is_some (code_at rows c.args.key)) c.deref.ensures.value
-    ∙ sym (stands_unpadded _ c.self.inside.rows.items c.args.key) ∙ ap (λ (contents : Contents). is_some (code_at contents.rows c.args.key)) c.self.view_is
+    ∙ sym (stands_unpadded _ c.self.inside.rows.items c.args.key) ∙ ap (λ (contents : Contents). is_some (code_at contents.rows c.args.key)) (ap (λ (version : Tabled). version.contents) c.self.view_is)

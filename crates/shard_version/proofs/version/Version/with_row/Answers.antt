@@ -9,6 +9,7 @@ use Rattle.hamming_model.specs.History.{code_at}
 use Rattle.part_layout.specs.Laid.{Laid}
 use Rattle.search_model.specs.Reading.{unpadded}
 use Rattle.shard_version.specs.Contents.{Contents}
+use Rattle.shard_version.specs.Tables.{Tabled}
 use Rattle.shard_version.specs.Kept.{AreChanged, IsKept, IsPlace, Taken, contents_of, next_with}
 use Rattle.shard_version.proofs.KeptLemmas.{each_takes, kept_with_row, rows_with_row, stored_ascend}
 use Rattle.shard_version.proofs.version.Version.with_row.Goals as goal
@@ -29,9 +30,9 @@ insert_in_each-requires g c =
     let kept : IsKept (contents_of c.self.inside.shard c.self.inside.shards c.self.inside.at layout stored) stored tables = c.self.invariant in
     let placed : IsPlace stored key place = rw (← c.deref.ensures.value) c.place_of-place.ensures in
     let few = c.self.invariant.few_words in
-    let absent : code_at (map (unpadded layout.bits) stored) key ≡ None = ap (λ (contents : Contents). code_at contents.rows key) c.self.view_is ∙ c.requires.absent in
-    let stands : StandsFor g.row.W layout.bits c.args.code (take layout.bits c.args.code) = subst (λ (contents : Contents). StandsFor g.row.W contents.layout.bits c.args.code (take contents.layout.bits c.args.code)) (sym c.self.view_is) c.requires.code in
-    let room : c.self.inside.at < 1048576 = subst (λ (contents : Contents). contents.at < 1048576) (sym c.self.view_is) c.requires.room in
+    let absent : code_at (map (unpadded layout.bits) stored) key ≡ None = ap (λ (contents : Contents). code_at contents.rows key) (ap (λ (version : Tabled). version.contents) c.self.view_is) ∙ c.requires.absent in
+    let stands : StandsFor g.row.W layout.bits c.args.code (take layout.bits c.args.code) = subst (λ (contents : Contents). StandsFor g.row.W contents.layout.bits c.args.code (take contents.layout.bits c.args.code)) (sym (ap (λ (version : Tabled). version.contents) c.self.view_is)) c.requires.code in
+    let room : c.self.inside.at < 1048576 = subst (λ (contents : Contents). contents.at < 1048576) (sym (ap (λ (version : Tabled). version.contents) c.self.view_is)) c.requires.room in
     rw c.deref-2.ensures (
       omega arith,
       (
@@ -58,10 +59,10 @@ invariant_of-self g c =
     let place = c.place_of-place.result in
     let kept : IsKept (contents_of c.self.inside.shard c.self.inside.shards c.self.inside.at layout stored) stored tables = c.self.invariant in
     let placed : IsPlace stored key place = rw (← c.deref.ensures.value) c.place_of-place.ensures in
-    let absent : code_at (map (unpadded layout.bits) stored) key ≡ None = ap (λ (contents : Contents). code_at contents.rows key) c.self.view_is ∙ c.requires.absent in
-    let stands : StandsFor g.row.W layout.bits c.args.code (take layout.bits c.args.code) = subst (λ (contents : Contents). StandsFor g.row.W contents.layout.bits c.args.code (take contents.layout.bits c.args.code)) (sym c.self.view_is) c.requires.code in
-    let room : c.self.inside.at < 1048576 = subst (λ (contents : Contents). contents.at < 1048576) (sym c.self.view_is) c.requires.room in
-    let own : key % c.self.inside.shards ≡ c.self.inside.shard = subst (λ (contents : Contents). key % contents.shards ≡ contents.shard) (sym c.self.view_is) c.requires.own in
+    let absent : code_at (map (unpadded layout.bits) stored) key ≡ None = ap (λ (contents : Contents). code_at contents.rows key) (ap (λ (version : Tabled). version.contents) c.self.view_is) ∙ c.requires.absent in
+    let stands : StandsFor g.row.W layout.bits c.args.code (take layout.bits c.args.code) = subst (λ (contents : Contents). StandsFor g.row.W contents.layout.bits c.args.code (take contents.layout.bits c.args.code)) (sym (ap (λ (version : Tabled). version.contents) c.self.view_is)) c.requires.code in
+    let room : c.self.inside.at < 1048576 = subst (λ (contents : Contents). contents.at < 1048576) (sym (ap (λ (version : Tabled). version.contents) c.self.view_is)) c.requires.room in
+    let own : key % c.self.inside.shards ≡ c.self.inside.shard = subst (λ (contents : Contents). key % contents.shards ≡ contents.shard) (sym (ap (λ (version : Tabled). version.contents) c.self.view_is)) c.requires.own in
     let changed : AreChanged (Taken layout key c.args.code (take layout.bits c.args.code)) tables c.insert_in_each.new.tables.items (length tables) =
     subst (λ (laid : Laid). AreChanged (Taken laid key c.args.code (take laid.bits c.args.code)) tables c.insert_in_each.new.tables.items (length tables)) c.deref-2.ensures c.in_ok-insert_in_each.ensures in
     rw c.in-Ok.ensures.items
@@ -78,8 +79,8 @@ returns g c =
     let kept : IsKept (contents_of c.self.inside.shard c.self.inside.shards c.self.inside.at layout stored) stored tables = c.self.invariant in
     let placed : IsPlace stored key place = rw (← c.deref.ensures.value) c.place_of-place.ensures in
     let seen = contents_of c.self.inside.shard c.self.inside.shards c.self.inside.at layout stored in
-    let absent : code_at (map (unpadded layout.bits) stored) key ≡ None = ap (λ (contents : Contents). code_at contents.rows key) c.self.view_is ∙ c.requires.absent in
-    let stands : StandsFor g.row.W layout.bits c.args.code (take layout.bits c.args.code) = subst (λ (contents : Contents). StandsFor g.row.W contents.layout.bits c.args.code (take contents.layout.bits c.args.code)) (sym c.self.view_is) c.requires.code in
+    let absent : code_at (map (unpadded layout.bits) stored) key ≡ None = ap (λ (contents : Contents). code_at contents.rows key) (ap (λ (version : Tabled). version.contents) c.self.view_is) ∙ c.requires.absent in
+    let stands : StandsFor g.row.W layout.bits c.args.code (take layout.bits c.args.code) = subst (λ (contents : Contents). StandsFor g.row.W contents.layout.bits c.args.code (take contents.layout.bits c.args.code)) (sym (ap (λ (version : Tabled). version.contents) c.self.view_is)) c.requires.code in
     ap (next_with seen) (ap (map (unpadded layout.bits)) c.in-Ok.ensures.items
     ∙ rows_with_row c.self.inside.shard c.self.inside.shards c.self.inside.at layout stored tables kept key place placed c.args.code absent stands)
-    ∙ ap (λ (contents : Contents). next_with contents (insert_entry nat_cmp contents.rows key (take contents.layout.bits c.args.code))) c.self.view_is
+    ∙ ap (λ (contents : Contents). next_with contents (insert_entry nat_cmp contents.rows key (take contents.layout.bits c.args.code))) (ap (λ (version : Tabled). version.contents) c.self.view_is)

@@ -9,6 +9,7 @@ use Rattle.hamming_model.specs.History.{code_at}
 use Rattle.part_layout.specs.Laid.{Laid}
 use Rattle.search_model.specs.Reading.{unpadded}
 use Rattle.shard_version.specs.Contents.{Contents}
+use Rattle.shard_version.specs.Tables.{Tabled}
 use Rattle.shard_version.specs.Kept.{AreChanged, IsKept, IsPlace, Lost, contents_of, next_with}
 use Rattle.shard_version.proofs.KeptLemmas.{each_has, kept_without_row, place_inside, row_there, rows_without_row, stands_own, stored_ascend}
 use Rattle.shard_version.proofs.version.Version.without_row.Goals as goal
@@ -28,7 +29,7 @@ index-requires g c =
     let place = c.place_of-place.result in
     let kept : IsKept (contents_of c.self.inside.shard c.self.inside.shards c.self.inside.at layout stored) stored tables = c.self.invariant in
     let placed : IsPlace stored key place = rw (← c.deref.ensures.value) c.place_of-place.ensures in
-    let present : is_some (code_at (map (unpadded layout.bits) stored) key) ≡ true = ap (λ (contents : Contents). is_some (code_at contents.rows key)) c.self.view_is ∙ c.requires.present in
+    let present : is_some (code_at (map (unpadded layout.bits) stored) key) ≡ true = ap (λ (contents : Contents). is_some (code_at contents.rows key)) (ap (λ (version : Tabled). version.contents) c.self.view_is) ∙ c.requires.present in
     let inside : place < length stored = place_inside c.self.inside.shard c.self.inside.shards c.self.inside.at layout stored tables kept key place placed present in
     search rules
 
@@ -41,7 +42,7 @@ remove_from_each-requires g c =
     let place = c.place_of-place.result in
     let kept : IsKept (contents_of c.self.inside.shard c.self.inside.shards c.self.inside.at layout stored) stored tables = c.self.invariant in
     let placed : IsPlace stored key place = rw (← c.deref.ensures.value) c.place_of-place.ensures in
-    let present : is_some (code_at (map (unpadded layout.bits) stored) key) ≡ true = ap (λ (contents : Contents). is_some (code_at contents.rows key)) c.self.view_is ∙ c.requires.present in
+    let present : is_some (code_at (map (unpadded layout.bits) stored) key) ≡ true = ap (λ (contents : Contents). is_some (code_at contents.rows key)) (ap (λ (version : Tabled). version.contents) c.self.view_is) ∙ c.requires.present in
     let code = c.index.result.now.1 in
     let is : (key, code) ≡ get_or stored place (key, code) = row_there c.self.inside.shard c.self.inside.shards c.self.inside.at layout stored tables kept key place placed present c.index.result.now c.index.ensures in
     let few = c.self.invariant.few_words in
@@ -71,7 +72,7 @@ remove-requires g c =
     let place = c.place_of-place.result in
     let kept : IsKept (contents_of c.self.inside.shard c.self.inside.shards c.self.inside.at layout stored) stored tables = c.self.invariant in
     let placed : IsPlace stored key place = rw (← c.deref.ensures.value) c.place_of-place.ensures in
-    let present : is_some (code_at (map (unpadded layout.bits) stored) key) ≡ true = ap (λ (contents : Contents). is_some (code_at contents.rows key)) c.self.view_is ∙ c.requires.present in
+    let present : is_some (code_at (map (unpadded layout.bits) stored) key) ≡ true = ap (λ (contents : Contents). is_some (code_at contents.rows key)) (ap (λ (version : Tabled). version.contents) c.self.view_is) ∙ c.requires.present in
     let inside : place < length stored = place_inside c.self.inside.shard c.self.inside.shards c.self.inside.at layout stored tables kept key place placed present in
     search rules
 
@@ -84,10 +85,10 @@ invariant_of-self g c =
     let place = c.place_of-place.result in
     let kept : IsKept (contents_of c.self.inside.shard c.self.inside.shards c.self.inside.at layout stored) stored tables = c.self.invariant in
     let placed : IsPlace stored key place = rw (← c.deref.ensures.value) c.place_of-place.ensures in
-    let present : is_some (code_at (map (unpadded layout.bits) stored) key) ≡ true = ap (λ (contents : Contents). is_some (code_at contents.rows key)) c.self.view_is ∙ c.requires.present in
+    let present : is_some (code_at (map (unpadded layout.bits) stored) key) ≡ true = ap (λ (contents : Contents). is_some (code_at contents.rows key)) (ap (λ (version : Tabled). version.contents) c.self.view_is) ∙ c.requires.present in
     let code = c.index.result.now.1 in
     let is : (key, code) ≡ get_or stored place (key, code) = row_there c.self.inside.shard c.self.inside.shards c.self.inside.at layout stored tables kept key place placed present c.index.result.now c.index.ensures in
-    let room : c.self.inside.at < 1048576 = subst (λ (contents : Contents). contents.at < 1048576) (sym c.self.view_is) c.requires.room in
+    let room : c.self.inside.at < 1048576 = subst (λ (contents : Contents). contents.at < 1048576) (sym (ap (λ (version : Tabled). version.contents) c.self.view_is)) c.requires.room in
     let changed : AreChanged (Lost layout key (take layout.bits code)) tables c.remove_from_each.new.tables.items (length tables) =
     subst (λ (laid : Laid). AreChanged (Lost laid key (take laid.bits code)) tables c.remove_from_each.new.tables.items (length tables)) c.deref-2.ensures c.in_ok-remove_from_each.ensures in
     rw c.remove.ensures.items
@@ -102,9 +103,9 @@ returns g c =
     let place = c.place_of-place.result in
     let kept : IsKept (contents_of c.self.inside.shard c.self.inside.shards c.self.inside.at layout stored) stored tables = c.self.invariant in
     let placed : IsPlace stored key place = rw (← c.deref.ensures.value) c.place_of-place.ensures in
-    let present : is_some (code_at (map (unpadded layout.bits) stored) key) ≡ true = ap (λ (contents : Contents). is_some (code_at contents.rows key)) c.self.view_is ∙ c.requires.present in
+    let present : is_some (code_at (map (unpadded layout.bits) stored) key) ≡ true = ap (λ (contents : Contents). is_some (code_at contents.rows key)) (ap (λ (version : Tabled). version.contents) c.self.view_is) ∙ c.requires.present in
     let code = c.index.result.now.1 in
     let is : (key, code) ≡ get_or stored place (key, code) = row_there c.self.inside.shard c.self.inside.shards c.self.inside.at layout stored tables kept key place placed present c.index.result.now c.index.ensures in
     let seen = contents_of c.self.inside.shard c.self.inside.shards c.self.inside.at layout stored in
     ap (next_with seen) (ap (map (unpadded layout.bits)) c.remove.ensures.items ∙ rows_without_row c.self.inside.shard c.self.inside.shards c.self.inside.at layout stored tables kept key place placed present code is)
-    ∙ ap (λ (contents : Contents). next_with contents (remove_entry (is_at (nat_cmp key)) contents.rows)) c.self.view_is
+    ∙ ap (λ (contents : Contents). next_with contents (remove_entry (is_at (nat_cmp key)) contents.rows)) (ap (λ (version : Tabled). version.contents) c.self.view_is)
