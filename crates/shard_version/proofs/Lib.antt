@@ -1,0 +1,5 @@
+mod PlaceLemmas
+mod SumLemmas
+mod PartLemmas
+mod HistoryLemmas
+mod KeptLemmas
