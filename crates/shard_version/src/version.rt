@@ -1,17 +1,13 @@
 //! The tables of one shard after the first entries of a history.
 
-ghost use Rattle.std.specs.Prelude.{◌≡◌, ℕ, ◌+◌, ◌*◌, ◌%◌, ◌==◌, ◌<◌, ◌≤◌, length, map, min, take, true, None, is_some, IfOk, OnErr, OnOk};
-ghost use Rattle.std.specs.BTreeMap.{insert_entry, is_at};
-ghost use Rattle.std.specs.Map.{remove_entry};
-ghost use Rattle.std.specs.Ordering.{nat_cmp};
+ghost use Rattle.std.specs.Prelude.{◌≡◌, ℕ, ◌+◌, ◌*◌, ◌%◌, ◌==◌, ◌<◌, ◌≤◌, length, min, take, true, None, is_some, IfOk, OnErr, OnOk};
 ghost use Rattle.std.specs.Arc.{arc_value};
 ghost use Rattle.hamming_model.specs.Codes.{StandsFor};
 ghost use Rattle.hamming_model.specs.History.{code_at};
 ghost use Rattle.entry_log.specs.Meaning.{MeansEntry};
 ghost use Rattle.shard_version.specs.Contents.{IsVersion, FitsShard, after_entry, empty_of, entry_of};
-ghost use Rattle.search_model.specs.Reading.{unpadded};
-ghost use Rattle.shard_version.specs.Kept.{next_with};
-ghost use Rattle.shard_version.specs.Tables.{ArePostings, AreStored, counts_of};
+ghost use Rattle.shard_version.specs.Kept.{next_with, with_added, with_deleted};
+ghost use Rattle.shard_version.specs.Tables.{AreFirst, ArePostings, AreStored, counts_of};
 
 use crate::part_table::PartTable;
 use crate::places::{place_of, stands_at};
@@ -158,7 +154,7 @@ impl<const W: usize> Version<W> {
         requires own { key % self.shards ≡ self.shard }
         requires code { StandsFor W self.layout.bits code (take self.layout.bits code) }
         requires absent { code_at self.rows key ≡ None }
-        ensures { IfOk result (λ version. version ≡ next_with self.entry (insert_entry nat_cmp self.entry.rows key (take self.entry.layout.bits code.entry))) }
+        ensures { IfOk result (λ version. version ≡ with_added self.entry key code.entry) }
     {
         changes_follow_a_list();
         counts_are_those_of_a_list();
@@ -175,7 +171,7 @@ impl<const W: usize> Version<W> {
     fn without_row(mut self, key: u64) -> Result<Version<W>, NoMemory>
         requires room { self.at < ENTRIES }
         requires present { is_some (code_at self.rows key) ≡ true }
-        ensures { IfOk result (λ version. version ≡ next_with self.entry (remove_entry (is_at (nat_cmp key)) self.entry.rows)) }
+        ensures { IfOk result (λ version. version ≡ with_deleted self.entry key) }
     {
         changes_follow_a_list();
         let place = place_of(&self.rows, key);
@@ -246,8 +242,8 @@ impl<const W: usize> Version<W> {
         &self.tables[part as usize].counts
     }
 
-    /// The rows of least key, so many, or all where there are fewer, in the order of their keys: one step
-    /// for each.
+    /// The rows of least key, so many, or all where there are fewer, in the order of their keys. Adds
+    /// one step for each.
     ///
     /// # Errors
     ///
@@ -257,7 +253,7 @@ impl<const W: usize> Version<W> {
         n: u32,
         steps: &mut Steps<M>,
     ) -> Result<Vec<(u64, Code<W>)>, NoMemory>
-        ensures rows { IfOk result (λ rows. map (unpadded self.now.layout.bits) rows.items ≡ take n self.now.rows) }
+        ensures rows { IfOk result (λ rows. AreFirst n self.now rows.items) }
         ensures codes { IfOk result (λ rows. AreStored W self.now.layout.bits rows.items) }
         ensures steps { OnOk result (steps.new ≡ steps.old + min n (length self.now.rows)) }
         ensures unread { OnErr result (steps.new ≡ steps.old) }
