@@ -20,3 +20,5 @@ mod postings;
 mod scan;
 #[cfg(test)]
 mod thresholds;
+#[cfg(test)]
+mod versions;
