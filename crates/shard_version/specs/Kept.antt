@@ -1,6 +1,9 @@
 -- How a version is kept, and what its parts take from a change of one row. No public clause cites this module.
 use Rattle.std.specs.Prelude.{◌≡◌, ℕ, ◌+◌, ◌*◌, ◌^◌, ◌<◌, ◌≤◌, true, false, List, map, length, take, drop, slice_index_or}
+use Rattle.std.specs.BTreeMap.{insert_entry, is_at}
 use Rattle.std.specs.List.{AllByRecursion}
+use Rattle.std.specs.Map.{remove_entry}
+use Rattle.std.specs.Ordering.{nat_cmp}
 use Rattle.hamming_model.specs.Layouts.{part_value}
 use Rattle.part_layout.specs.Laid.{Laid, part_at}
 use Rattle.posting_table.specs.Tables.{LosesEntry, has_key, posting_list, with_entry, with_list}
@@ -25,6 +28,14 @@ tabled_of contents tables = record { contents = contents; tables = map (λ table
 -- a version after one more entry, with these rows
 abbrev pub next_with : Contents → List (ℕ × List ℕ) → Contents
 next_with version rows = record version { at = version.at + 1; rows = rows }
+
+-- with a row more, whose code is the first so many bits of its words
+abbrev pub with_added : Contents → ℕ → List ℕ → Contents
+with_added version key stored = next_with version (insert_entry nat_cmp version.rows key (take version.layout.bits stored))
+
+-- and with the row of a key less
+abbrev pub with_deleted : Contents → ℕ → Contents
+with_deleted version key = next_with version (remove_entry (is_at (nat_cmp key)) version.rows)
 
 -- the tables of a part have the rows
 pub record IsPartTable {W : ℕ} (version : Contents) (part : ℕ) (table : PartTable W) : Type 0 where

@@ -18,6 +18,10 @@ part_values rows part = map (λ row. part_value row.1 part) rows
 abbrev pub AreStored : ℕ → ℕ → List (ℕ × List ℕ) → Type 0
 AreStored words bits entries = AllByRecursion (λ entry. StandsFor words bits entry.1 (take bits entry.1)) entries
 
+-- the rows of least key, so many or all, as their words keep them
+abbrev pub AreFirst : ℕ → Contents → List (ℕ × List ℕ) → Type 0
+AreFirst n version entries = map (unpadded version.layout.bits) entries ≡ take n version.rows
+
 -- the posting lists of a part have each row of a version once, in the list of its value, with the words of its code
 pub record ArePostings (words : ℕ) (version : Contents) (part : ℕ) (table : Table) : Type 0 where
   pub width : table.width ≡ length (part_at version.layout part)

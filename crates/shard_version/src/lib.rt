@@ -9,4 +9,4 @@ mod tables;
 mod version;
 
 pub use laws::{counts_are_of_the_rows, versions_follow_the_history};
-pub use version::Version;
+pub use version::{ENTRIES, Version};

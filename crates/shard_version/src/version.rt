@@ -1,17 +1,13 @@
 //! The tables of one shard after the first entries of a history.
 
-ghost use Rattle.std.specs.Prelude.{◌≡◌, ℕ, ◌+◌, ◌*◌, ◌%◌, ◌==◌, ◌<◌, ◌≤◌, length, map, min, take, true, None, is_some, IfOk, OnErr, OnOk};
-ghost use Rattle.std.specs.BTreeMap.{insert_entry, is_at};
-ghost use Rattle.std.specs.Map.{remove_entry};
-ghost use Rattle.std.specs.Ordering.{nat_cmp};
+ghost use Rattle.std.specs.Prelude.{◌≡◌, ℕ, ◌+◌, ◌*◌, ◌%◌, ◌==◌, ◌<◌, ◌≤◌, length, min, take, true, None, is_some, IfOk, OnErr, OnOk};
 ghost use Rattle.std.specs.Arc.{arc_value};
 ghost use Rattle.hamming_model.specs.Codes.{StandsFor};
 ghost use Rattle.hamming_model.specs.History.{code_at};
 ghost use Rattle.entry_log.specs.Meaning.{MeansEntry};
 ghost use Rattle.shard_version.specs.Contents.{IsVersion, FitsShard, after_entry, empty_of, entry_of};
-ghost use Rattle.search_model.specs.Reading.{unpadded};
-ghost use Rattle.shard_version.specs.Kept.{next_with};
-ghost use Rattle.shard_version.specs.Tables.{ArePostings, AreStored, HasTables, counts_of, table_at};
+ghost use Rattle.shard_version.specs.Kept.{next_with, with_added, with_deleted};
+ghost use Rattle.shard_version.specs.Tables.{AreFirst, ArePostings, AreStored, HasTables, counts_of, table_at};
 
 use crate::part_table::PartTable;
 use crate::places::{place_of, stands_at};
@@ -158,7 +154,7 @@ impl<const W: usize> Version<W> {
         requires own { key % self.contents.shards ≡ self.contents.shard }
         requires code { StandsFor W self.contents.layout.bits code (take self.contents.layout.bits code) }
         requires absent { code_at self.contents.rows key ≡ None }
-        ensures { IfOk result (λ version. version.contents ≡ next_with self.entry.contents (insert_entry nat_cmp self.entry.contents.rows key (take self.entry.contents.layout.bits code.entry))) }
+        ensures { IfOk result (λ version. version.contents ≡ with_added self.entry.contents key code.entry) }
     {
         changes_follow_a_list();
         counts_are_those_of_a_list();
@@ -175,7 +171,7 @@ impl<const W: usize> Version<W> {
     fn without_row(mut self, key: u64) -> Result<Version<W>, NoMemory>
         requires room { self.contents.at < ENTRIES }
         requires present { is_some (code_at self.contents.rows key) ≡ true }
-        ensures { IfOk result (λ version. version.contents ≡ next_with self.entry.contents (remove_entry (is_at (nat_cmp key)) self.entry.contents.rows)) }
+        ensures { IfOk result (λ version. version.contents ≡ with_deleted self.entry.contents key) }
     {
         changes_follow_a_list();
         let place = place_of(&self.rows, key);
@@ -249,8 +245,8 @@ impl<const W: usize> Version<W> {
         &self.tables[part as usize].counts
     }
 
-    /// The rows of least key, so many, or all where there are fewer, in the order of their keys: one step
-    /// for each.
+    /// The rows of least key, so many, or all where there are fewer, in the order of their keys. Adds
+    /// one step for each.
     ///
     /// # Errors
     ///
@@ -260,7 +256,7 @@ impl<const W: usize> Version<W> {
         n: u32,
         steps: &mut Steps<M>,
     ) -> Result<Vec<(u64, Code<W>)>, NoMemory>
-        ensures rows { IfOk result (λ rows. map (unpadded self.now.contents.layout.bits) rows.items ≡ take n self.now.contents.rows) }
+        ensures rows { IfOk result (λ rows. AreFirst n self.now.contents rows.items) }
         ensures codes { IfOk result (λ rows. AreStored W self.now.contents.layout.bits rows.items) }
         ensures steps { OnOk result (steps.new ≡ steps.old + min n (length self.now.contents.rows)) }
         ensures unread { OnErr result (steps.new ≡ steps.old) }
