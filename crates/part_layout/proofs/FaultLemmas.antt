@@ -184,6 +184,12 @@ pub as_many : (bits : ℕ) (numbers : List ℕ) → first_beyond bits numbers �
 as_many bits numbers small single whole =
     sym (tally_all bits numbers (none_beyond bits numbers small)) ∙ tally_ones bits numbers (once_of bits numbers single whole)
 
+-- a code has few bits, and so there are few numbers
+pub few_numbers : (bits : ℕ) (numbers : List ℕ) (beyond missing : Option ℕ) → beyond ≡ first_beyond bits numbers → beyond ≡ None
+    → first_repeated [] numbers ≡ None → missing ≡ least_missing bits numbers → missing ≡ None → bits ≤ 256 → length numbers ≤ 256
+few_numbers bits numbers beyond missing judged small single sought whole few =
+    let all = as_many bits numbers (sym judged ∙ small) single (sym sought ∙ whole) in omega arith
+
 -- a first part that isn't too wide
 wide_first : (at : ℕ) (part : List ℕ) (parts : List (List ℕ)) → position_from (λ p. nat_lt 12 (length p)) at (part ∷ parts) ≡ None
     → (length part ≤ 12) × (position_from (λ p. nat_lt 12 (length p)) (at + 1) parts ≡ None)

@@ -1,11 +1,12 @@
 -- The faults of a text's numbers, one position at a time.
-use Rattle.std.proofs.Common.{◌≡◌, ℕ, suc, ◌+◌, ◌-◌, ◌<◌, ◌≤◌, ◌==◌, ◌||◌, not, cond, nat_le, nat_lt, Bool, true, false, inl, inr, List, [], ◌∷◌, ◌++◌, Option, Some, None, length, replicate, slice_set, slice_index_or, refl, sym, ◌∙◌, ap, arith, append_assoc}
+use Rattle.std.proofs.Common.{◌≡◌, ℕ, suc, ◌+◌, ◌-◌, ◌<◌, ◌≤◌, ◌==◌, ◌||◌, not, cond, nat_le, nat_lt, Bool, true, false, inl, inr, List, [], ◌∷◌, ◌++◌, All, Option, Some, None, length, replicate, slice_set, slice_index_or, refl, sym, ◌∙◌, ap, arith, append_assoc}
 use Rattle.std.specs.List.{find, onto_first, position_from, range_with_len}
 use Rattle.std.proofs.lemmas.Bool.{cases_eq, eq-eqb, ne_eqb}
 use Rattle.std.proofs.lemmas.Bool.Decides.{nat_tests}
+use Rattle.std.proofs.lemmas.List.Elements.{All-head, All-tail}
 use Rattle.std.proofs.lemmas.List.{length-set, get_or-replicate, get_or-set_other, get_or-set_same}
 use Rattle.part_layout.specs.Faults.{first_beyond, first_repeated, numbers_of, stands_in}
-use Rattle.part_layout.specs.ReadOn.{grown, parts_left, Tells}
+use Rattle.part_layout.specs.ReadOn.{grown, numbers_left, parts_left, Tells}
 use Rattle.part_layout.specs.declared.cursor.Listed.{Listed}
 use Rattle.part_layout.proofs.CursorLemmas.{numbers_grown}
 use Rattle.part_layout.proofs.GrammarLemmas.{by_test}
@@ -14,6 +15,16 @@ use Rattle.part_layout.proofs.GrammarLemmas.{by_test}
 pub numbers_next : (rest after : List ℕ) (listed : Listed) → parts_left rest ≡ grown listed (parts_left after)
     → numbers_of (parts_left rest) ≡ listed.position ∷ numbers_of (parts_left after)
 numbers_next rest after listed same = ap numbers_of same ∙ numbers_grown listed (parts_left after)
+
+-- they are small, as all are
+pub small_next : (rest after : List ℕ) (listed : Listed) → parts_left rest ≡ grown listed (parts_left after) → All (λ number. number < 256) (numbers_left rest)
+    → (listed.position < 256) × All (λ number. number < 256) (numbers_left after)
+small_next rest after listed same small =
+    let next = numbers_next rest after listed same in
+    let both : All (λ number. number < 256) (listed.position ∷ numbers_left after) = rw next at small in (
+      All-head (λ number. number < 256) listed.position (numbers_left after) both,
+      All-tail (λ number. number < 256) listed.position (numbers_left after) both,
+    )
 
 -- a first number that is beyond, and one that isn't
 pub beyond_here : (bits n : ℕ) (numbers others : List ℕ) → numbers ≡ n ∷ others → bits ≤ n → first_beyond bits numbers ≡ Some n

@@ -3,7 +3,7 @@ use Rattle.std.proofs.Common.{◌≡◌, ℕ, ◌+◌, not, Bool, true, false, i
 use Rattle.std.specs.Option.{option_map}
 use Rattle.std.proofs.lemmas.Bool.{cases_lt}
 use Rattle.std.proofs.lemmas.List.{take-append-drop}
-use Rattle.part_layout.specs.Faults.{fault_of, first_beyond, first_repeated, first_there, first_wide, least_missing, numbers_of, too_many, HasFault}
+use Rattle.part_layout.specs.Faults.{fault_of, first_beyond, first_repeated, first_there, first_wide, least_missing, numbers_of, too_many, IsFault}
 use Rattle.part_layout.specs.Grammar.{IsLayoutText, IsSyntaxFault}
 use Rattle.part_layout.specs.declared.layout_fault.LayoutFault.{LayoutFault}
 use Rattle.part_layout.specs.declared.layout_fault.LayoutFault.TheVariants.{Syntax, Range, Twice, Missing, Width, Parts, NoMemory}
@@ -110,7 +110,7 @@ syntax_apart {T} text at answer other is = (
 -- a text that goes wrong spells no parts
 pub spelled_apart : {T : Type 0} (bits : ℕ) (text : List ℕ) (place : ℕ) (answer : Result T LayoutFault) (fault : LayoutFault)
     → tells_syntax answer ≡ true → is_syntax fault ≡ false → IsSyntaxFault text place
-    → (answer ≡ Err fault → HasFault bits text fault) × (HasFault bits text fault → answer ≡ Err fault)
+    → (answer ≡ Err fault → IsFault bits text fault) × (IsFault bits text fault → answer ≡ Err fault)
 spelled_apart {T} bits text place answer fault tells other wrong = (
   (λ told. absurd (let both : true ≡ false = sym tells ∙ ap tells_syntax told ∙ other in cc)),
   (λ spelled. absurd (whole_text text place spelled.text_of_grammar wrong)),

@@ -20,7 +20,7 @@ stands_in numbers number = list_any (λ other. other == number) numbers
 abbrev pub first_beyond : ℕ → List ℕ → Option ℕ
 first_beyond bits numbers = find (λ number. nat_le bits number) numbers
 
--- the first number that stands before it, among numbers before or its own
+-- the first of the numbers that stood already, in those before or among these
 abbrev pub first_repeated : List ℕ → List ℕ → Option ℕ
 first_repeated before [] = None
 first_repeated before (number ∷ numbers) =
@@ -57,7 +57,7 @@ fault_of bits parts =
     )
 
 -- a text of the grammar spells parts with this fault
-pub record HasFault (bits : ℕ) (text : List ℕ) (fault : LayoutFault) : Type 0 where
+pub record IsFault (bits : ℕ) (text : List ℕ) (fault : LayoutFault) : Type 0 where
   pub text_of_grammar : IsLayoutText text
   pub faulty : fault_of bits (spelled text) ≡ Some fault
 

@@ -3,7 +3,7 @@
 ghost use Rattle.std.specs.Prelude.{◌≡◌, ◌*◌, ◌^◌, ◌<◌, ◌≤◌, ◌↔◌, ℕ, length, take, slice_index, Err, IfErr, IfOk};
 ghost use Rattle.part_layout.specs.Laid.{IsAllowed, IsLaid, IsValue, part_at};
 ghost use Rattle.part_layout.specs.Contiguous.{CanBeCut, IsCutFault, IsNumberFault, IsWidthFault, can_be_cut, contiguous};
-ghost use Rattle.part_layout.specs.Faults.{IsFaultless, HasFault};
+ghost use Rattle.part_layout.specs.Faults.{IsFaultless, IsFault};
 ghost use Rattle.part_layout.specs.Grammar.{IsSyntaxFault, spelled};
 ghost use Rattle.part_layout.specs.Text.{layout_text};
 ghost use Rattle.part_layout.specs.declared.layout_fault.LayoutFault.TheVariants.{Missing, NoMemory, Parts, Range, Syntax, Twice, Width};
@@ -91,11 +91,11 @@ impl Layout {
         ensures faultless { IfOk result (λ layout. IsFaultless bits text.now) }
         // The faults.
         ensures syntax { (at : ℕ) → (result ≡ Err (Syntax at)) ↔ IsSyntaxFault text.now at }
-        ensures range { (n : ℕ) → (result ≡ Err (Range n)) ↔ HasFault bits text.now (Range n) }
-        ensures twice { (n : ℕ) → (result ≡ Err (Twice n)) ↔ HasFault bits text.now (Twice n) }
-        ensures missing { (n : ℕ) → (result ≡ Err (Missing n)) ↔ HasFault bits text.now (Missing n) }
-        ensures width { (n : ℕ) → (result ≡ Err (Width n)) ↔ HasFault bits text.now (Width n) }
-        ensures parts { (n : ℕ) → (result ≡ Err (Parts n)) ↔ HasFault bits text.now (Parts n) }
+        ensures range { (n : ℕ) → (result ≡ Err (Range n)) ↔ IsFault bits text.now (Range n) }
+        ensures twice { (n : ℕ) → (result ≡ Err (Twice n)) ↔ IsFault bits text.now (Twice n) }
+        ensures missing { (n : ℕ) → (result ≡ Err (Missing n)) ↔ IsFault bits text.now (Missing n) }
+        ensures width { (n : ℕ) → (result ≡ Err (Width n)) ↔ IsFault bits text.now (Width n) }
+        ensures parts { (n : ℕ) → (result ≡ Err (Parts n)) ↔ IsFault bits text.now (Parts n) }
         // Want of memory comes last.
         ensures memory { IfErr result (λ fault. (fault ≡ NoMemory) ↔ IsFaultless bits text.now) }
     {
