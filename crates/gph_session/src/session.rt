@@ -20,7 +20,7 @@ use crate::opening::open;
 use crate::output::say;
 use crate::rows::Rows;
 use line_io::{Cut, Cutter, Failed, LineBuf, Sink};
-use part_layout::{Config, Layout};
+use part_layout::{Config, Layout, LayoutFault};
 use query_protocol::{Bad, Reply, Request, read_line};
 use read_meter::NoMemory;
 use slab::Slab;
@@ -83,14 +83,15 @@ pub(crate) fn new_session<const W: usize>(
     }
 }
 
-// The contiguous layout, which is there for what a session may be asked.
+// The contiguous layout. What a session may be asked can be cut so, and only memory may be wanting.
 fn starting_layout(alloc: Global, config: &Config) -> Result<Layout, NoMemory>
     requires { IsConfig config.now }
     ensures { IfOk result (λ layout. layout.parts ≡ contiguous config.now.bits config.now.parts) }
 {
     match Layout::contiguous(alloc, config.bits, config.parts) {
         Ok(layout) => Ok(layout),
-        Err(_) => Err(NoMemory),
+        Err(LayoutFault::NoMemory) => Err(NoMemory),
+        Err(_) => unreachable!(),
     }
 }
 

@@ -11,6 +11,8 @@ mod counts;
 #[cfg(test)]
 mod entries;
 #[cfg(test)]
+mod layouts;
+#[cfg(test)]
 mod meters;
 #[cfg(test)]
 mod plain;
@@ -22,3 +24,5 @@ mod scan;
 mod sources;
 #[cfg(test)]
 mod thresholds;
+#[cfg(test)]
+mod versions;

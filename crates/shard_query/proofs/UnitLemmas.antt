@@ -75,7 +75,7 @@ module _ (p : Planned) (w : Place) (hits : Window) (reads : ℕ) (is : IsTask p 
   floor_after false searching = omega arith
   floor_after true all =
       let found = is.found_all (eqb-true reads p.least all) in
-      let up : Ascends hits.found = subst Ascends (sym found) (ascends_in_order (hits_within p.version.rows (query_of p) p.tau)) in
+      let up : Ascends hits.found = subst Ascends (sym found) (ascends_in_order (hits_within p.version.contents.rows (query_of p) p.tau)) in
       subst (λ xs. NotBelow (first_distance (left_of hits)) (first_distance xs)) (drop-drop (length (take 1 (waiting_of hits))) hits.given hits.found)
       (floor_rises (length (take 1 (waiting_of hits))) (left_of hits) (ascends_drop hits.given hits.found up))
 

@@ -52,7 +52,7 @@ module _ (p : Planned) (w : Place) (hits : Window) (reads : ℕ) (is : IsTask p 
   when_read : reads ≡ p.least → IsLawful (asked_of p hits.room) (standing_at p w hits reads true)
   when_read all =
       let found = is.found_all all in
-      let up : Ascends hits.found = subst Ascends (sym found) (ascends_in_order (hits_within p.version.rows (query_of p) p.tau)) in
+      let up : Ascends hits.found = subst Ascends (sym found) (ascends_in_order (hits_within p.version.contents.rows (query_of p) p.tau)) in
       let reached_all = given_or_waiting in
       let number = ap length found in
       let among = is.window.among in

@@ -10,16 +10,16 @@ use Rattle.shard_walk.specs.Walks.{Place, IsPlace, hits_left, reads_left, values
 
 -- the answer to a planned query
 abbrev pub scan_of : Planned → List Hit
-scan_of p = scan p.version.rows (query_of p) p.tau
+scan_of p = scan p.version.contents.rows (query_of p) p.tau
 
 -- what a planned query asks, where so many hits may wait
 abbrev pub asked_of : Planned → ℕ → Asked
 asked_of p room = record {
   hits = scan_of p;
-  rows = length p.version.rows;
+  rows = length p.version.contents.rows;
   near = false;
   room = room;
-  farthest = p.version.layout.bits;
+  farthest = p.version.contents.layout.bits;
   plan = λ given. (p.thresholds, p.least);
   bound = λ given. p.least;
 }

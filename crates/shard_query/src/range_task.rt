@@ -45,13 +45,13 @@ impl<const W: usize> RangeTask<W> {
         room: usize,
     ) -> Result<RangeTask<W>, NoMemory>
         requires few_words { W ≤ 8 }
-        requires code { StandsFor W (arc_value version).layout.bits query (code_of (arc_value version) query) }
-        requires near { tau ≤ (arc_value version).layout.bits }
+        requires code { StandsFor W (arc_value version).contents.layout.bits query (code_of (arc_value version).contents query) }
+        requires near { tau ≤ (arc_value version).contents.layout.bits }
         requires some_room { 1 ≤ room }
         requires small_room { room ≤ 256 }
         ensures asked { IfOk result (λ task.
-            AsksRange (arc_value version.entry) (code_of (arc_value version.entry) query.entry) tau room (⟦<RangeTask<W> as HitSource>⟧.asked task)) }
-        ensures begins { IfOk result (λ task. BeginsRange (arc_value version.entry)
+            AsksRange (arc_value version.entry).contents (code_of (arc_value version.entry).contents query.entry) tau room (⟦<RangeTask<W> as HitSource>⟧.asked task)) }
+        ensures begins { IfOk result (λ task. BeginsRange (arc_value version.entry).contents
             (⟦<RangeTask<W> as HitSource>⟧.asked task) (⟦<RangeTask<W> as HitSource>⟧.standing task)) }
     {
         hits_are_few();

@@ -1,1 +1,5 @@
-pub mod CountLemmas
+mod PlaceLemmas
+mod SumLemmas
+mod PartLemmas
+mod HistoryLemmas
+mod KeptLemmas

@@ -1,5 +1,5 @@
 -- What a contract sees of a version: its shard, how much of the history it has taken in, its layout and its rows.
-use Rattle.std.specs.Prelude.{◌≡◌, ℕ, ◌+◌, ◌%◌, ◌==◌, ◌<◌, ◌≤◌, if◌then◌else◌, List, [], length, map, take, refl}
+use Rattle.std.specs.Prelude.{◌≡◌, ℕ, ◌+◌, ◌%◌, ◌==◌, ◌<◌, ◌≤◌, if◌then◌else◌, List, [], length, take, refl}
 use Rattle.std.specs.Coded.{Coded, code_by, coded×, coded_list, coded_ℕ}
 use Rattle.std.specs.List.{AllByRecursion}
 use Rattle.std.specs.List.Sorted.{IsStrictlySortedBy}
@@ -13,30 +13,28 @@ use Rattle.entry_log.specs.declared.entry.Entry.{Entry}
 use Rattle.entry_log.specs.declared.op.Op.{Op}
 use Rattle.entry_log.specs.declared.op.Op.TheVariants.{Add, Delete}
 use Rattle.part_layout.specs.Laid.{Laid, IsLaid, laid_code}
-use Rattle.posting_table.specs.Tables.{Table, table_code, empty_table}
+use Rattle.shard_version.specs.declared.version.TheConstants.{ENTRIES}
 
--- the shard of so many, the number of entries taken in, the layout, the rows: key and code, ascending by key, and the posting table of
--- each part
+-- the shard of so many, the number of entries taken in, the layout, and the rows: key and code, ascending by key
 pub record Contents : Type 0 where
   pub shard : ℕ
   pub shards : ℕ
   pub at : ℕ
   pub layout : Laid
   pub rows : List (ℕ × List ℕ)
-  pub tables : List Table
 
 -- the contents as a tuple
 abbrev pub contents_code : Coded Contents
 contents_code =
-    code_by (ℕ × (ℕ × (ℕ × (Laid × (List (ℕ × List ℕ) × List Table)))))
-    (coded× coded_ℕ (coded× coded_ℕ (coded× coded_ℕ (coded× laid_code (coded× (coded_list (coded× coded_ℕ (coded_list coded_ℕ))) (coded_list table_code))))))
-    (λ c. (c.shard, (c.shards, (c.at, (c.layout, (c.rows, c.tables))))))
-    (λ t. record { shard = t.0; shards = t.1.0; at = t.1.1.0; layout = t.1.1.1.0; rows = t.1.1.1.1.0; tables = t.1.1.1.1.1 })
+    code_by (ℕ × (ℕ × (ℕ × (Laid × List (ℕ × List ℕ)))))
+    (coded× coded_ℕ (coded× coded_ℕ (coded× coded_ℕ (coded× laid_code (coded_list (coded× coded_ℕ (coded_list coded_ℕ)))))))
+    (λ c. (c.shard, (c.shards, (c.at, (c.layout, c.rows)))))
+    (λ t. record { shard = t.0; shards = t.1.0; at = t.1.1.0; layout = t.1.1.1.0; rows = t.1.1.1.1 })
     (λ _. refl)
 
 -- no entry taken in, and no row
 abbrev pub empty_of : ℕ → ℕ → Laid → Contents
-empty_of shard shards layout = record { shard = shard; shards = shards; at = 0; layout = layout; rows = []; tables = map (λ part. empty_table (length part)) layout.parts }
+empty_of shard shards layout = record { shard = shard; shards = shards; at = 0; layout = layout; rows = [] }
 
 -- the operation of an entry in the definitions' words: its code is the first so many bits that the words keep
 abbrev pub operation_of : {W : ℕ} → ℕ → Op W → Operation
@@ -69,4 +67,4 @@ pub record IsVersion (version : Contents) : Type 0 where
   pub ascending : IsStrictlySortedBy nat_cmp (keys_of version.rows)
   pub own_keys : AllByRecursion (λ row. row.0 % version.shards ≡ version.shard) version.rows
   pub from_entries : length version.rows ≤ version.at
-  pub few_entries : version.at ≤ 1048576
+  pub few_entries : version.at ≤ ENTRIES

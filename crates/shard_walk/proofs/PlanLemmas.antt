@@ -11,8 +11,8 @@ use Rattle.ball_walk.proofs.DigitLemmas.{distance_codes}
 use Rattle.threshold_model.specs.Vectors.{units_of, row_counts, IsVector, IsChoice, IsLeast}
 use Rattle.threshold_model.specs.Finding.{threshold_at}
 use Rattle.search_model.proofs.PostingLemmas.{value_below, part_is_code}
-use Rattle.shard_version.specs.Contents.{Contents, IsVersion}
-use Rattle.shard_version.specs.Tables.{HasTables}
+use Rattle.shard_version.specs.Contents.{IsVersion}
+use Rattle.shard_version.specs.Tables.{Tabled, HasTables}
 use Rattle.shard_walk.specs.Counted.{count_in, HasCounts}
 use Rattle.shard_walk.specs.Planned.{Planned, planned_of, IsStored, parts_of, part_of, code_of, query_of, is_found}
 use Rattle.shard_walk.specs.Inside.{AreValues, IsKept}
@@ -27,10 +27,10 @@ value_small bits parts query values part value width is_code are_values less at 
 
 -- whether a part finds a code, by the values of code and query
 pub found_by : (words : ℕ) (p : Planned) (laid : Laid) (values stored : List ℕ) (part value own : ℕ) (t : ℤ) → IsKept words p values → part < length (parts_of p) → IsStored words p stored
-    → laid ≡ p.version.layout → IsValue words laid stored part value → own ≡ get_or values part own → t ≡ threshold_at p.thresholds part
+    → laid ≡ p.version.contents.layout → IsValue words laid stored part value → own ≡ get_or values part own → t ≡ threshold_at p.thresholds part
     → nat_lt (value_distance value own) (units_of t) ≡ is_found p part (code_of p stored)
 found_by words p laid values stored part value own t kept less is_stored same is_value at is_threshold =
-    let bits = p.version.layout.bits in
+    let bits = p.version.contents.layout.bits in
     let number = kept.values_are.number in
     let is_value_here = subst (λ l. IsValue words l stored part value) same is_value in
     let one = is_value_here (code_of p stored) is_stored in
@@ -43,23 +43,23 @@ found_by words p laid values stored part value own t kept less is_stored same is
     ∙ ap (λ u. nat_lt (part_distance (part_of p part) (code_of p stored) (query_of p)) (units_of u)) is_threshold
 
 -- what was planned is a plan
-pub plan_kept : (words : ℕ) (version : Contents) (stored values : List ℕ) (tau least parts : ℕ) (thresholds : List ℤ) (table : List (Vec ℕ))
+pub plan_kept : (words : ℕ) (version : Tabled) (stored values : List ℕ) (tau least parts : ℕ) (thresholds : List ℤ) (table : List (Vec ℕ))
     (most : (t p : ℕ) (ts : List ℤ) → IsVector t p ts → All (λ threshold. threshold ≤ℤ pos t) ts)
     (rows_most : (rows : List (ℕ × List ℕ)) (layout : List (List ℕ)) (query : List ℕ) (t l : ℕ) → 0 < length layout → IsLeast (row_counts rows layout query) t (length layout) l → l ≤ length rows)
-    → words ≤ 8 → StandsFor words version.layout.bits stored (take version.layout.bits stored) → tau ≤ version.layout.bits → IsVersion version → HasTables words version
-    → AreValues version.layout.parts (take version.layout.bits stored) values → parts ≡ length version.layout.parts → length table ≡ length version.layout.parts
-    → HasCounts table tau (row_counts version.rows version.layout.parts (take version.layout.bits stored))
+    → words ≤ 8 → StandsFor words version.contents.layout.bits stored (take version.contents.layout.bits stored) → tau ≤ version.contents.layout.bits → IsVersion version.contents → HasTables words version
+    → AreValues version.contents.layout.parts (take version.contents.layout.bits stored) values → parts ≡ length version.contents.layout.parts → length table ≡ length version.contents.layout.parts
+    → HasCounts table tau (row_counts version.contents.rows version.contents.layout.parts (take version.contents.layout.bits stored))
     → IsChoice (count_in table tau) tau parts thresholds → IsLeast (count_in table tau) tau parts least
     → IsKept words (planned_of version stored tau thresholds least) values
 plan_kept words version stored values tau least parts thresholds table most rows_most few_words query near is_version tables are_values number size counts choice is_least =
-    let count = row_counts version.rows version.layout.parts (take version.layout.bits stored) in
-    let agree = λ (part units : ℕ) (less : part < length version.layout.parts) (few : units ≤ tau + 1). counts part units (omega arith) few in
-    let of_choice = choice_agrees most (count_in table tau) count tau (length version.layout.parts) agree thresholds (subst (λ n. IsChoice (count_in table tau) tau n thresholds) number choice) in
-    let of_least = least_agrees most (count_in table tau) count tau (length version.layout.parts) agree least (subst (λ n. IsLeast (count_in table tau) tau n least) number is_least) in
+    let count = row_counts version.contents.rows version.contents.layout.parts (take version.contents.layout.bits stored) in
+    let agree = λ (part units : ℕ) (less : part < length version.contents.layout.parts) (few : units ≤ tau + 1). counts part units (omega arith) few in
+    let of_choice = choice_agrees most (count_in table tau) count tau (length version.contents.layout.parts) agree thresholds (subst (λ n. IsChoice (count_in table tau) tau n thresholds) number choice) in
+    let of_least = least_agrees most (count_in table tau) count tau (length version.contents.layout.parts) agree least (subst (λ n. IsLeast (count_in table tau) tau n least) number is_least) in
     record {
       plan = record {
         few_words = few_words; version = is_version; tables = tables; query = query; near = near; choice = of_choice; least = of_least;
-        few = rows_most version.rows version.layout.parts (take version.layout.bits stored) tau least is_version.laid.layout.some_part of_least;
+        few = rows_most version.contents.rows version.contents.layout.parts (take version.contents.layout.bits stored) tau least is_version.laid.layout.some_part of_least;
       };
       values_are = are_values;
     }

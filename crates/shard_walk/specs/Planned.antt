@@ -10,12 +10,12 @@ use Rattle.threshold_model.specs.Finding.{first_part, part_distances, threshold_
 use Rattle.posting_table.specs.Tables.{posting_list}
 use Rattle.search_model.specs.Reading.{unpadded}
 use Rattle.search_model.specs.Keeping.{is_kept}
-use Rattle.shard_version.specs.Contents.{Contents, IsVersion, contents_code}
-use Rattle.shard_version.specs.Tables.{HasTables, table_at}
+use Rattle.shard_version.specs.Contents.{IsVersion}
+use Rattle.shard_version.specs.Tables.{Tabled, tabled_code, HasTables, table_at}
 
 -- the version, the words of the query, its radius, and the threshold vector with its cost
 pub record Planned : Type 0 where
-  pub version : Contents
+  pub version : Tabled
   pub stored : List ℕ
   pub tau : ℕ
   pub thresholds : List ℤ
@@ -24,19 +24,19 @@ pub record Planned : Type 0 where
 -- a plan as a tuple
 abbrev pub planned_code : Coded Planned
 planned_code =
-    code_by (Contents × (List ℕ × (ℕ × (List ℤ × ℕ))))
-    (coded× contents_code (coded× (coded_list coded_ℕ) (coded× coded_ℕ (coded× (coded_list coded_ℤ) coded_ℕ))))
+    code_by (Tabled × (List ℕ × (ℕ × (List ℤ × ℕ))))
+    (coded× tabled_code (coded× (coded_list coded_ℕ) (coded× coded_ℕ (coded× (coded_list coded_ℤ) coded_ℕ))))
     (λ p. (p.version, (p.stored, (p.tau, (p.thresholds, p.least)))))
     (λ t. record { version = t.0; stored = t.1.0; tau = t.1.1.0; thresholds = t.1.1.1.0; least = t.1.1.1.1 })
     (λ _. refl)
 
 -- a plan by its parts
-abbrev pub planned_of : Contents → List ℕ → ℕ → List ℤ → ℕ → Planned
+abbrev pub planned_of : Tabled → List ℕ → ℕ → List ℤ → ℕ → Planned
 planned_of version stored tau thresholds least = record { version = version; stored = stored; tau = tau; thresholds = thresholds; least = least }
 
 -- the parts of the version's layout
 abbrev pub parts_of : Planned → List (List ℕ)
-parts_of p = p.version.layout.parts
+parts_of p = p.version.contents.layout.parts
 
 -- the positions of a part
 abbrev pub part_of : Planned → ℕ → List ℕ
@@ -44,11 +44,11 @@ part_of p part = slice_index_or (parts_of p) part []
 
 -- the code that words keep
 abbrev pub code_of : Planned → List ℕ → List ℕ
-code_of p stored = take p.version.layout.bits stored
+code_of p stored = take p.version.contents.layout.bits stored
 
 -- words that keep a code
 abbrev pub IsStored : ℕ → Planned → List ℕ → Type 0
-IsStored words p stored = StandsFor words p.version.layout.bits stored (code_of p stored)
+IsStored words p stored = StandsFor words p.version.contents.layout.bits stored (code_of p stored)
 
 -- the code of the query
 abbrev pub query_of : Planned → List ℕ
@@ -56,11 +56,11 @@ query_of p = code_of p p.stored
 
 -- how many rows are at the parts round the query
 abbrev pub counts_round : Planned → ℕ → ℕ → ℕ
-counts_round p = row_counts p.version.rows (parts_of p) (query_of p)
+counts_round p = row_counts p.version.contents.rows (parts_of p) (query_of p)
 
 -- the rows in the posting list of a part's value, in the order of the list
 abbrev pub list_of : Planned → ℕ → ℕ → List (ℕ × List ℕ)
-list_of p part value = map (unpadded p.version.layout.bits) (posting_list (table_at p.version part) value)
+list_of p part value = map (unpadded p.version.contents.layout.bits) (posting_list (table_at p.version part) value)
 
 -- whether a part finds a code
 abbrev pub is_found : Planned → ℕ → List ℕ → Bool
@@ -78,16 +78,16 @@ kept_hit p part row =
 -- the thresholds are the first of the cheapest vectors, for codes of so many words
 pub record IsPlan (words : ℕ) (p : Planned) : Type 0 where
   pub few_words : words ≤ 8
-  pub version : IsVersion p.version
+  pub version : IsVersion p.version.contents
   pub tables : HasTables words p.version
   pub query : IsStored words p p.stored
-  pub near : p.tau ≤ p.version.layout.bits
+  pub near : p.tau ≤ p.version.contents.layout.bits
   pub choice : IsChoice (counts_round p) p.tau (length (parts_of p)) p.thresholds
   pub least : IsLeast (counts_round p) p.tau (length (parts_of p)) p.least
-  pub few : p.least ≤ length p.version.rows
+  pub few : p.least ≤ length p.version.contents.rows
 
 -- what a plan is of: a query on a version
-pub record Plans (version : Contents) (stored : List ℕ) (tau : ℕ) (p : Planned) : Type 0 where
+pub record Plans (version : Tabled) (stored : List ℕ) (tau : ℕ) (p : Planned) : Type 0 where
   pub version_is : p.version ≡ version
   pub stored_is : p.stored ≡ stored
   pub tau_is : p.tau ≡ tau

@@ -37,12 +37,12 @@ impl PartTable {
         tau: u32,
     ) -> Result<PartTable, NoMemory>
         requires near { tau ≤ 512 }
-        requires query { StandsFor W version.now.layout.bits query.now (take version.now.layout.bits query.now) }
-        requires values { AreValues version.now.layout.parts (take version.now.layout.bits query.now) values.now }
+        requires query { StandsFor W version.now.contents.layout.bits query.now (take version.now.contents.layout.bits query.now) }
+        requires values { AreValues version.now.contents.layout.parts (take version.now.contents.layout.bits query.now) values.now }
         ensures tau { IfOk result (λ table. table.tau ≡ tau) }
-        ensures parts { IfOk result (λ table. length table.rows.items ≡ length version.now.layout.parts) }
+        ensures parts { IfOk result (λ table. length table.rows.items ≡ length version.now.contents.layout.parts) }
         ensures counts { IfOk result (λ table. HasCounts table.rows.items tau
-            (row_counts version.now.rows version.now.layout.parts (take version.now.layout.bits query.now))) }
+            (row_counts version.now.contents.rows version.now.contents.layout.parts (take version.now.contents.layout.bits query.now))) }
     {
         counts_of_rows_are_lawful();
         counts_are_of_the_rows();

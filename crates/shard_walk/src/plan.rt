@@ -66,8 +66,8 @@ impl<const W: usize> Plan<W> {
         tau: u32,
     ) -> Result<Plan<W>, NoMemory>
         requires few_words { W ≤ 8 }
-        requires query { StandsFor W (arc_value version).layout.bits query (take (arc_value version).layout.bits query) }
-        requires near { tau ≤ (arc_value version).layout.bits }
+        requires query { StandsFor W (arc_value version).contents.layout.bits query (take (arc_value version).contents.layout.bits query) }
+        requires near { tau ≤ (arc_value version).contents.layout.bits }
         ensures { IfOk result (λ plan. Plans (arc_value version.entry) query.entry tau plan) }
     {
         vector_allows_tau_and_one_units();
@@ -105,7 +105,7 @@ impl<const W: usize> Plan<W> {
 
     /// The rows of the version.
     pub fn rows(&self) -> u64
-        ensures { result ≡ length self.now.version.rows }
+        ensures { result ≡ length self.now.version.contents.rows }
     {
         self.version.rows()
     }
@@ -228,10 +228,10 @@ fn values_of<const W: usize>(
     version: &Version<W>,
     code: &Code<W>,
 ) -> Result<Vec<u16>, NoMemory>
-    requires { StandsFor W version.now.layout.bits code.now (take version.now.layout.bits code.now) }
+    requires { StandsFor W version.now.contents.layout.bits code.now (take version.now.contents.layout.bits code.now) }
     ensures values { IfOk result (λ values.
-        AreValues version.now.layout.parts (take version.now.layout.bits code.now) values.items) }
-    ensures version { IfOk result (λ values. IsVersion version.now) }
+        AreValues version.now.contents.layout.parts (take version.now.contents.layout.bits code.now) values.items) }
+    ensures version { IfOk result (λ values. IsVersion version.now.contents) }
     ensures tables { IfOk result (λ values. HasTables W version.now) }
 {
     let layout = version.layout();

@@ -37,7 +37,7 @@ impl Walk {
     pub fn start<const W: usize>(plan: &Plan<W>) -> Walk
         ensures place { IsPlace plan.now result }
         ensures hits { in_order (hits_left plan.now result)
-            ≡ scan plan.now.version.rows (query_of plan.now) plan.now.tau }
+            ≡ scan plan.now.version.contents.rows (query_of plan.now) plan.now.tau }
         ensures reads { reads_left plan.now result ≡ plan.now.least }
         ensures values { values_left plan.now result ≤ all_values (parts_of plan.now) }
     {

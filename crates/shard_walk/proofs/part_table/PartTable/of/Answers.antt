@@ -13,8 +13,8 @@ use Rattle.shard_walk.proofs.part_table.PartTable.of.Goals as goal
 pub levels-requires : goal.levels-requires
 levels-requires g c =
     let number = c.parts-parts.ensures.number ∙ ap (λ (l : Laid). length l.parts) (c.deref.ensures ∙ c.layout.ensures.layout) in
-    let width = ap (λ (t : CopyTable). t.width) c.counts.ensures ∙ c.changes_follow_a_list.ensures.width (length (part_at c.args.version.now.layout c.loop-part.part)) (part_values c.args.version.now.rows (part_at c.args.version.now.layout c.loop-part.part)) in
-    record { in_width = value_small c.args.version.now.layout.bits c.args.version.now.layout.parts (take c.args.version.now.layout.bits c.args.query.now) c.args.values.now c.loop-part.part
+    let width = ap (λ (t : CopyTable). t.width) c.counts.ensures ∙ c.changes_follow_a_list.ensures.width (length (part_at c.args.version.now.contents.layout c.loop-part.part)) (part_values c.args.version.now.contents.rows (part_at c.args.version.now.contents.layout c.loop-part.part)) in
+    record { in_width = value_small c.args.version.now.contents.layout.bits c.args.version.now.contents.layout.parts (take c.args.version.now.contents.layout.bits c.args.query.now) c.args.values.now c.loop-part.part
         (get_or c.args.values.now c.loop-part.part 0) c.counts.result.now.width c.requires.query.is_code c.requires.values (omega arith) refl width }
 
 pub loop-part-preserved : goal.loop-part-preserved
@@ -26,16 +26,16 @@ loop-part-preserved g c =
     let row = with_items_is c.in-Ok-vec.row c.levels.new.out (omega arith) in
     let value = c.requires.values.each c.loop-part.part (omega arith) in
     rows_more c.loop-part.rows.items c.push.new.self.items (with_items c.in-Ok-vec.row c.levels.new.out) c.args.tau c.loop-part.part
-    (row_counts c.args.version.now.rows c.args.version.now.layout.parts (take c.args.version.now.layout.bits c.args.query.now))
+    (row_counts c.args.version.now.contents.rows c.args.version.now.contents.layout.parts (take c.args.version.now.contents.layout.bits c.args.query.now))
     c.in-Ok-push.ensures.items c.loop-part.invariant.0 c.loop-part.invariant.1 c.loop-part.invariant.2 (ap length row ∙ size)
     (λ units few. ap (λ r. get_or r units 0) row ∙ c.levels.ensures units (omega (arith, size))
     ∙ ap (λ table. count_near table (get_or c.args.values.now c.loop-part.part 0) units) c.counts.ensures
-    ∙ ap (λ v. count_near (counts_of c.args.version.now c.loop-part.part) v units) value
-    ∙ c.counts_are_of_the_rows.ensures c.args.version.now c.loop-part.part units (take c.args.version.now.layout.bits c.args.query.now) c.layout.ensures.version c.requires.query.is_code)
+    ∙ ap (λ v. count_near (counts_of c.args.version.now.contents c.loop-part.part) v units) value
+    ∙ c.counts_are_of_the_rows.ensures c.args.version.now.contents c.loop-part.part units (take c.args.version.now.contents.layout.bits c.args.query.now) c.layout.ensures.version c.requires.query.is_code)
 
 pub invariant_of-result : goal.invariant_of-result
 invariant_of-result g c =
     record { counts = table_lawful c.loop-part.rows.items c.args.tau
-        (row_counts c.args.version.now.rows c.args.version.now.layout.parts (take c.args.version.now.layout.bits c.args.query.now)) c.loop-part.invariant.1 c.loop-part.invariant.2
-        (c.counts_of_rows_are_lawful.ensures.starts c.args.version.now.rows c.args.version.now.layout.parts (take c.args.version.now.layout.bits c.args.query.now))
-        (c.counts_of_rows_are_lawful.ensures.rises c.args.version.now.rows c.args.version.now.layout.parts (take c.args.version.now.layout.bits c.args.query.now)) }
+        (row_counts c.args.version.now.contents.rows c.args.version.now.contents.layout.parts (take c.args.version.now.contents.layout.bits c.args.query.now)) c.loop-part.invariant.1 c.loop-part.invariant.2
+        (c.counts_of_rows_are_lawful.ensures.starts c.args.version.now.contents.rows c.args.version.now.contents.layout.parts (take c.args.version.now.contents.layout.bits c.args.query.now))
+        (c.counts_of_rows_are_lawful.ensures.rises c.args.version.now.contents.rows c.args.version.now.contents.layout.parts (take c.args.version.now.contents.layout.bits c.args.query.now)) }

@@ -7,4 +7,4 @@ abbrev pub invariant-loop-part : goal.invariant-loop-part
 invariant-loop-part g l =
     (length l.rows.items ≡ l.part)
     × AreWide l.rows.items l.fn.tau
-    × HasCounts l.rows.items l.fn.tau (row_counts l.fn.version.rows l.fn.version.layout.parts (take l.fn.version.layout.bits l.fn.query))
+    × HasCounts l.rows.items l.fn.tau (row_counts l.fn.version.contents.rows l.fn.version.contents.layout.parts (take l.fn.version.contents.layout.bits l.fn.query))

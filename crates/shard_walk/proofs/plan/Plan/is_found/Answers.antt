@@ -19,6 +19,6 @@ returns g c =
     within ∙ ap (λ n. nat_lt n (units_of (get_or c.entries.result.now c.args.part (pos 0)))) c.value_distance.ensures.distance
     ∙ found_by g.row.W c.args.self.now c.deref-2.result.now c.self.inside.values.items c.args.code.now c.args.part c.value-value.result c.index.result.now
     (get_or c.entries.result.now c.args.part (pos 0)) kept c.requires.part c.requires.stored
-    (c.deref-2.ensures ∙ c.layout.ensures.layout ∙ ap (λ v. v.layout) c.deref.ensures ∙ ap (λ p. p.version.layout) c.self.view_is)
+    (c.deref-2.ensures ∙ c.layout.ensures.layout ∙ ap (λ v. v.contents.layout) c.deref.ensures ∙ ap (λ p. p.version.contents.layout) c.self.view_is)
     c.value-value.ensures.value c.index.ensures
     (ap (λ ts. get_or ts c.args.part (pos 0)) entries ∙ get_or_default c.args.self.now.thresholds c.args.part (pos 0) (negsuc 0) (omega arith))
