@@ -3,3 +3,4 @@ mod SumLemmas
 mod PartLemmas
 mod HistoryLemmas
 mod KeptLemmas
+mod EntryLemmas
