@@ -1,8 +1,9 @@
 //! Sessions whose source or sink fails.
 
-use crate::trial::{list_of, run_over};
+use crate::trial::{Postings, list_of, run_over};
 use gph_session::{Outcome, run};
 use line_io::{SteadySink, SteadySource};
+use read_meter::Meters;
 use std::alloc::Global;
 use std::test::Fail;
 
@@ -42,7 +43,7 @@ fn a_failed_read_leaves_the_replies_to_the_lines_before_it(rt: HostRuntime) -> R
         let mut given: usize = 0;
         for call in 1..=61u64 {
             let trial = run_over(
-                rt.alloc(),
+                &rt,
                 "run --bits 8",
                 input.as_slice(),
                 piece,
@@ -88,7 +89,7 @@ fn a_failed_write_leaves_the_pieces_before_it(rt: HostRuntime) -> Result<(), Fai
         let mut call = 1;
         for reply in REPLIES {
             let trial = run_over(
-                rt.alloc(),
+                &rt,
                 "run --bits 8",
                 input.as_slice(),
                 piece,
@@ -109,7 +110,7 @@ fn a_failed_write_leaves_the_pieces_before_it(rt: HostRuntime) -> Result<(), Fai
             call = call.saturating_add(1);
         }
         let trial = run_over(
-            rt.alloc(),
+            &rt,
             "run --bits 8",
             input.as_slice(),
             piece,
@@ -202,7 +203,7 @@ const FAULTS: [(&str, &[u8], usize, u64, u64, &[u8], Outcome); 8] = [
 fn a_session_ends_at_its_first_fault(rt: HostRuntime) -> Result<(), Fail> {
     for (about, input, piece, read, write, output, outcome) in FAULTS {
         assert!(rt; piece >= 1);
-        let trial = run_over(rt.alloc(), "run --bits 8", input, piece, &[read], &[write])?;
+        let trial = run_over(&rt, "run --bits 8", input, piece, &[read], &[write])?;
         assert_eq!(rt; trial.outcome, outcome, "{about}");
         assert_eq!(rt; trial.output.as_slice(), output, "{about}");
     }
@@ -214,11 +215,13 @@ fn a_session_over_steady_ends_is_done(rt: HostRuntime) -> Result<(), Fail> {
     let words = list_of(rt.alloc(), "run --bits 8")?;
     let (input, _) = whole_lines(rt.alloc(), 59)?;
     let mut source = SteadySource::new(input, 7);
+    let mut meters: Meters<Postings> = Meters::new(&rt, rt.alloc())?;
     let outcome = run(
         rt.alloc(),
         words.as_slice(),
         &mut source,
         &mut SteadySink::new(),
+        &mut meters,
     );
     assert_eq!(rt; outcome, Outcome::Done);
     Ok(())

@@ -270,7 +270,7 @@ fn each_session_has_its_replies_however_its_input_is_cut(rt: HostRuntime) -> Res
     for (about, words, input, output) in SESSIONS {
         for piece in [4096, 7, 1] {
             assert!(rt; piece >= 1);
-            let trial = run_over(rt.alloc(), words, input, piece, &[], &[])?;
+            let trial = run_over(&rt, words, input, piece, &[], &[])?;
             assert_eq!(rt; trial.outcome, Outcome::Done, "{about}, by {piece}");
             assert_eq!(rt; trial.output.as_slice(), output, "{about}, by {piece}");
         }
@@ -308,7 +308,7 @@ fn a_line_over_4096_bytes_is_refused_and_the_next_is_read(rt: HostRuntime) -> Re
         for piece in [4096, 7, 1] {
             assert!(rt; piece >= 1);
             let trial = run_over(
-                rt.alloc(),
+                &rt,
                 "run --bits 8",
                 input.as_slice(),
                 piece,

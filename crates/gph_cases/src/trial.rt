@@ -4,8 +4,13 @@ ghost use Rattle.std.specs.Prelude.{◌≤◌};
 
 use gph_session::{Outcome, run};
 use line_io::{MemorySink, MemorySource};
+use read_meter::Meters;
 use std::alloc::Global;
 use std::test::Fail;
+
+/// The ledger on which a session's postings are counted.
+#[derive(Drop)]
+pub(crate) struct Postings;
 
 /// What came of one call of `run`.
 #[derive(Drop)]
@@ -17,7 +22,7 @@ pub(crate) struct Trial {
 /// Runs the words, parted by spaces, over an input that comes in pieces. The calls of the source and of the sink fail that are
 /// listed, each counted from 1.
 pub(crate) fn run_over(
-    alloc: Global,
+    rt: &HostRuntime,
     words: &str,
     input: &[u8],
     piece: usize,
@@ -26,10 +31,12 @@ pub(crate) fn run_over(
 ) -> Result<Trial, Fail>
     requires { 1 ≤ piece }
 {
+    let alloc = rt.alloc();
     let words = list_of(alloc, words)?;
+    let mut meters: Meters<Postings> = Meters::new(rt, alloc)?;
     let mut source = MemorySource::new(input.to_vec(alloc)?, piece, reads.to_vec(alloc)?);
     let mut sink = MemorySink::new(alloc, writes.to_vec(alloc)?);
-    let outcome = run(alloc, words.as_slice(), &mut source, &mut sink);
+    let outcome = run(alloc, words.as_slice(), &mut source, &mut sink, &mut meters);
     let output = sink.bytes().to_vec(alloc)?;
     Ok(Trial { outcome, output })
 }

@@ -58,7 +58,7 @@ const WORDS: [(&str, Outcome); 41] = [
 #[test]
 fn words_are_a_session_or_have_a_first_fault(rt: HostRuntime) -> Result<(), Fail> {
     for (words, outcome) in WORDS {
-        let trial = run_over(rt.alloc(), words, b"jump\n", 4096, &[], &[])?;
+        let trial = run_over(&rt, words, b"jump\n", 4096, &[], &[])?;
         assert_eq!(rt; trial.outcome, outcome, "{words}");
         let output: &[u8] = match outcome {
             Outcome::Done => b"bad 3\n",
@@ -87,7 +87,7 @@ const LAYOUTS: [(&str, &[u8]); 5] = [
 #[test]
 fn a_starting_layout_is_told_by_its_text(rt: HostRuntime) -> Result<(), Fail> {
     for (words, output) in LAYOUTS {
-        let trial = run_over(rt.alloc(), words, b"layout 0\n", 4096, &[], &[])?;
+        let trial = run_over(&rt, words, b"layout 0\n", 4096, &[], &[])?;
         assert_eq!(rt; trial.outcome, Outcome::Done, "{words}");
         assert_eq!(rt; trial.output.as_slice(), output, "{words}");
     }
@@ -139,7 +139,7 @@ fn an_input_ends_at_its_limit(rt: HostRuntime) -> Result<(), Fail> {
     for (words, input, output, outcome) in LIMITS {
         for piece in [4096, 7, 1] {
             assert!(rt; piece >= 1);
-            let trial = run_over(rt.alloc(), words, input, piece, &[], &[])?;
+            let trial = run_over(&rt, words, input, piece, &[], &[])?;
             assert_eq!(rt; trial.outcome, outcome, "{words}, {input:?}, by {piece}");
             assert_eq!(rt;
                 trial.output.as_slice(),

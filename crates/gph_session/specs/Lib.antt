@@ -1,6 +1,11 @@
 pub mod State
+pub mod Ledger
 pub mod Step
 pub mod Run
 pub mod Outcomes
+pub mod Held
+pub mod Writing
+pub mod Giving
+pub mod Asking
 pub mod Meaning
 pub mod Flow

@@ -9,6 +9,7 @@ use Rattle.query_protocol.specs.Replies.{text}
 use Rattle.query_protocol.specs.declared.bad.Bad.{Bad}
 use Rattle.query_protocol.specs.declared.reply.Reply.{Reply}
 use Rattle.query_protocol.specs.declared.reply.Reply.TheVariants as reply
+use Rattle.gph_session.specs.Ledger.{IsRise}
 use Rattle.gph_session.specs.State.{State, new_session}
 use Rattle.gph_session.specs.Step.{Exchange, Step}
 
@@ -47,12 +48,13 @@ pub record IsSolo (config : Config) (exchanges : List Exchange) : Type 0 where
   pub run : Run config (commits config exchanges) (new_session 0 0) exchanges last
   pub alone : AreAlone config [] exchanges
 
--- a session alone answers these lines by these bytes
-pub record AnswersLines (config : Config) (lines : List (List ℕ)) (bytes : List ℕ) : Type 0 where
+-- a session alone answers these lines by these bytes, and its queries read so many postings
+pub record AnswersLines (config : Config) (lines : List (List ℕ)) (bytes : List ℕ) (rise : ℕ) : Type 0 where
   pub exchanges : List Exchange
   pub solo : IsSolo config exchanges
   pub lines_are : map (λ exchange. exchange.line) exchanges ≡ lines
   pub bytes_are : bytes ≡ written exchanges
+  pub ledger : IsRise config (commits config exchanges) solo.last.queries rise
 
 -- the line ends the session
 abbrev pub asks_quit : Result (Option LineRequest) Bad → Bool
