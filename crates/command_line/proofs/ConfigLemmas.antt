@@ -1,8 +1,8 @@
 -- What the options ask for can be asked of a session.
-use Rattle.std.proofs.Common.{◌≡◌, ℕ, ◌+◌, ◌-◌, ◌*◌, ◌/◌, ◌<◌, ◌≤◌, true, nat_le, Option, Some, None, IfSome, unwrap_or, refl, sym, subst, arith, lit≤}
-use Rattle.std.proofs.lemmas.Bool.{and_parts, leb-true}
-use Rattle.std.proofs.lemmas.Nat.{div_below}
-use Rattle.command_line.specs.CommandWords.{can_be_laid, config, IsConfig, IsLaid}
+use Rattle.std.proofs.Common.{◌≡◌, ℕ, ◌*◌, ◌/◌, ◌≤◌, Option, Some, None, IfSome, unwrap_or, refl, sym, subst, arith, lit≤}
+use Rattle.std.proofs.lemmas.Bool.{le-leb}
+use Rattle.part_layout.specs.Contiguous.{CanBeCut}
+use Rattle.command_line.specs.CommandWords.{config, IsConfig}
 use Rattle.command_line.specs.GivenValues.{entry_number_or, IsNumberOf, IsEntryOf}
 use Rattle.command_line.specs.declared.command_option.CommandOption.TheVariants.{Bits, Input}
 use Rattle.command_line.specs.declared.given.Entry.{Entry}
@@ -26,29 +26,24 @@ pub input_of : (input : ℕ) (entry : Option Entry) → IsEntryOf Input entry �
 input_of input entry held same = subst (λ (n : ℕ). IsNumberOf Input n) (sym same) (entry_has (IsNumberOf Input) 4294967296 entry held (lit≤ tt, lit≤ tt))
 
 -- parts of eight bits each
-pub laid_by_bytes : (bits : ℕ) → IsNumberOf Bits bits → IsLaid bits (bits / 8)
-laid_by_bytes bits within =
+pub cut_by_bytes : (bits : ℕ) → IsNumberOf Bits bits → CanBeCut bits (bits / 8)
+cut_by_bytes bits within =
     let least : 8 ≤ bits = within.0 in
     let most : bits ≤ 256 = within.1 in
     let whole = within.2 in
-    let some : 1 ≤ bits / 8 = omega (arith, whole) in
-    let eight : bits ≡ 8 * (bits / 8) = omega (arith, whole) in
-    let below : (bits + bits / 8 - 1) / (bits / 8) < 13 = div_below (bits + bits / 8 - 1) (bits / 8) 13 (omega arith) (omega arith) in
-    record { some_parts = some; few_parts = omega arith; filled = omega arith; narrow = omega arith }
-
--- parts that pass the test
-pub laid_by_test : (bits parts : ℕ) → 1 ≤ parts → parts ≤ 64 → can_be_laid bits parts ≡ true → IsLaid bits parts
-laid_by_test bits parts some few passed =
-    let both = and_parts (nat_le parts bits) (nat_le ((bits + parts - 1) / parts) 12) passed in
-    record { some_parts = some; few_parts = few; filled = leb-true parts bits both.0; narrow = leb-true ((bits + parts - 1) / parts) 12 both.1 }
+    let some = le-leb 1 (bits / 8) (omega (arith, whole)) in
+    let few = le-leb (bits / 8) 64 (omega arith) in
+    let filled = le-leb (bits / 8) bits (omega arith) in
+    let narrow = le-leb bits (12 * (bits / 8)) (omega (arith, whole)) in
+    rw (some, few, filled, narrow) refl
 
 -- what is asked for
-pub config_within : (bits parts input : ℕ) → IsNumberOf Bits bits → IsLaid bits parts → IsNumberOf Input input → IsConfig (config bits parts input)
-config_within bits parts input of_bits laid of_input = record {
+pub config_within : (bits parts input : ℕ) → IsNumberOf Bits bits → CanBeCut bits parts → IsNumberOf Input input → IsConfig (config bits parts input)
+config_within bits parts input of_bits cut of_input = record {
   least_bits = of_bits.0;
   greatest_bits = of_bits.1;
   whole_bytes = of_bits.2;
-  laid = laid;
+  cut = cut;
   one_shard = refl;
   room_of_64 = refl;
   all_entries = refl;

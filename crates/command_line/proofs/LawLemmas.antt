@@ -8,7 +8,8 @@ use Rattle.std.proofs.lemmas.Bool.{and_parts, lt-ltb, le-ltb, false_from_ne_true
 use Rattle.std.proofs.lemmas.Slice.Eq.{bytes_eq-Decides}
 use Rattle.part_layout.specs.declared.config.Config.{Config}
 use Rattle.command_line.specs.CommandOptions.{name_of, option_named, number, is_value}
-use Rattle.command_line.specs.CommandWords.{Written, parted, has_no_equals, in_one_word, in_two_words, written, first_written, others_written, given, number_given, number_or, can_be_laid, config, parts_for, value_fault, option_fault, fault_of, or_fault, asked_after}
+use Rattle.part_layout.specs.Contiguous.{can_be_cut}
+use Rattle.command_line.specs.CommandWords.{Written, parted, has_no_equals, in_one_word, in_two_words, written, first_written, others_written, given, number_given, number_or, config, parts_for, value_fault, option_fault, fault_of, or_fault, asked_after}
 use Rattle.command_line.proofs.OptionLemmas.{named_name}
 use Rattle.command_line.proofs.GivenLemmas.{written_one, written_two}
 use Rattle.command_line.specs.declared.command_option.CommandOption.{CommandOption}
@@ -51,7 +52,7 @@ bare_number option default found = unwrap_or (option_and_then (number_in option)
 -- the parts for so many bits
 abbrev laid_parts : ℕ → Option ℕ → Option ℕ
 laid_parts bits None = None
-laid_parts bits (Some parts) = cond (can_be_laid bits parts) (Some parts) None
+laid_parts bits (Some parts) = cond (can_be_cut bits parts) (Some parts) None
 
 -- the parts, or their default
 abbrev bare_parts : ℕ → Option (Option (List ℕ)) → Option ℕ
@@ -134,7 +135,7 @@ number_or_bare option default settings =
 
 -- the parts that were found, by their number
 abbrev parts_by : ℕ → ℕ → Option ℕ → Result ℕ ℕ
-parts_by bits place number = elim number [ None ↦ Err place | Some parts ↦ cond (can_be_laid bits parts) (Ok parts) (Err place) ]
+parts_by bits place number = elim number [ None ↦ Err place | Some parts ↦ cond (can_be_cut bits parts) (Ok parts) (Err place) ]
 
 -- the parts that were found
 abbrev parts_found : ℕ → Option Written → Result ℕ ℕ
@@ -154,7 +155,7 @@ judged_bare bits input place parts false = refl
 parts_by_bare : (bits input place : ℕ) (number : Option ℕ)
     → result_ok (with_parts bits input (parts_by bits place number)) ≡ option_map (λ parts. config bits parts input) (laid_parts bits number)
 parts_by_bare bits input place None = refl
-parts_by_bare bits input place (Some parts) = judged_bare bits input place parts (can_be_laid bits parts)
+parts_by_bare bits input place (Some parts) = judged_bare bits input place parts (can_be_cut bits parts)
 
 -- what is asked for, by what was found of the parts
 config_bare : (bits input : ℕ) (found : Option Written) → result_ok (with_parts bits input (parts_found bits found)) ≡ bare_config bits input (value_of found)

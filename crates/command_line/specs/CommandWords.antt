@@ -1,26 +1,20 @@
 -- The words of the command line, which are numbered from 1: what they ask for, or the place of the first one at fault.
-use Rattle.std.specs.Prelude.{◌≡◌, ℕ, ◌+◌, ◌-◌, ◌/◌, ◌%◌, ◌≤◌, ◌==◌, ◌&&◌, not, nat_le, if◌then◌else◌, Bool, List, [], ◌∷◌, take, drop, position, codes, Option, Some, None, is_some, unwrap_or, Result, Ok, Err}
+use Rattle.std.specs.Prelude.{◌≡◌, ℕ, ◌+◌, ◌/◌, ◌%◌, ◌≤◌, ◌==◌, not, if◌then◌else◌, Bool, List, [], ◌∷◌, take, drop, position, codes, Option, Some, None, is_some, unwrap_or, Result, Ok, Err}
 use Rattle.std.specs.List.{list_all}
 use Rattle.std.specs.Option.{option_map, option_and_then}
 use Rattle.std.specs.Str.{bytes_eq}
+use Rattle.part_layout.specs.Contiguous.{CanBeCut, can_be_cut}
 use Rattle.part_layout.specs.declared.config.Config.{Config}
 use Rattle.command_line.specs.CommandOptions.{name_of, option_named, number, is_value}
 use Rattle.command_line.specs.declared.command_option.CommandOption.{CommandOption}
 use Rattle.command_line.specs.declared.command_option.CommandOption.TheVariants.{Bits, Parts, Input}
-
--- so many bits can be laid contiguously in so many parts: none is empty, and none has over 12 positions
-pub record IsLaid (bits parts : ℕ) : Type 0 where
-  pub some_parts : 1 ≤ parts
-  pub few_parts : parts ≤ 64
-  pub filled : parts ≤ bits
-  pub narrow : (bits + parts - 1) / parts ≤ 12
 
 -- what a session may be asked to be
 pub record IsConfig (config : Config) : Type 0 where
   pub least_bits : 8 ≤ config.bits
   pub greatest_bits : config.bits ≤ 256
   pub whole_bytes : config.bits % 8 ≡ 0
-  pub laid : IsLaid config.bits config.parts
+  pub cut : CanBeCut config.bits config.parts
   pub one_shard : config.shards ≡ 1
   pub room_of_64 : config.room ≡ 64
   pub all_entries : config.entries ≡ 1048576
@@ -99,10 +93,6 @@ number_given option one = option_and_then (number option) one.value
 abbrev pub number_or : CommandOption → ℕ → List Written → ℕ
 number_or option default settings = unwrap_or (option_and_then (number_given option) (given option settings)) default
 
--- whether so many bits can be laid contiguously in so many parts: none is empty, and none has over 12 positions
-abbrev pub can_be_laid : ℕ → ℕ → Bool
-can_be_laid bits parts = nat_le parts bits && nat_le ((bits + parts - 1) / parts) 12
-
 -- a session of so many bits and parts, with an input of so many bytes
 abbrev pub config : ℕ → ℕ → ℕ → Config
 config bits parts input = record { bits = bits; parts = parts; shards = 1; room = 64; entries = 1048576; input = input }
@@ -110,7 +100,7 @@ config bits parts input = record { bits = bits; parts = parts; shards = 1; room 
 -- the parts that were given, judged against the bits
 abbrev pub parts_for : ℕ → Written → Result ℕ ℕ
 parts_for bits one =
-    elim (number_given Parts one) [ None ↦ Err one.value_place | Some parts ↦ if can_be_laid bits parts then Ok parts else Err one.value_place ]
+    elim (number_given Parts one) [ None ↦ Err one.value_place | Some parts ↦ if can_be_cut bits parts then Ok parts else Err one.value_place ]
 
 -- the parts, eight bits each where none were given
 abbrev pub parts_or : ℕ → List Written → Result ℕ ℕ

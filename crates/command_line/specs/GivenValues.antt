@@ -1,8 +1,9 @@
 -- How the reader keeps what the options were given. No public clause cites this module.
 use Rattle.std.specs.Prelude.{◌≡◌, ℕ, ◌+◌, ◌/◌, ◌%◌, ◌≤◌, if◌then◌else◌, List, [], ◌∷◌, Option, Some, None, IfSome, unwrap_or, Result, Ok, Err}
 use Rattle.std.specs.Option.{option_map, option_and_then}
+use Rattle.part_layout.specs.Contiguous.{can_be_cut}
 use Rattle.command_line.specs.CommandOptions.{least, greatest}
-use Rattle.command_line.specs.CommandWords.{Written, given, number_given, can_be_laid, fault_of, or_fault}
+use Rattle.command_line.specs.CommandWords.{Written, given, number_given, fault_of, or_fault}
 use Rattle.command_line.specs.declared.command_option.CommandOption.{CommandOption}
 use Rattle.command_line.specs.declared.command_option.CommandOption.TheVariants.{Bits, Parts, Input}
 use Rattle.command_line.specs.declared.given.Entry.{Entry}
@@ -36,7 +37,7 @@ entry_number_or default entry = unwrap_or (option_and_then (λ kept. kept.number
 abbrev pub entry_parts_or : ℕ → Option Entry → Result ℕ ℕ
 entry_parts_or bits None = Ok (bits / 8)
 entry_parts_or bits (Some entry) =
-    elim entry.number [ None ↦ Err entry.place | Some parts ↦ if can_be_laid bits parts then Ok parts else Err entry.place ]
+    elim entry.number [ None ↦ Err entry.place | Some parts ↦ if can_be_cut bits parts then Ok parts else Err entry.place ]
 
 -- one for an option that was given
 abbrev pub present : Option Entry → ℕ

@@ -1,12 +1,13 @@
 //! What the options were given by the words read so far.
 
 ghost use Rattle.std.specs.Prelude.{◌≡◌, ◌+◌, ◌≤◌, ℕ, List, option_copied, IfOk};
-ghost use Rattle.command_line.specs.CommandWords.{Written, setting, can_be_laid, config_of, IsConfig, IsLaid};
+ghost use Rattle.part_layout.specs.Contiguous.{CanBeCut};
+ghost use Rattle.command_line.specs.CommandWords.{Written, setting, config_of, IsConfig};
 ghost use Rattle.command_line.specs.GivenValues.{entry_at, entry_number_or, entry_parts_or, put, size, kept, kept_after, IsNumberOf, IsEntryOf, AreEntries};
 ghost use Rattle.command_line.specs.declared.command_option.CommandOption.TheVariants.{Bits, Parts};
 
 use crate::CommandOption;
-use part_layout::Config;
+use part_layout::{Config, Layout};
 
 // What one option was given.
 #[derive(Clone, Copy, Debug, PartialEq, Eq)]
@@ -123,13 +124,13 @@ fn number_or(entry: Option<Entry>, default: u64) -> u64
     }
 }
 
-// The parts of an entry, where so many bits can be laid in them, or else the place of their word. Without an entry they
+// The parts of an entry, where so many bits can be cut into them, or else the place of their word. Without an entry they
 // are eight bits each.
 fn parts_or(bits: u64, entry: Option<Entry>) -> Result<u64, usize>
     requires bits { IsNumberOf Bits bits }
     requires parts { IsEntryOf Parts entry }
     ensures value { result ≡ entry_parts_or bits entry }
-    ensures laid { IfOk result (λ parts. IsLaid bits parts) }
+    ensures cut { IfOk result (λ parts. CanBeCut bits parts) }
 {
     let Some(entry) = entry else {
         return Ok(bits / 8);
@@ -137,19 +138,9 @@ fn parts_or(bits: u64, entry: Option<Entry>) -> Result<u64, usize>
     let Some(parts) = entry.number else {
         return Err(entry.place);
     };
-    if can_be_laid(bits, parts) {
+    if Layout::can_be_cut(bits as u32, parts as u32) {
         Ok(parts)
     } else {
         Err(entry.place)
     }
-}
-
-// Whether so many bits can be laid contiguously in so many parts: none is empty, and none has over 12 positions.
-fn can_be_laid(bits: u64, parts: u64) -> bool
-    requires bits { bits ≤ 256 }
-    requires some { 1 ≤ parts }
-    requires few { parts ≤ 64 }
-    ensures { result ≡ can_be_laid bits parts }
-{
-    parts <= bits && (bits + parts - 1) / parts <= 12
 }

@@ -21,7 +21,7 @@ use crate::opening::open;
 use crate::output::say;
 use crate::planning::plan;
 use line_io::{Cut, Cutter, Failed, LineBuf, Sink};
-use part_layout::{Config, Layout};
+use part_layout::{Config, Layout, LayoutFault};
 use query_protocol::{Bad, Reply, Request, read_line};
 use read_meter::{NoMemory, Steps};
 use shard_version::Version;
@@ -106,14 +106,15 @@ fn first_version<const W: usize>(
     }
 }
 
-// The contiguous layout, which is there for what a session may be asked.
+// The contiguous layout. What a session may be asked can be cut so, and only memory may be wanting.
 fn starting_layout(alloc: Global, config: &Config) -> Result<Layout, NoMemory>
     requires { IsConfig config.now }
     ensures { IfOk result (λ layout. layout ≡ laid_of config.now) }
 {
     match Layout::contiguous(alloc, config.bits, config.parts) {
         Ok(layout) => Ok(layout),
-        Err(_) => Err(NoMemory),
+        Err(LayoutFault::NoMemory) => Err(NoMemory),
+        Err(_) => unreachable!(),
     }
 }
 

@@ -30,7 +30,7 @@ pub part_below : (bits : ℕ) (parts : List (List ℕ)) (i : ℕ) → i < length
 part_below bits parts i inside laid = λ j d short. part_inside bits parts i j d inside short laid.in_range
 
 -- how often the numbers below a bound stand in a list, added up
-tally : ℕ → List ℕ → ℕ
+pub tally : ℕ → List ℕ → ℕ
 tally zero xs = 0
 tally (suc n) xs = count_by (λ other. other == n) xs + tally n xs
 
@@ -70,7 +70,7 @@ tally_cons (suc n) x xs below =
           omega arith
     ]
 
-tally_all : (n : ℕ) (xs : List ℕ) → All (λ x. x < n) xs → tally n xs ≡ length xs
+pub tally_all : (n : ℕ) (xs : List ℕ) → All (λ x. x < n) xs → tally n xs ≡ length xs
 tally_all n [] below = tally_nil n
 tally_all n (x ∷ xs) below =
     let first = All-head (λ y. y < n) x xs below in
@@ -78,7 +78,7 @@ tally_all n (x ∷ xs) below =
     let here = tally_cons n x xs first in
     omega arith
 
-tally_ones : (n : ℕ) (xs : List ℕ) → ((x : ℕ) → x < n → count_by (λ other. other == x) xs ≡ 1) → tally n xs ≡ n
+pub tally_ones : (n : ℕ) (xs : List ℕ) → ((x : ℕ) → x < n → count_by (λ other. other == x) xs ≡ 1) → tally n xs ≡ n
 unfolding tally
 tally_ones zero xs once = refl
 tally_ones (suc n) xs once =

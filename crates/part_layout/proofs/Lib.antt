@@ -1,3 +1,10 @@
+pub mod CursorLemmas
+pub mod FaultLemmas
+pub mod GrammarLemmas
+pub mod JudgeLemmas
 pub mod LayoutLemmas
+pub mod ParseLemmas
+pub mod ReadBackLemmas
 pub mod RunLemmas
+pub mod SyntaxLemmas
 pub mod TextLemmas

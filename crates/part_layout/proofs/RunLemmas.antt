@@ -1,16 +1,17 @@
 -- Parts whose positions stand in order make a layout.
-use Rattle.std.proofs.Common.{◌≡◌, cond, Bool, true, false, ℕ, zero, suc, ◌+◌, ◌-◌, ◌*◌, ◌/◌, ◌%◌, ◌<◌, ◌≤◌, ◌==◌, inl, inr, List, [], ◌∷◌, ◌++◌, All, length, count_by, get_or, slice_index_or, refl, sym, ◌∙◌, ap, arith, append_assoc, length-append}
+use Rattle.std.proofs.Common.{◌≡◌, cond, Bool, true, false, ℕ, zero, suc, ◌+◌, ◌-◌, ◌*◌, ◌/◌, ◌%◌, ◌<◌, ◌≤◌, ◌==◌, ◌&&◌, nat_le, inl, inr, List, [], ◌∷◌, ◌++◌, All, length, count_by, get_or, slice_index_or, refl, sym, ◌∙◌, ap, arith, append_assoc, length-append}
 use Rattle.std.specs.List.{flat_map, range_with_len}
 use Rattle.std.specs.Global.{Vec}
-use Rattle.std.proofs.lemmas.Bool.{cases_eq, cases_lt, ne_eqb, eq-eqb}
+use Rattle.std.proofs.lemmas.Bool.{and_parts, cases_eq, cases_lt, eq-eqb, le-leb, leb-true, ne_eqb}
 use Rattle.std.proofs.lemmas.Grind.{flat_map-append}
 use Rattle.std.proofs.lemmas.List.{map-append}
 use Rattle.std.proofs.lemmas.List.Elements.{All-append}
 use Rattle.std.proofs.lemmas.List.FromFn.{length-range_with_len, get_or-range_with_len}
 use Rattle.std.proofs.lemmas.List.Sums.{sum_by-cons}
 use Rattle.std.proofs.lemmas.Nat.{div-add-mod', le-div}
+use Rattle.std.proofs.Math.Nat.{mul-le-mul_right}
 use Rattle.hamming_model.specs.Layouts.{IsLayout}
-use Rattle.part_layout.specs.Contiguous.{IsNoNumber, contiguous, runs}
+use Rattle.part_layout.specs.Contiguous.{CanBeCut, IsNoNumber, contiguous, runs}
 use Rattle.part_layout.specs.Inside.{lists_of}
 
 -- one position more
@@ -171,3 +172,73 @@ contiguous_laid bits parts number narrow =
         let short : k < n = omega arith in
         let here = get_or-range_with_len 0 n k d short in
         omega arith
+
+-- the first part's width, by the division
+first_width_is : (bits parts : ℕ) → 0 < parts → length (slice_index_or (contiguous bits parts) 0 []) ≡ bits / parts + cond (bits % parts == 0) 0 1
+first_width_is bits parts some =
+    let below : bits % parts < parts = omega arith in
+    elim (cases_eq (bits % parts) 0) [
+      | inl none ↦
+          let test = eq-eqb (bits % parts) 0 none in
+          let first = first_none (bits % parts) (parts - bits % parts) (bits / parts) (bits % parts * (bits / parts + 1)) none (omega arith) in
+          rw test (omega arith)
+      | inr other ↦
+          let test = ne_eqb (bits % parts) 0 other in
+          let first = first_some (bits % parts) (parts - bits % parts) (bits / parts) (bits % parts * (bits / parts + 1)) (omega arith) in
+          rw test (omega arith)
+    ]
+
+-- parts of at most 12 positions hold the bits
+pub cut_narrow : (bits parts : ℕ) → 0 < parts → length (slice_index_or (contiguous bits parts) 0 []) ≤ 12 → bits ≤ 12 * parts
+cut_narrow bits parts some narrow =
+    let whole = div-add-mod' bits parts in
+    let below : bits % parts < parts = omega arith in
+    let width = first_width_is bits parts some in
+    elim (cases_eq (bits % parts) 0) [
+      | inl none ↦
+          let test = eq-eqb (bits % parts) 0 none in
+          let quotient : bits / parts ≤ 12 = omega (arith, rw test at width) in
+          let product = mul-le-mul_right parts quotient in
+          omega arith
+      | inr other ↦
+          let test = ne_eqb (bits % parts) 0 other in
+          let quotient : bits / parts ≤ 11 = omega (arith, rw test at width) in
+          let product = mul-le-mul_right parts quotient in
+          omega arith
+    ]
+
+-- where the first part is wider, they don't
+pub cut_wide : (bits parts : ℕ) → 0 < parts → 12 < length (slice_index_or (contiguous bits parts) 0 []) → 12 * parts < bits
+cut_wide bits parts some wide =
+    let whole = div-add-mod' bits parts in
+    let below : bits % parts < parts = omega arith in
+    let width = first_width_is bits parts some in
+    elim (cases_eq (bits % parts) 0) [
+      | inl none ↦
+          let test = eq-eqb (bits % parts) 0 none in
+          let quotient : 13 ≤ bits / parts = omega (arith, rw test at width) in
+          let product = mul-le-mul_right parts quotient in
+          omega arith
+      | inr other ↦
+          let test = ne_eqb (bits % parts) 0 other in
+          let quotient : 12 ≤ bits / parts = omega (arith, rw test at width) in
+          let product = mul-le-mul_right parts quotient in
+          omega arith
+    ]
+
+-- a number of parts that may be, and holds the bits
+pub can_cut : (bits parts : ℕ) → 0 < parts → parts ≤ 64 → parts ≤ bits → bits ≤ 12 * parts → CanBeCut bits parts
+can_cut bits parts some few filled narrow =
+    let one = le-leb 1 parts some in
+    let two = le-leb parts 64 few in
+    let three = le-leb parts bits filled in
+    let four = le-leb bits (12 * parts) narrow in
+    rw (one, two, three, four) refl
+
+-- a number of parts that holds the bits
+pub cut_holds : (bits parts : ℕ) → CanBeCut bits parts → bits ≤ 12 * parts
+cut_holds bits parts can =
+    let one = and_parts (nat_le 1 parts) (nat_le parts 64 && (nat_le parts bits && nat_le bits (12 * parts))) can in
+    let two = and_parts (nat_le parts 64) (nat_le parts bits && nat_le bits (12 * parts)) one.1 in
+    let three = and_parts (nat_le parts bits) (nat_le bits (12 * parts)) two.1 in
+    leb-true bits (12 * parts) three.1

@@ -1,5 +1,5 @@
 -- The contiguous layout: the positions in order, cut into parts as equal as can be.
-use Rattle.std.specs.Prelude.{◌≡◌, ℕ, zero, suc, ◌+◌, ◌-◌, ◌*◌, ◌/◌, ◌%◌, ◌<◌, ◌⊎◌, List, [], ◌∷◌, ◌++◌, length, slice_index_or}
+use Rattle.std.specs.Prelude.{◌≡◌, ℕ, zero, suc, ◌+◌, ◌-◌, ◌*◌, ◌/◌, ◌%◌, ◌<◌, ◌⊎◌, ◌&&◌, nat_le, Bool, true, List, [], ◌∷◌, ◌++◌, length, slice_index_or}
 use Rattle.std.specs.List.{range_with_len}
 use Rattle.part_layout.specs.declared.layout_fault.LayoutFault.{LayoutFault}
 use Rattle.part_layout.specs.declared.layout_fault.LayoutFault.TheVariants.{Syntax, Range, Twice, Missing, Width, Parts, NoMemory}
@@ -40,3 +40,11 @@ IsCutFault (Missing position) = ⊥
 IsCutFault (Width part) = Unit {0}
 IsCutFault (Parts count) = Unit {0}
 IsCutFault NoMemory = Unit {0}
+
+-- whether so many bits can be cut into so many parts: there are 1 to 64, none is empty, and none has over 12 positions
+abbrev pub can_be_cut : ℕ → ℕ → Bool
+can_be_cut bits parts = nat_le 1 parts && (nat_le parts 64 && (nat_le parts bits && nat_le bits (12 * parts)))
+
+-- so many bits can be cut into so many parts
+abbrev pub CanBeCut : ℕ → ℕ → Type 0
+CanBeCut bits parts = can_be_cut bits parts ≡ true

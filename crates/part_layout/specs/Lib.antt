@@ -1,4 +1,7 @@
 pub mod Contiguous
+pub mod Faults
+pub mod Grammar
 pub mod Inside
 pub mod Laid
+pub mod ReadOn
 pub mod Text

@@ -2,12 +2,17 @@
 
 ghost use Rattle.std.specs.Prelude.{◌≡◌, ◌*◌, ◌^◌, ◌<◌, ◌≤◌, ◌↔◌, ℕ, length, take, slice_index, Err, IfErr, IfOk};
 ghost use Rattle.part_layout.specs.Laid.{IsAllowed, IsLaid, IsValue, part_at};
-ghost use Rattle.part_layout.specs.Contiguous.{IsCutFault, IsNumberFault, IsWidthFault, contiguous};
+ghost use Rattle.part_layout.specs.Contiguous.{CanBeCut, IsCutFault, IsNumberFault, IsWidthFault, can_be_cut, contiguous};
+ghost use Rattle.part_layout.specs.Faults.{IsFaultless, IsFault};
+ghost use Rattle.part_layout.specs.Grammar.{IsSyntaxFault, spelled};
 ghost use Rattle.part_layout.specs.Text.{layout_text};
-ghost use Rattle.part_layout.specs.declared.layout_fault.LayoutFault.TheVariants.{Parts, Width};
+ghost use Rattle.part_layout.specs.declared.layout_fault.LayoutFault.TheVariants.{Missing, NoMemory, Parts, Range, Syntax, Twice, Width};
 
+use crate::judging::fault_in;
 use crate::layout_text::TEXT;
 use crate::pieces::{contiguous_parts, first_width, put_parts, value_at};
+use crate::spelling::parts_of;
+use crate::syntax::syntax_fault;
 use crate::{LayoutFault, LayoutText};
 use gph_codes::Code;
 use std::alloc::Global;
@@ -34,6 +39,13 @@ impl Model for Layout {
 }
 
 impl Layout {
+    /// Whether there is a contiguous layout of so many bits in so many parts: 1 to 64 parts, each of 1 to 12 positions.
+    pub fn can_be_cut(bits: u32, parts: u32) -> bool
+        ensures { result ≡ can_be_cut bits parts }
+    {
+        1 <= parts && parts <= 64 && parts <= bits && bits <= 12 * parts
+    }
+
     /// The contiguous layout: the positions in order, in parts as equal as can be, the longer first.
     ///
     /// # Errors
@@ -47,6 +59,8 @@ impl Layout {
         ensures causes { IfErr result IsCutFault }
         ensures number { (n : ℕ) → (result ≡ Err (Parts n)) ↔ IsNumberFault bits parts n }
         ensures width { (part : ℕ) → (result ≡ Err (Width part)) ↔ IsWidthFault bits parts part }
+        ensures cut { IfOk result (λ layout. CanBeCut bits parts) }
+        ensures memory { IfErr result (λ fault. (fault ≡ NoMemory) ↔ CanBeCut bits parts) }
     {
         if parts == 0 || parts > 64 || parts > bits {
             return Err(LayoutFault::Parts { count: parts });
@@ -58,6 +72,43 @@ impl Layout {
             return Err(LayoutFault::NoMemory);
         };
         Ok(Layout { bits, parts: kept })
+    }
+
+    /// The layout that a text spells: parts with '/' between each two, in a part positions with ',' between each two, each
+    /// of one to three decimal digits. It reads the text a few times and takes memory once no fault is left.
+    ///
+    /// # Errors
+    ///
+    /// The first of these that applies: `Syntax` at the first byte, from 0, with which the text begins no text of that
+    /// form, or at the text's length where it only begins one; `Range` of the first number that is at least `bits`;
+    /// `Twice` of the first number that stood before; `Missing` of the least position that stands nowhere; `Width` of the
+    /// first part of more than 12 positions; `Parts` where there are over 64; `NoMemory` where there is no memory for it.
+    pub fn parse(alloc: Global, bits: u32, text: &[u8]) -> Result<Layout, LayoutFault>
+        requires { IsAllowed bits }
+        // The layout.
+        ensures bits { IfOk result (λ layout. layout.bits ≡ bits) }
+        ensures layout { IfOk result (λ layout. layout.parts ≡ spelled text.now) }
+        ensures faultless { IfOk result (λ layout. IsFaultless bits text.now) }
+        // The faults.
+        ensures syntax { (at : ℕ) → (result ≡ Err (Syntax at)) ↔ IsSyntaxFault text.now at }
+        ensures range { (n : ℕ) → (result ≡ Err (Range n)) ↔ IsFault bits text.now (Range n) }
+        ensures twice { (n : ℕ) → (result ≡ Err (Twice n)) ↔ IsFault bits text.now (Twice n) }
+        ensures missing { (n : ℕ) → (result ≡ Err (Missing n)) ↔ IsFault bits text.now (Missing n) }
+        ensures width { (n : ℕ) → (result ≡ Err (Width n)) ↔ IsFault bits text.now (Width n) }
+        ensures parts { (n : ℕ) → (result ≡ Err (Parts n)) ↔ IsFault bits text.now (Parts n) }
+        // Want of memory comes last.
+        ensures memory { IfErr result (λ fault. (fault ≡ NoMemory) ↔ IsFaultless bits text.now) }
+    {
+        if let Some(at) = syntax_fault(text) {
+            return Err(LayoutFault::Syntax { at });
+        }
+        if let Some(fault) = fault_in(bits, text) {
+            return Err(fault);
+        }
+        let Ok(parts) = parts_of(alloc, text) else {
+            return Err(LayoutFault::NoMemory);
+        };
+        Ok(Layout { bits, parts })
     }
 
     /// The number of bits of the codes.

@@ -3,12 +3,18 @@
 #![tactic(auto)]
 
 mod config;
+mod cursor;
+mod judging;
+mod laws;
 mod layout;
 mod layout_fault;
 mod layout_text;
 mod pieces;
+mod spelling;
+mod syntax;
 
 pub use config::Config;
+pub use laws::text_of_layouts;
 pub use layout::Layout;
 pub use layout_fault::LayoutFault;
 pub use layout_text::LayoutText;

@@ -1,5 +1,5 @@
-use Rattle.std.proofs.Common.{arith}
-use Rattle.part_layout.proofs.RunLemmas.{contiguous_laid, number_ok}
+use Rattle.std.proofs.Common.{refl, arith}
+use Rattle.part_layout.proofs.RunLemmas.{can_cut, contiguous_laid, cut_holds, cut_narrow, cut_wide, number_ok}
 use Rattle.part_layout.proofs.layout.Layout.contiguous.Goals as goal
 
 pub invariant_of-result : goal.invariant_of-result
@@ -11,3 +11,18 @@ invariant_of-result c =
           (contiguous_laid c.args.bits c.args.parts
           (number_ok c.args.bits c.args.parts (omega arith) (omega arith) (omega arith)) (omega arith));
     }
+
+pub returns-then-first_width-gt12-clause-memory : goal.returns-then-first_width-gt12-clause-memory
+returns-then-first_width-gt12-clause-memory c =
+    let wide = cut_wide c.args.bits c.args.parts (omega arith) (omega arith) in
+    ((λ same. absurd (let both = same in cc)), (λ can. absurd (let holds = cut_holds c.args.bits c.args.parts can in omega arith)))
+
+pub returns-in_default-clause-memory : goal.returns-in_default-clause-memory
+returns-in_default-clause-memory c =
+    let narrow = cut_narrow c.args.bits c.args.parts (omega arith) (omega arith) in
+    ((λ same. can_cut c.args.bits c.args.parts (omega arith) (omega arith) (omega arith) narrow), (λ can. refl))
+
+pub returns-clause-cut : goal.returns-clause-cut
+returns-clause-cut c =
+    let narrow = cut_narrow c.args.bits c.args.parts (omega arith) (omega arith) in
+    can_cut c.args.bits c.args.parts (omega arith) (omega arith) (omega arith) narrow
