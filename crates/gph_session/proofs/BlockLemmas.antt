@@ -18,7 +18,7 @@ use Rattle.gph_session.specs.declared.session.Turn.{Turn}
 use Rattle.gph_session.specs.declared.session.Turn.TheVariants.{Goes, Quits}
 use Rattle.gph_session.specs.State.{State}
 use Rattle.gph_session.specs.Run.{AnswersLines, before_quit, commits}
-use Rattle.gph_session.specs.Outcomes.{IsRefused}
+use Rattle.gph_session.specs.Run.{IsRefused}
 use Rattle.gph_session.specs.Held.{reads_of}
 use Rattle.gph_session.specs.Meaning.{Means}
 use Rattle.gph_session.specs.Flow.{Stands, HasEnded, FlowIs, TurnIs, EndIs}

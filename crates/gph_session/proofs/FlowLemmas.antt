@@ -17,7 +17,7 @@ use Rattle.gph_session.specs.declared.session.Turn.TheVariants.{Goes}
 use Rattle.gph_session.specs.State.{new_session}
 use Rattle.gph_session.specs.Step.{Exchange}
 use Rattle.gph_session.specs.Run.{Run, commit_of, commits, AreAlone, IsSolo, AnswersLines, asks_quit, before_quit, has_quit}
-use Rattle.gph_session.specs.Outcomes.{IsRefused}
+use Rattle.gph_session.specs.Run.{IsRefused}
 use Rattle.gph_session.specs.Held.{reads_of}
 use Rattle.gph_session.specs.Ledger.{IsRise}
 use Rattle.gph_session.specs.Meaning.{Means, AllRead}

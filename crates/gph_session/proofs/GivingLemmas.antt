@@ -13,9 +13,9 @@ use Rattle.query_protocol.specs.declared.reply.Reply.{Reply}
 use Rattle.query_protocol.specs.declared.reply.Reply.TheVariants as reply
 use Rattle.gph_session.specs.declared.open_query.OpenQuery.{OpenQuery}
 use Rattle.gph_session.specs.declared.session.Turn.{Turn}
-use Rattle.gph_session.specs.Step.{hit_replies, next_replies}
+use Rattle.gph_session.specs.QuerySteps.{hit_replies, next_replies}
 use Rattle.gph_session.specs.Held.{asked_of, standing_of}
-use Rattle.gph_session.specs.Giving.{ReadsOn, IsFilled, FillsUp, GivesHits, IsCounted, IsGiven, GivesQuery}
+use Rattle.gph_session.specs.GivenHits.{ReadsOn, IsFilled, FillsUp, GivesHits, IsCounted, IsGiven, GivesQuery}
 use Rattle.gph_session.specs.Writing.{Writes}
 use Rattle.gph_session.proofs.StepLemmas.{on_ok}
 use Rattle.gph_session.proofs.WritingLemmas.{part_of_whole, writes_after, writes_front, text_append, hits_append}

@@ -15,8 +15,9 @@ use Rattle.gph_session.specs.State.{Query}
 use Rattle.gph_session.specs.Ledger.{IsBoundOf, IsRise, most_read}
 use Rattle.gph_session.specs.Held.{asked_of, standing_of, reads_of, Changes}
 use Rattle.gph_session.specs.Asking.{TellsOfQuery}
-use Rattle.gph_session.specs.Giving.{ReadsOn, GivesAs}
-use Rattle.gph_session.specs.Meaning.{AsksOn, OpensAs, Keeps, HasRead, AllKeep, AllRead}
+use Rattle.gph_session.specs.GivenHits.{ReadsOn, GivesAs}
+use Rattle.gph_session.specs.Meaning.{AsksOn, Keeps, HasRead, AllKeep, AllRead}
+use Rattle.gph_session.specs.Changing.{OpensAs}
 
 -- ---- bounds
 

@@ -8,7 +8,8 @@ use Rattle.line_io.specs.Lines.{ended_lines, unended, last_line, lines}
 use Rattle.part_layout.specs.declared.config.Config.{Config}
 use Rattle.gph_session.specs.declared.open_query.OpenQuery.{OpenQuery}
 use Rattle.gph_session.specs.Run.{AnswersLines, before_quit}
-use Rattle.gph_session.specs.Outcomes.{ends, IsDone, IsReadFault, IsWriteFault, IsInputLimit, IsRefused}
+use Rattle.gph_session.specs.Outcomes.{ends, IsDone, IsReadFault, IsWriteFault, IsInputLimit}
+use Rattle.gph_session.specs.Run.{IsRefused}
 use Rattle.gph_session.specs.Held.{reads_of}
 use Rattle.gph_session.specs.Flow.{Stands, HasEnded}
 use Rattle.gph_session.proofs.RunLemmas.{before_more, quit_more}

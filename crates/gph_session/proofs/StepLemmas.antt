@@ -23,13 +23,16 @@ use Rattle.gph_session.specs.declared.open_query.OpenQuery.{OpenQuery}
 use Rattle.gph_session.specs.declared.session.Turn.{Turn}
 use Rattle.gph_session.specs.declared.session.Turn.TheVariants.{Goes, Quits}
 use Rattle.gph_session.specs.State.{Query, State, query_of, replaced}
-use Rattle.gph_session.specs.Step.{Exchange, Answers, Adds, Declines, OpensUnlessUsed, OpensUnlessMany, IfOpen, Gives, Costs, Plans, new_query, given_more, next_replies, most_open}
+use Rattle.gph_session.specs.Step.{Exchange, Answers}
+use Rattle.gph_session.specs.Entries.{Adds, Declines}
+use Rattle.gph_session.specs.QuerySteps.{OpensUnlessUsed, OpensUnlessMany, IfOpen, Gives, Costs, Plans, new_query, given_more, next_replies, most_open}
 use Rattle.gph_session.specs.Run.{committed, commit_of, asks_quit}
 use Rattle.gph_session.specs.Ledger.{layout_of, IsBoundOf, IsPlanOf}
 use Rattle.gph_session.specs.Held.{asked_of, standing_of, IsFree, StandsAt, Changes, IsSame}
-use Rattle.gph_session.specs.Giving.{ReadsOn, IsCounted, IsGiven, GivesQuery, GivesAs}
+use Rattle.gph_session.specs.GivenHits.{ReadsOn, IsCounted, IsGiven, GivesQuery, GivesAs}
 use Rattle.gph_session.specs.Asking.{CostsAs, PlansAs}
-use Rattle.gph_session.specs.Meaning.{AddsAs, OpensAs, BeginsQuery, AsksOn, Keeps, HasRead, AllKeep, AllRead, Means, contents_of, own_code, added_entry}
+use Rattle.gph_session.specs.Changing.{AddsAs, OpensAs, BeginsQuery, own_code, added_entry}
+use Rattle.gph_session.specs.Meaning.{AsksOn, Keeps, HasRead, AllKeep, AllRead, Means, contents_of}
 use Rattle.shard_query.specs.Opening.{AsksRange}
 use Rattle.gph_session.specs.Writing.{Writes}
 use Rattle.gph_session.specs.Flow.{OneStep, TurnIs}

@@ -1,13 +1,14 @@
 -- Lemmas on the top call: a new session, the words, and that no input within the config.input is turned away.
-use Rattle.std.proofs.Common.{◌≡◌, ℕ, zero, suc, ◌+◌, ◌-◌, ◌*◌, ◌/◌, ◌%◌, ◌≤◌, ◌<◌, true, false, List, [], ◌∷◌, ◌++◌, length, take, Option, Some, None, refl, sym, ap, ◌∙◌, subst, arith, inl, inr, append_assoc, length-append}
+use Rattle.std.proofs.Common.{◌≡◌, ℕ, zero, suc, ◌+◌, ◌-◌, ◌*◌, ◌/◌, ◌%◌, ◌≤◌, ◌<◌, nat_le, ◌&&◌, Bool, true, false, List, [], ◌∷◌, ◌++◌, length, take, Option, Some, None, refl, sym, ap, ◌∙◌, subst, arith, inl, inr, append_assoc, length-append}
 use Rattle.std.specs.Io.KnownBytes.{Consumes}
+use Rattle.std.proofs.lemmas.Bool.{leb-true}
 use Rattle.std.proofs.lemmas.List.{take_at}
 use Rattle.line_io.specs.Faults.{Rose}
 use Rattle.line_io.specs.Kept.{kept}
 use Rattle.line_io.specs.Lines.{lines}
 use Rattle.gph_codes.specs.Allowed.{IsAllowed}
 use Rattle.part_layout.specs.declared.config.Config.{Config}
-use Rattle.part_layout.specs.Contiguous.{contiguous, runs}
+use Rattle.part_layout.specs.Contiguous.{CanBeCut, contiguous, runs}
 use Rattle.command_line.specs.CommandWords.{IsConfig}
 use Rattle.shard_version.specs.Contents.{Contents}
 use Rattle.gph_session.specs.declared.open_query.OpenQuery.{OpenQuery}
@@ -45,6 +46,17 @@ length_contiguous bits parts some =
     omega (arith, length-append (runs (bits % parts) (bits / parts + 1) 0) (runs (parts - bits % parts) (bits / parts) (bits % parts * (bits / parts + 1))),
     length_runs (bits % parts) (bits / parts + 1) 0, length_runs (parts - bits % parts) (bits / parts) (bits % parts * (bits / parts + 1)), fewer)
 
+and_both : (one other : Bool) → (one && other) ≡ true → (one ≡ true) × (other ≡ true)
+and_both true other is = (refl, is)
+and_both false other is = let never : false ≡ true = is in cc
+
+-- what can be cut has 1 to 64 parts
+parts_cut : (bits parts : ℕ) → CanBeCut bits parts → (1 ≤ parts) × (parts ≤ 64)
+parts_cut bits parts cut =
+    let some = and_both (nat_le 1 parts) (nat_le parts 64 && (nat_le parts bits && nat_le bits (12 * parts))) cut in
+    let few = and_both (nat_le parts 64) (nat_le parts bits && nat_le bits (12 * parts)) some.1 in
+    (leb-true 1 parts some.0, leb-true parts 64 few.0)
+
 pub is_ready : (W : ℕ) (config : Config) (version : Contents) → IsAllowed W config.bits → IsConfig config → version ≡ contents_of config [] → IsReady W config version
 is_ready W config version allowed is first = record {
   allowed = allowed;
@@ -53,7 +65,7 @@ is_ready W config version allowed is first = record {
   few_entries = omega (arith, is.all_entries);
   one_shard = ap (λ (v : Contents). v.shards) first;
   laid = ap (λ (v : Contents). v.layout) first;
-  few_parts = omega (arith, length_contiguous config.bits config.parts is.laid.some_parts, is.laid.few_parts);
+  few_parts = let cut = parts_cut config.bits config.parts is.cut in omega (arith, length_contiguous config.bits config.parts cut.0, cut.1);
 }
 
 -- ---- the ledgers

@@ -19,7 +19,8 @@ use Rattle.shard_version.specs.Contents.{Contents, after_entry}
 use Rattle.query_protocol.specs.Requests.{LineRequest, Add, Range, Next, Cost, Plan, Layout, Quit, stored_reading}
 use Rattle.query_protocol.specs.declared.bad.Bad.{Bad}
 use Rattle.gph_session.specs.Ledger.{layout_of, IsPlanOf}
-use Rattle.gph_session.specs.Meaning.{contents_of, own_code, AsksOn, IsFit}
+use Rattle.gph_session.specs.Meaning.{contents_of, AsksOn, IsFit}
+use Rattle.gph_session.specs.Changing.{own_code}
 use Rattle.gph_session.proofs.ReadingLemmas.{HasCode}
 
 -- ---- codes

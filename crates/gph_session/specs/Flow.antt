@@ -15,7 +15,7 @@ use Rattle.gph_session.specs.declared.session.Turn.TheVariants.{Goes, Quits}
 use Rattle.gph_session.specs.State.{State, new_session}
 use Rattle.gph_session.specs.Step.{Exchange, Step}
 use Rattle.gph_session.specs.Run.{Run, commit_of, commits, AreAlone, AnswersLines, written, asks_quit, before_quit, has_quit}
-use Rattle.gph_session.specs.Outcomes.{IsRefused}
+use Rattle.gph_session.specs.Run.{IsRefused}
 use Rattle.gph_session.specs.Held.{reads_of}
 use Rattle.gph_session.specs.Meaning.{Means, AllRead}
 use Rattle.gph_session.specs.Writing.{Writes}

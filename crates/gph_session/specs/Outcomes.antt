@@ -1,16 +1,14 @@
 -- What a whole call has read and written, for each way in which it ends.
-use Rattle.std.specs.Prelude.{◌≡◌, ℕ, ◌<◌, ◌≤◌, ◌⊎◌, Bool, true, false, List, [], ◌∷◌, ◌++◌, length, map, take, Some, Result, Ok}
+use Rattle.std.specs.Prelude.{◌≡◌, ℕ, ◌≤◌, ◌⊎◌, Bool, true, false, List, [], ◌∷◌, ◌++◌, length, take, Some, Result, Ok}
 use Rattle.std.specs.declared.option.Option.{Option}
 use Rattle.std.specs.Io.KnownBytes.{Appends, Consumes, IsAtEnd}
 use Rattle.part_layout.specs.declared.config.Config.{Config}
 use Rattle.line_io.specs.Faults.{Rose}
 use Rattle.line_io.specs.Lines.{lines}
-use Rattle.query_protocol.specs.Replies.{text}
 use Rattle.gph_session.specs.declared.outcome.Outcome.{Outcome}
 use Rattle.gph_session.specs.declared.outcome.Outcome.TheVariants.{Done, Usage, ReadFault, WriteFault, NoMemory, InputLimit}
-use Rattle.gph_session.specs.Step.{Exchange}
-use Rattle.gph_session.specs.Run.{IsSolo, AnswersLines, commits, written, before_quit, has_quit}
-use Rattle.gph_session.specs.Ledger.{IsRise, RisesBy}
+use Rattle.gph_session.specs.Run.{IsRefused, AnswersLines, before_quit, has_quit}
+use Rattle.gph_session.specs.Ledger.{RisesBy}
 
 -- a source or a sink over a call: the bytes that it tells, and its count of faults
 pub record Ends : Type 0 where
@@ -45,19 +43,6 @@ pub record IsReadFault (config : Config) (source source' sink sink' : Ends) (ris
   pub moved : Transfers config.input source source' sink sink' bytes output
   pub goes_on : has_quit config (lines bytes false) ≡ false
   pub answered : AnswersLines config (lines bytes false) output rise
-
--- the output is the replies to some of the lines in front, and of the replies to the line after them a part, and the queries of
--- the session that answered these lines read so many postings
-pub record IsRefused (config : Config) (of_lines : List (List ℕ)) (output : List ℕ) (rise : ℕ) : Type 0 where
-  pub answered : List Exchange
-  pub refused : Exchange
-  pub rest : List (List ℕ)
-  pub solo : IsSolo config (answered ++ refused ∷ [])
-  pub lines_are : of_lines ≡ map (λ exchange. exchange.line) answered ++ refused.line ∷ rest
-  pub taken : ℕ
-  pub not_all : taken < length (text refused.replies)
-  pub output_is : output ≡ written answered ++ take taken (text refused.replies)
-  pub ledger : IsRise config (commits config (answered ++ refused ∷ [])) solo.last.queries rise
 
 -- a write failed: the sink refused a reply to one of the lines, of which the last without LF is one where the input ended
 pub record IsWriteFault (config : Config) (source source' sink sink' : Ends) (rise : ℕ) : Type 0 where

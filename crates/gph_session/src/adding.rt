@@ -6,7 +6,7 @@ ghost use Rattle.hamming_model.specs.Codes.{StandsFor};
 ghost use Rattle.hamming_model.specs.History.{code_at};
 ghost use Rattle.shard_version.specs.Contents.{after_entry};
 ghost use Rattle.shard_version.specs.declared.version.TheConstants.{ENTRIES};
-ghost use Rattle.gph_session.specs.Meaning.{AddsAs, added_entry, own_code};
+ghost use Rattle.gph_session.specs.Changing.{AddsAs, added_entry, own_code};
 
 use entry_log::{Decision, Entry, Op, decide};
 use gph_codes::Code;

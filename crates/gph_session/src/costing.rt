@@ -14,10 +14,12 @@ pub(crate) fn cost<const W: usize>(queries: &mut Vec<OpenQuery<W>>, tag: &Tag) -
         None => Reply::Bad(Bad { number: 8, word: 0 }),
         Some(place) => {
             let task = &mut queries[place].task;
+            let reads = task.reads();
+            let bound = task.bound(None);
             Reply::Cost {
                 tag: *tag,
-                reads: task.reads(),
-                bound: task.bound(None),
+                reads,
+                bound,
             }
         }
     }

@@ -1,7 +1,7 @@
 //! `next`.
 
 ghost use Rattle.std.specs.Prelude.{◌≡◌, IfOk};
-ghost use Rattle.gph_session.specs.Giving.{FillsUp, GivesHits, GivesQuery, GivesAs};
+ghost use Rattle.gph_session.specs.GivenHits.{FillsUp, GivesHits, GivesQuery, GivesAs};
 ghost use Rattle.gph_session.specs.Writing.{IsCaused};
 
 use crate::open_query::{OpenQuery, place_of};

@@ -3,7 +3,7 @@
 ghost use Rattle.std.specs.Prelude.{◌≡◌, ◌*◌, ◌++◌, ◌≤◌, [], ◌∷◌, ℕ, OnErr, OnOk};
 ghost use Rattle.std.specs.Arc.{arc_value};
 ghost use Rattle.hamming_model.specs.Codes.{StandsFor};
-ghost use Rattle.gph_session.specs.Meaning.{OpensAs, own_code};
+ghost use Rattle.gph_session.specs.Changing.{OpensAs, own_code};
 
 use crate::open_query::{MOST_OPEN, OpenQuery, place_of};
 use gph_codes::Code;

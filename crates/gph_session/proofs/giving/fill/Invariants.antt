@@ -1,5 +1,5 @@
 use Rattle.std.proofs.Common.{◌≡◌}
-use Rattle.gph_session.specs.Giving.{ReadsOn}
+use Rattle.gph_session.specs.GivenHits.{ReadsOn}
 use Rattle.gph_session.proofs.giving.fill.Given as goal
 
 -- the source has read on, and has given nothing

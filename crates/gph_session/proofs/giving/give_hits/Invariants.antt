@@ -1,8 +1,8 @@
 use Rattle.std.proofs.Common.{◌≡◌, ◌+◌, ◌-◌, ◌≤◌, take, drop}
 use Rattle.std.specs.Io.KnownBytes.{Appends}
 use Rattle.query_protocol.specs.Replies.{text}
-use Rattle.gph_session.specs.Step.{hit_replies}
-use Rattle.gph_session.specs.Giving.{ReadsOn, IsFilled}
+use Rattle.gph_session.specs.QuerySteps.{hit_replies}
+use Rattle.gph_session.specs.GivenHits.{ReadsOn, IsFilled}
 use Rattle.gph_session.proofs.giving.give_hits.Given as goal
 
 -- the first hits are given, the source is filled, and no count of faults has fallen

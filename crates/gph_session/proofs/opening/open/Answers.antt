@@ -3,7 +3,7 @@ use Rattle.std.specs.Arc.{arc_value}
 use Rattle.shard_version.specs.Contents.{IsVersion}
 use Rattle.shard_query.specs.Opening.{AsksRange, BeginsRange}
 use Rattle.gph_session.specs.Held.{asked_of, standing_of}
-use Rattle.gph_session.specs.Meaning.{own_code}
+use Rattle.gph_session.specs.Changing.{own_code}
 use Rattle.gph_session.specs.declared.open_query.OpenQuery.{OpenQuery}
 use Rattle.gph_session.proofs.LawLemmas.{lawful_of}
 use Rattle.gph_session.proofs.VersionLemmas.{scan_within}

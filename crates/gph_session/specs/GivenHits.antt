@@ -7,7 +7,7 @@ use Rattle.query_protocol.specs.Replies.{text, reply_line}
 use Rattle.query_protocol.specs.declared.reply.Reply.TheVariants as reply
 use Rattle.gph_session.specs.declared.open_query.OpenQuery.{OpenQuery}
 use Rattle.gph_session.specs.declared.session.Turn.{Turn}
-use Rattle.gph_session.specs.Step.{next_replies, hit_replies}
+use Rattle.gph_session.specs.QuerySteps.{next_replies, hit_replies}
 use Rattle.gph_session.specs.Held.{asked_of, standing_of, IsFree, Changes}
 use Rattle.gph_session.specs.Writing.{Writes}
 
