@@ -1,5 +1,5 @@
 -- Lemmas on giving the hits of a source: the first that waits is the next of all, and what a query has given.
-use Rattle.std.proofs.Common.{◌≡◌, ℕ, zero, suc, ◌+◌, ◌-◌, ◌≤◌, ◌<◌, ◌^◌, min, nat_lt, Bool, true, false, cond, List, [], ◌∷◌, ◌++◌, length, take, drop, Option, Some, None, is_some, Result, Ok, Err, refl, sym, ap, ◌∙◌, subst, arith, inl, inr, append-nil, append_assoc, length-append, length-drop}
+use Rattle.std.proofs.Common.{◌≡◌, ℕ, zero, suc, ◌+◌, ◌-◌, ◌≤◌, ◌<◌, ◌^◌, min, nat_lt, true, false, cond, List, [], ◌∷◌, ◌++◌, length, take, drop, Option, Some, None, is_some, Result, Ok, Err, refl, sym, ap, ◌∙◌, subst, arith, inl, inr, append-nil, length-drop}
 use Rattle.std.specs.Io.KnownBytes.{Appends}
 use Rattle.std.proofs.KnownBytes.{Appends-trans}
 use Rattle.std.proofs.lemmas.List.{take_all, drop-drop}
@@ -15,7 +15,7 @@ use Rattle.gph_session.specs.declared.open_query.OpenQuery.{OpenQuery}
 use Rattle.gph_session.specs.declared.session.Turn.{Turn}
 use Rattle.gph_session.specs.QuerySteps.{hit_replies, next_replies}
 use Rattle.gph_session.specs.Held.{asked_of, standing_of}
-use Rattle.gph_session.specs.GivenHits.{ReadsOn, IsFilled, FillsUp, GivesHits, IsCounted, IsGiven, GivesQuery}
+use Rattle.gph_session.specs.GivenHits.{ReadsOn, IsFilled, GivesHits, IsCounted, GivesQuery}
 use Rattle.gph_session.specs.Writing.{Writes}
 use Rattle.gph_session.proofs.StepLemmas.{on_ok}
 use Rattle.gph_session.proofs.WritingLemmas.{part_of_whole, writes_after, writes_front, text_append, hits_append}
@@ -201,7 +201,7 @@ module _ {W : ℕ} (tag : List ℕ) (count : ℕ) (before after : OpenQuery W) (
         → GivesQuery tag count before after held0 held2 from to result
     query_more given done some wrote =
         let more : IsCounted before → before.given + count < length (asked_of before).hits = λ counted.
-            omega (arith, gives.given counted.room, gives.reads.lawful.within, one_waits (standing_of after).waiting some, counted.given) in
+        omega (arith, gives.given counted.room, gives.reads.lawful.within, one_waits (standing_of after).waiting some, counted.given) in
         let test : (counted : IsCounted before) → nat_lt (before.given + count) (length (asked_of before).hits) ≡ true = λ counted. lt-ltb (before.given + count) (length (asked_of before).hits) (more counted) in
         record {
           tag_same = tag_same;
@@ -223,7 +223,7 @@ module _ {W : ℕ} (tag : List ℕ) (count : ℕ) (before after : OpenQuery W) (
         let ended : IsCounted before → (standing_of after).ended ≡ true = λ counted. ended_by (standing_of after) (gives.filled counted.room) nothing in
         let all : IsCounted before → (standing_of after).given ≡ length (asked_of before).hits = λ counted. omega (arith, gives.reads.lawful.end.all_reached (ended counted), ap length nothing) in
         let test : (counted : IsCounted before) → nat_lt (before.given + count) (length (asked_of before).hits) ≡ false = λ counted.
-            le-ltb (before.given + count) (length (asked_of before).hits) (omega (arith, gives.given counted.room, all counted, counted.given)) in
+        le-ltb (before.given + count) (length (asked_of before).hits) (omega (arith, gives.given counted.room, all counted, counted.given)) in
         record {
           tag_same = tag_same;
           asked = asked;

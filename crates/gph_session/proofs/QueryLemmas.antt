@@ -1,5 +1,5 @@
 -- Lemmas on the open queries in memory: what they are to a longer history, the one of a tag, and after one is opened or changed.
-use Rattle.std.proofs.Common.{◌≡◌, ℕ, ◌+◌, ◌≤◌, Bool, true, false, cond, List, [], ◌∷◌, ◌++◌, length, take, drop, Option, Some, None, refl, slice_index_or, sym, ap, ◌∙◌, subst, arith, length-append}
+use Rattle.std.proofs.Common.{◌≡◌, ℕ, ◌+◌, ◌≤◌, Bool, true, false, cond, List, [], ◌∷◌, ◌++◌, length, take, drop, Some, None, refl, slice_index_or, sym, ap, ◌∙◌, subst, arith, length-append}
 use Rattle.std.specs.Str.{bytes_eq}
 use Rattle.std.proofs.lemmas.Slice.Eq.{bytes_eq-Decides}
 use Rattle.std.proofs.lemmas.List.{take-append-le}
@@ -7,7 +7,6 @@ use Rattle.hamming_model.specs.History.{JournalEntry}
 use Rattle.part_layout.specs.declared.config.Config.{Config}
 use Rattle.gph_session.specs.declared.open_query.OpenQuery.{OpenQuery}
 use Rattle.gph_session.specs.State.{Query, query_of, replaced}
-use Rattle.gph_session.specs.Ledger.{IsBoundOf}
 use Rattle.hit_source.specs.Sources.{IsLawful}
 use Rattle.gph_session.specs.Held.{asked_of, standing_of, IsFree, StandsAt, Changes, IsSame}
 use Rattle.gph_session.specs.Meaning.{AsksOn, Keeps, HasRead, AllKeep, AllRead}

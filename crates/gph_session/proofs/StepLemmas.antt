@@ -4,13 +4,12 @@ use Rattle.std.specs.Io.KnownBytes.{Appends}
 use Rattle.std.proofs.lemmas.List.{take_at, take_all, take-append-le}
 use Rattle.std.proofs.lemmas.Bool.{lt-leb, le-leb}
 use Rattle.line_io.specs.declared.source.Failed.{Failed}
-use Rattle.hamming_model.specs.Codes.{IsCode, padded}
+use Rattle.hamming_model.specs.Codes.{IsCode}
 use Rattle.hamming_model.specs.History.{JournalEntry, Decision, Added, Taken, Full, code_at, decide, rows_of}
 use Rattle.hamming_model.specs.History as journal
 use Rattle.hamming_model.specs.Scan.{answer}
 use Rattle.hamming_model.specs.Scan as ask
 use Rattle.hamming_model.specs.declared.hit.Hit.{Hit}
-use Rattle.hamming_model.specs.Stored.{AreCodes}
 use Rattle.part_layout.specs.declared.config.Config.{Config}
 use Rattle.part_layout.specs.Text.{layout_text}
 use Rattle.shard_version.specs.Contents.{Contents, after_entry}
@@ -29,15 +28,15 @@ use Rattle.gph_session.specs.QuerySteps.{OpensUnlessUsed, OpensUnlessMany, IfOpe
 use Rattle.gph_session.specs.Run.{committed, commit_of, asks_quit}
 use Rattle.gph_session.specs.Ledger.{layout_of, IsBoundOf, IsPlanOf}
 use Rattle.gph_session.specs.Held.{asked_of, standing_of, IsFree, StandsAt, Changes, IsSame}
-use Rattle.gph_session.specs.GivenHits.{ReadsOn, IsCounted, IsGiven, GivesQuery, GivesAs}
+use Rattle.gph_session.specs.GivenHits.{IsCounted, IsGiven, GivesQuery, GivesAs}
 use Rattle.gph_session.specs.Asking.{CostsAs, PlansAs}
 use Rattle.gph_session.specs.Changing.{AddsAs, OpensAs, BeginsQuery, own_code, added_entry}
-use Rattle.gph_session.specs.Meaning.{AsksOn, Keeps, HasRead, AllKeep, AllRead, Means, contents_of}
+use Rattle.gph_session.specs.Meaning.{AsksOn, Keeps, AllKeep, AllRead, Means, contents_of}
 use Rattle.shard_query.specs.Opening.{AsksRange}
 use Rattle.gph_session.specs.Writing.{Writes}
 use Rattle.gph_session.specs.Flow.{OneStep, TurnIs}
 use Rattle.gph_session.proofs.ReadingLemmas.{add_kept, range_kept, next_kept, cost_kept, plan_kept, layout_kept, quit_kept, kept_fault, kept_nothing, kept_add, kept_range, kept_next, kept_cost, kept_plan, kept_layout, kept_quit, code_read, HasCode}
-use Rattle.gph_session.proofs.LedgerLemmas.{all_read, has_read, has_read_on, bound_of, reads_within, lawful_still, told_still, told_all_still}
+use Rattle.gph_session.proofs.LedgerLemmas.{all_read, has_read_on, bound_of, reads_within, lawful_still, told_still, told_all_still}
 use Rattle.gph_session.proofs.QueryLemmas.{keep_later, keep_more, same_number, not_open, found_changed, is_open, keeps_told, replaced_same, told_of, IsFound}
 use Rattle.gph_session.proofs.VersionLemmas.{after_added, own_of_padded, codes_more, asked_hits, asked_room, asked_plan}
 

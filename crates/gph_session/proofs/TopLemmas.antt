@@ -43,8 +43,13 @@ length_runs (suc number) width first = ap suc (length_runs number width (first +
 length_contiguous : (bits parts : ℕ) → 1 ≤ parts → length (contiguous bits parts) ≡ parts
 length_contiguous bits parts some =
     let fewer : bits % parts ≤ parts = omega (arith, some) in
-    omega (arith, length-append (runs (bits % parts) (bits / parts + 1) 0) (runs (parts - bits % parts) (bits / parts) (bits % parts * (bits / parts + 1))),
-    length_runs (bits % parts) (bits / parts + 1) 0, length_runs (parts - bits % parts) (bits / parts) (bits % parts * (bits / parts + 1)), fewer)
+    omega (
+      arith,
+      length-append (runs (bits % parts) (bits / parts + 1) 0) (runs (parts - bits % parts) (bits / parts) (bits % parts * (bits / parts + 1))),
+      length_runs (bits % parts) (bits / parts + 1) 0,
+      length_runs (parts - bits % parts) (bits / parts) (bits % parts * (bits / parts + 1)),
+      fewer,
+    )
 
 and_both : (one other : Bool) → (one && other) ≡ true → (one ≡ true) × (other ≡ true)
 and_both true other is = (refl, is)

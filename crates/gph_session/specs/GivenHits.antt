@@ -1,5 +1,5 @@
 -- What giving hits does to a source, to its query and to the sink. No public clause cites this module.
-use Rattle.std.specs.Prelude.{◌≡◌, ℕ, ◌+◌, ◌-◌, ◌<◌, ◌≤◌, ◌⊎◌, min, nat_lt, true, if◌then◌else◌, List, [], length, take, drop, Option, Result, OnOk, IfOk}
+use Rattle.std.specs.Prelude.{◌≡◌, ℕ, ◌+◌, ◌<◌, ◌≤◌, ◌⊎◌, min, nat_lt, true, if◌then◌else◌, List, length, take, drop, Option, Result, OnOk, IfOk}
 use Rattle.hit_source.specs.Sources.{Asked, Standing, IsLawful}
 use Rattle.line_io.specs.declared.source.Failed.{Failed}
 use Rattle.query_protocol.specs.Requests.{bad}

@@ -59,10 +59,7 @@ pub(crate) fn open<const W: usize>(
 }
 
 // Puts a query after the others.
-fn put<const W: usize>(
-    queries: &mut Vec<OpenQuery<W>>,
-    query: OpenQuery<W>,
-) -> Result<(), NoMemory>
+fn put<const W: usize>(queries: &mut Vec<OpenQuery<W>>, query: OpenQuery<W>) -> Result<(), NoMemory>
     ensures ok { OnOk result (queries.new.items ≡ queries.old.items ++ query.entry ∷ []) }
     ensures err { OnErr result (queries.new.items ≡ queries.old.items) }
 {

@@ -1,6 +1,6 @@
-use Rattle.std.proofs.Common.{◌≡◌, ◌+◌, ◌<◌, take, drop, sym, ◌∙◌, subst, arith, rules}
+use Rattle.std.proofs.Common.{◌≡◌, ◌<◌, ◌∙◌, subst, arith}
 use Rattle.hit_source.specs.Sources.{IsLawful}
-use Rattle.gph_session.specs.GivenHits.{FillsUp, ReadsOn}
+use Rattle.gph_session.specs.GivenHits.{FillsUp}
 use Rattle.gph_session.proofs.GivingLemmas.{gave_part, wrote_more, number_more, reads_popped_on, reads_then}
 use Rattle.gph_session.proofs.giving.give_hits.Goals as goal
 

@@ -1,4 +1,4 @@
-use Rattle.std.proofs.Common.{◌≡◌, ◌≤◌, false, length, refl, ap, subst, arith, rules}
+use Rattle.std.proofs.Common.{◌≡◌, false, length, refl, ap, subst, arith, rules}
 use Rattle.std.specs.Arc.{arc_value}
 use Rattle.shard_version.specs.Contents.{IsVersion}
 use Rattle.shard_query.specs.Opening.{AsksRange, BeginsRange}
@@ -16,8 +16,7 @@ returns-in-Ok-put g c =
     let pinned : arc_value c.in-Ok.pinned ≡ version = search rules in
     let asks = subst (λ v. AsksRange v (own_code v.layout.bits c.args.code) c.args.tau c.args.room (asked_of held)) pinned c.in-Ok-open.ensures.asked in
     let begins = subst (λ v. BeginsRange v (asked_of held) (standing_of held)) pinned c.in-Ok-open.ensures.begins in
-    let whole : IsVersion version = search rules in
-    (
+    let whole : IsVersion version = search rules in (
       refl,
       search rules,
       search rules,

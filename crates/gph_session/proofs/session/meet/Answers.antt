@@ -3,8 +3,6 @@ use Rattle.std.specs.Arc.{arc_value}
 use Rattle.std.proofs.KnownBytes.{Appends-nil}
 use Rattle.query_protocol.specs.Replies.{reply_line}
 use Rattle.query_protocol.specs.declared.reply.Reply.TheVariants as reply
-use Rattle.part_layout.specs.Laid.{Laid}
-use Rattle.part_layout.specs.Text.{layout_text}
 use Rattle.gph_session.specs.Writing.{Writes}
 use Rattle.gph_session.proofs.StepLemmas.{add_turn, range_turn, next_turn, cost_turn, plan_turn, layout_turn, quit_turn}
 use Rattle.gph_session.proofs.LedgerLemmas.{ledger_opened, ledger_given, ledger_told}
