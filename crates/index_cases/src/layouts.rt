@@ -9,7 +9,7 @@ use std::process::Abort;
 const SINGLES: &[u8] =
     b"0/1/2/3/4/5/6/7/8/9/10/11/12/13/14/15/16/17/18/19/20/21/22/23/24/25/26/27/28/29/30/31/32/33/34/35/36/37/38/39/40/41/42/43/44/45/46/47/48/49/50/51/52/53/54/55/56/57/58/59/60/61/62/63";
 
-// Whether a layout may have so many bits; the tests ask for no others.
+// Stops a test that asks for a number of bits that no layout has.
 fn check_bits<R: Abort>(rt: &R, bits: u32)
     ensures { IsAllowed bits }
 {
