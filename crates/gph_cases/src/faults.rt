@@ -1,14 +1,16 @@
 //! Sessions whose source or sink fails.
 
-use crate::trial::{Postings, list_of, run_over};
+use crate::trial::{Ends, Postings, compare, list_of};
 use gph_session::{Outcome, run};
 use line_io::{SteadySink, SteadySource};
 use read_meter::Meters;
 use std::alloc::Global;
+use std::env::Env;
+use std::process::Abort;
 use std::test::Fail;
 
 // The lines of a session of 59 bytes, each with its replies.
-const LINES: [(&[u8], &[u8]); 6] = [
+static LINES: [(&[u8], &[u8]); 6] = [
     (b"add 1 00\n", b"added 1 at 1\n"),
     (b"add 2 0f\n", b"added 2 at 2\n"),
     (b"add 3 ff\n", b"added 3 at 3\n"),
@@ -21,7 +23,7 @@ const LINES: [(&[u8], &[u8]); 6] = [
 fn whole_lines(alloc: Global, bytes: usize) -> Result<(Vec<u8>, Vec<u8>), Fail> {
     let mut input = Vec::new(alloc);
     let mut output = Vec::new(alloc);
-    for (line, replies) in LINES {
+    for &(line, replies) in &LINES {
         if input.len().saturating_add(line.len()) > bytes {
             break;
         }
@@ -32,36 +34,36 @@ fn whole_lines(alloc: Global, bytes: usize) -> Result<(Vec<u8>, Vec<u8>), Fail> 
 }
 
 // How many bytes a read gives, and how many reads the session takes, with the one that finds its end.
-const READS: [(usize, u64); 4] = [(100, 2), (9, 8), (7, 10), (1, 60)];
+static READS: [(usize, u64); 4] = [(100, 2), (9, 8), (7, 10), (1, 60)];
 
 #[test]
 fn a_failed_read_leaves_the_replies_to_the_lines_before_it(rt: HostRuntime) -> Result<(), Fail> {
     let (input, _) = whole_lines(rt.alloc(), 59)?;
     assert_eq!(rt; input.len(), 59);
-    for (piece, reads) in READS {
-        assert!(rt; piece >= 1);
+    for &(piece, reads) in &READS {
         let mut given: usize = 0;
         for call in 1..=61u64 {
-            let trial = run_over(
-                &rt,
-                "run --bits 8",
-                input.as_slice(),
-                piece,
-                &[call],
-                &[],
-            )?;
             let outcome = if call <= reads {
                 Outcome::ReadFault
             } else {
                 Outcome::Done
             };
             let (_, output) = whole_lines(rt.alloc(), given)?;
-            assert_eq!(rt; trial.outcome, outcome, "call {call}, by {piece}");
-            assert_eq!(rt;
-                trial.output.as_slice(),
+            let ends = Ends {
+                piece,
+                read: call,
+                write: 0,
+            };
+            compare(
+                &rt,
+                rt.alloc(),
+                "a read fails",
+                "run --bits 8",
+                input.as_slice(),
+                ends,
                 output.as_slice(),
-                "call {call}, by {piece}"
-            );
+                outcome,
+            )?;
             given = given.saturating_add(piece);
         }
     }
@@ -69,7 +71,7 @@ fn a_failed_read_leaves_the_replies_to_the_lines_before_it(rt: HostRuntime) -> R
 }
 
 // The replies of that session, a piece each.
-const REPLIES: [&[u8]; 8] = [
+static REPLIES: [&[u8]; 8] = [
     b"added 1 at 1\n",
     b"added 2 at 2\n",
     b"added 3 at 3\n",
@@ -80,51 +82,61 @@ const REPLIES: [&[u8]; 8] = [
     b"done a 2\n",
 ];
 
+// Compares that session where its write of a number fails.
+fn fail_write<R: Abort + Env>(
+    rt: &R,
+    alloc: Global,
+    input: &[u8],
+    piece: usize,
+    write: u64,
+    output: &[u8],
+    outcome: Outcome,
+) -> Result<(), Fail> {
+    let ends = Ends {
+        piece,
+        read: 0,
+        write,
+    };
+    compare(
+        rt,
+        alloc,
+        "a write fails",
+        "run --bits 8",
+        input,
+        ends,
+        output,
+        outcome,
+    )
+}
+
 #[test]
 fn a_failed_write_leaves_the_pieces_before_it(rt: HostRuntime) -> Result<(), Fail> {
     let (input, _) = whole_lines(rt.alloc(), 59)?;
     for piece in [4096, 7, 1] {
-        assert!(rt; piece >= 1);
         let mut output = Vec::new(rt.alloc());
         let mut call = 1;
-        for reply in REPLIES {
-            let trial = run_over(
+        for reply in &REPLIES {
+            let (given, written) = (input.as_slice(), output.as_slice());
+            fail_write(
                 &rt,
-                "run --bits 8",
-                input.as_slice(),
+                rt.alloc(),
+                given,
                 piece,
-                &[],
-                &[call],
-            )?;
-            assert_eq!(rt;
-                trial.outcome,
+                call,
+                written,
                 Outcome::WriteFault,
-                "call {call}, by {piece}"
-            );
-            assert_eq!(rt;
-                trial.output.as_slice(),
-                output.as_slice(),
-                "call {call}, by {piece}"
-            );
+            )?;
             output.extend_from_slice(reply)?;
             call = call.saturating_add(1);
         }
-        let trial = run_over(
-            &rt,
-            "run --bits 8",
-            input.as_slice(),
-            piece,
-            &[],
-            &[call],
-        )?;
-        assert_eq!(rt; trial.outcome, Outcome::Done, "by {piece}");
-        assert_eq!(rt; trial.output.as_slice(), output.as_slice(), "by {piece}");
+        let (given, written) = (input.as_slice(), output.as_slice());
+        fail_write(&rt, rt.alloc(), given, piece, call, written, Outcome::Done)?;
     }
     Ok(())
 }
 
 // What a session is about, its input, the bytes of a read, the read and the write that fail or 0, its output and its end.
-const FAULTS: [(&str, &[u8], usize, u64, u64, &[u8], Outcome); 8] = [
+static FAULTS: [(&str, &[u8], usize, u64, u64, &[u8], Outcome); 8] = [
     (
         "the third write fails",
         b"add 1 00\nadd 2 00\nadd 3 00\n",
@@ -201,11 +213,18 @@ const FAULTS: [(&str, &[u8], usize, u64, u64, &[u8], Outcome); 8] = [
 
 #[test]
 fn a_session_ends_at_its_first_fault(rt: HostRuntime) -> Result<(), Fail> {
-    for (about, input, piece, read, write, output, outcome) in FAULTS {
-        assert!(rt; piece >= 1);
-        let trial = run_over(&rt, "run --bits 8", input, piece, &[read], &[write])?;
-        assert_eq!(rt; trial.outcome, outcome, "{about}");
-        assert_eq!(rt; trial.output.as_slice(), output, "{about}");
+    for &(about, input, piece, read, write, output, outcome) in &FAULTS {
+        let ends = Ends { piece, read, write };
+        compare(
+            &rt,
+            rt.alloc(),
+            about,
+            "run --bits 8",
+            input,
+            ends,
+            output,
+            outcome,
+        )?;
     }
     Ok(())
 }

@@ -50,7 +50,7 @@ fn cut_off(alloc: Global, pieces: &[&[u8]]) -> Result<Vec<u8>, Fail> {
 }
 
 // A text, and its lines with a bar behind each.
-const TEXTS: [(&[u8], &[u8]); 4] = [
+static TEXTS: [(&[u8], &[u8]); 4] = [
     (b"ab\r\n\n\r\nc\r\r\nde", b"ab|||c\r|de|"),
     (b"\n\r\r\n a\nb \n\r", b"|\r| a|b |\r|"),
     (b"a\rb\n\nc\r\n", b"a\rb||c|"),
@@ -59,7 +59,7 @@ const TEXTS: [(&[u8], &[u8]); 4] = [
 
 #[test]
 fn lines_are_the_same_however_their_text_is_cut(rt: HostRuntime) -> Result<(), Fail> {
-    for (text, lines) in TEXTS {
+    for &(text, lines) in &TEXTS {
         for second in 0..=text.len() {
             for third in second..=text.len() {
                 let (begun, last) = text.split_at(third);
@@ -73,7 +73,7 @@ fn lines_are_the_same_however_their_text_is_cut(rt: HostRuntime) -> Result<(), F
 }
 
 // How often a letter stands, what follows it, whether the first line is long, and what else is cut off.
-const LENGTHS: [(usize, &[u8], bool, &[u8]); 8] = [
+static LENGTHS: [(usize, &[u8], bool, &[u8]); 8] = [
     (4096, b"\n", false, b""),
     (4096, b"\r\n", false, b""),
     (4096, b"", false, b""),
@@ -105,7 +105,7 @@ fn is_cut(
 
 #[test]
 fn a_line_of_4096_bytes_is_kept_and_a_longer_one_is_not(rt: HostRuntime) -> Result<(), Fail> {
-    for (count, rest, is_long, after) in LENGTHS {
+    for &(count, rest, is_long, after) in &LENGTHS {
         let letters = Vec::from_elem(rt.alloc(), b'x', count)?;
         let cut = is_cut(rt.alloc(), letters.as_slice(), rest, is_long, after)?;
         assert!(rt; cut, "{count} letters, then {rest:?}");
@@ -114,7 +114,7 @@ fn a_line_of_4096_bytes_is_kept_and_a_longer_one_is_not(rt: HostRuntime) -> Resu
 }
 
 // Numbers, and their digits.
-const NUMBERS: [(u64, &[u8]); 6] = [
+static NUMBERS: [(u64, &[u8]); 6] = [
     (0, b"at 0."),
     (9, b"at 9."),
     (10, b"at 10."),
@@ -127,7 +127,7 @@ const NUMBERS: [(u64, &[u8]); 6] = [
 fn a_line_holds_text_and_numbers_until_it_is_cleared(rt: HostRuntime) -> Result<(), Fail> {
     let mut line = LineBuf::new(rt.alloc())?;
     assert_eq!(rt; line.bytes(), b"".as_slice());
-    for (number, text) in NUMBERS {
+    for &(number, text) in &NUMBERS {
         line.clear();
         line.put(b"at ");
         line.put_number(number);
@@ -163,23 +163,37 @@ impl Write for Broken {
     }
 }
 
+// Whether the next read into a room gives a piece.
+fn gives<S: Source>(source: &mut S, room: &mut [u8], piece: &[u8]) -> bool {
+    match source.read(room) {
+        Ok(count) => &room[..count] == piece,
+        Err(Failed) => false,
+    }
+}
+
+// Whether a sink takes a piece whole.
+fn takes<K: Sink>(sink: &mut K, piece: &[u8]) -> bool {
+    match sink.write(piece) {
+        Ok(count) => count == piece.len(),
+        Err(Failed) => false,
+    }
+}
+
 #[test]
 fn a_reader_and_a_writer_of_std_are_ends(rt: HostRuntime) -> Result<(), Fail> {
     let mut room = [0; 4];
     let mut source = FromReader::new(Cursor::new(b"line\nab".as_slice()));
-    for piece in [b"line".as_slice(), b"\nab".as_slice(), b"".as_slice()] {
-        let count = source.read(&mut room).ok().expect(&rt, "a read failed");
-        assert_eq!(rt; &room[..count], piece);
-    }
-    assert_eq!(rt; FromReader::new(Broken).read(&mut room), Err(Failed));
+    assert!(rt; gives(&mut source, &mut room, b"line"));
+    assert!(rt; gives(&mut source, &mut room, b"\nab"));
+    assert!(rt; gives(&mut source, &mut room, b""));
+    assert!(rt; FromReader::new(Broken).read(&mut room).is_err());
 
     let mut written = Vec::new(rt.alloc());
     let mut sink = ToWriter::new(&mut written);
-    for piece in [b"done ".as_slice(), b"a 2\n".as_slice()] {
-        assert_eq!(rt; sink.write(piece), Ok(piece.len()));
-    }
-    assert_eq!(rt; written.as_slice(), b"done a 2\n".as_slice());
-    assert_eq!(rt; ToWriter::new(Broken).write(b"a"), Err(Failed));
+    assert!(rt; takes(&mut sink, b"done "));
+    assert!(rt; takes(&mut sink, b"a 2\n"));
+    assert!(rt; written.as_slice() == b"done a 2\n".as_slice());
+    assert!(rt; ToWriter::new(Broken).write(b"a").is_err());
     Ok(())
 }
 
@@ -228,13 +242,20 @@ impl<'a> Read for Looking<'a> {
     }
 }
 
-// How many bytes a cell has.
-fn count_of(cell: &RefCell<Vec<u8>>) -> Option<usize> {
+// Whether a cell has so many bytes.
+fn has_count(cell: &RefCell<Vec<u8>>, count: usize) -> bool {
     match cell.try_borrow() {
-        Ok(bytes) => Some(bytes.len()),
-        Err(_) => None,
+        Ok(bytes) => bytes.len() == count,
+        Err(_) => false,
     }
 }
+
+// A piece to write, how many bytes were given out before it, and all that is given out before the next read.
+static GATHERED: [(&[u8], usize, &[u8]); 3] = [
+    (b"open a", 0, b"open a"),
+    (b" at 4", 6, b"open a at 4"),
+    (b"", 11, b"open a at 4"),
+];
 
 #[test]
 fn what_is_gathered_is_given_out_before_the_next_read(rt: HostRuntime) -> Result<(), Fail> {
@@ -247,25 +268,20 @@ fn what_is_gathered_is_given_out_before_the_next_read(rt: HostRuntime) -> Result
     let mut source = GatheredReader::new(Looking { cell: &cell }, &gathered);
     let mut sink = GatheredWriter::new(&gathered);
     let mut room = [0; 16];
-    assert_eq!(rt; source.read(&mut room), Ok(0));
-    for (piece, before, after) in [
-        (b"open a".as_slice(), 0, b"open a".as_slice()),
-        (b" at 4".as_slice(), 6, b"open a at 4".as_slice()),
-        (b"".as_slice(), 11, b"open a at 4".as_slice()),
-    ] {
-        assert_eq!(rt; sink.write(piece), Ok(piece.len()));
-        assert_eq!(rt; count_of(&cell), Some(before));
-        let count = source.read(&mut room).ok().expect(&rt, "a read failed");
-        assert_eq!(rt; &room[..count], after);
+    assert!(rt; gives(&mut source, &mut room, b""));
+    for &(piece, before, after) in &GATHERED {
+        assert!(rt; takes(&mut sink, piece));
+        assert!(rt; has_count(&cell, before), "{before}");
+        assert!(rt; gives(&mut source, &mut room, after), "{before}");
     }
     // A full buffer is given out for the next piece.
     let most = Vec::from_elem(rt.alloc(), b'x', 4096)?;
-    assert_eq!(rt; sink.write(most.as_slice()), Ok(4096));
-    assert_eq!(rt; count_of(&cell), Some(11));
-    assert_eq!(rt; sink.write(b"y"), Ok(1));
-    assert_eq!(rt; count_of(&cell), Some(4107));
+    assert!(rt; takes(&mut sink, most.as_slice()));
+    assert!(rt; has_count(&cell, 11));
+    assert!(rt; takes(&mut sink, b"y"));
+    assert!(rt; has_count(&cell, 4107));
     assert!(rt; gathered.give_out());
-    assert_eq!(rt; count_of(&cell), Some(4108));
+    assert!(rt; has_count(&cell, 4108));
     Ok(())
 }
 
@@ -280,11 +296,11 @@ fn a_failed_giving_out_fails_the_next_write_and_no_read(rt: HostRuntime) -> Resu
     let mut source = GatheredReader::new(Looking { cell: &cell }, &gathered);
     let mut sink = GatheredWriter::new(&gathered);
     let mut room = [0; 16];
-    assert_eq!(rt; sink.write(b"open a"), Ok(6));
-    assert_eq!(rt; source.read(&mut room), Ok(0));
-    assert_eq!(rt; sink.write(b"more a"), Err(Failed));
-    assert_eq!(rt; source.read(&mut room), Ok(0));
-    assert_eq!(rt; sink.write(b"more a"), Err(Failed));
+    assert!(rt; takes(&mut sink, b"open a"));
+    assert!(rt; gives(&mut source, &mut room, b""));
+    assert!(rt; sink.write(b"more a").is_err());
+    assert!(rt; gives(&mut source, &mut room, b""));
+    assert!(rt; sink.write(b"more a").is_err());
     assert!(rt; !gathered.give_out());
     Ok(())
 }

@@ -1,125 +1,134 @@
 //! Lines as requests, and replies as lines.
 
+ghost use Rattle.std.specs.Prelude.{◌≤◌, length};
+
 use line_io::LineBuf;
 use part_layout::LayoutText;
 use query_protocol::{Bad, Reply, Request, Tag, read_line, write_hit};
 use std::test::Fail;
 
-// What a line is read as: the request's word, tag, number and the first eight bits of its code; or its first fault.
-#[derive(Clone, Copy, Debug, PartialEq, Eq)]
-enum Read {
-    Nothing,
-    Add(u64, u64),
-    Range(&'static [u8], u32, u64),
-    Next(&'static [u8], u32),
-    Layout(u32),
-    Quit,
-    Fault(u8, u8),
-}
-
-// A line, and what it is read as where codes have 8 bits and there is one shard.
-const LINES: [(&[u8], Read); 52] = [
-    (b"", Read::Nothing),
-    (b"   ", Read::Nothing),
-    (b"add 1 00", Read::Add(1, 0x00)),
-    (b"  add   007  fF ", Read::Add(7, 0xff)),
-    (b"add 0 a5", Read::Add(0, 0xa5)),
-    (b"add 18446744073709551615 0F", Read::Add(u64::MAX, 0x0f)),
-    (b"add 00000000000000000001 10", Read::Add(1, 0x10)),
-    (b"range a 0 80", Read::Range(b"a", 0, 0x80)),
-    (b"range Zz09 008 01", Read::Range(b"Zz09", 8, 0x01)),
+// A line, and what it is read as where codes have 8 bits and there is one shard: the word of the request, its tag, its number
+// and its code. A line without words is nothing.
+static REQUESTS: [(&[u8], &[u8], &[u8], u64, u64); 17] = [
+    (b"", b"", b"", 0, 0),
+    (b"   ", b"", b"", 0, 0),
+    (b"add 1 00", b"add", b"", 1, 0x00),
+    (b"  add   007  fF ", b"add", b"", 7, 0xff),
+    (b"add 0 a5", b"add", b"", 0, 0xa5),
+    (b"add 18446744073709551615 0F", b"add", b"", u64::MAX, 0x0f),
+    (b"add 00000000000000000001 10", b"add", b"", 1, 0x10),
+    (b"range a 0 80", b"range", b"a", 0, 0x80),
+    (b"range Zz09 008 01", b"range", b"Zz09", 8, 0x01),
     (
         b"range abcdefghijklmnop 1 00",
-        Read::Range(b"abcdefghijklmnop", 1, 0x00),
+        b"range",
+        b"abcdefghijklmnop",
+        1,
+        0x00,
     ),
-    (b"next a 1", Read::Next(b"a", 1)),
-    (b"next 9 00002", Read::Next(b"9", 2)),
-    (b"next a 65536", Read::Next(b"a", 65536)),
-    (b"layout 0", Read::Layout(0)),
-    (b" layout  00 ", Read::Layout(0)),
-    (b"quit", Read::Quit),
-    (b" quit ", Read::Quit),
-    (b"add\t1 00", Read::Fault(2, 0)),
-    (b"\x1f", Read::Fault(2, 0)),
-    (b"jump \x7f", Read::Fault(2, 0)),
-    (b"quit\r", Read::Fault(2, 0)),
-    (b"add 1 \xc3\xa9", Read::Fault(2, 0)),
-    (b"~", Read::Fault(3, 0)),
-    (b"jump", Read::Fault(3, 0)),
-    (b"QUIT", Read::Fault(3, 0)),
-    (b"quits", Read::Fault(3, 0)),
-    (b"1 add 00", Read::Fault(3, 0)),
-    (b"add", Read::Fault(4, 0)),
-    (b"add x", Read::Fault(4, 0)),
-    (b"add 1 00 00", Read::Fault(4, 0)),
-    (b"range a 1", Read::Fault(4, 0)),
-    (b"range a 1 00 00", Read::Fault(4, 0)),
-    (b"next a", Read::Fault(4, 0)),
-    (b"next a 1 1", Read::Fault(4, 0)),
-    (b"layout", Read::Fault(4, 0)),
-    (b"layout 1 x", Read::Fault(4, 0)),
-    (b"quit now", Read::Fault(4, 0)),
-    (b"add 18446744073709551616 00", Read::Fault(5, 2)),
-    (b"add 000000000000000000001 0g", Read::Fault(5, 2)),
-    (b"add 1 000", Read::Fault(5, 3)),
-    (b"add 1 0g", Read::Fault(5, 3)),
-    (b"range abcdefghijklmnopq 9 00", Read::Fault(5, 2)),
-    (b"range a_b 1 00", Read::Fault(5, 2)),
-    (b"range a 9 0g", Read::Fault(5, 3)),
-    (b"range a 0001 00", Read::Fault(5, 3)),
-    (b"range a 1 0", Read::Fault(5, 4)),
-    (b"next a 0", Read::Fault(5, 3)),
-    (b"next a 65537", Read::Fault(5, 3)),
-    (b"layout x", Read::Fault(5, 2)),
-    (b"layout 000", Read::Fault(5, 2)),
-    (b"layout 1", Read::Fault(6, 0)),
-    (b"layout 99", Read::Fault(6, 0)),
+    (b"next a 1", b"next", b"a", 1, 0),
+    (b"next 9 00002", b"next", b"9", 2, 0),
+    (b"next a 65536", b"next", b"a", 65536, 0),
+    (b"layout 0", b"layout", b"", 0, 0),
+    (b" layout  00 ", b"layout", b"", 0, 0),
+    (b"quit", b"quit", b"", 0, 0),
+    (b" quit ", b"quit", b"", 0, 0),
 ];
 
-// Whether a line was read as it has to be.
-fn is_read(read: &Result<Option<Request<1>>, Bad>, wanted: Read) -> bool {
+// A line that is no request there, the number of its first fault, and the place of the word at fault.
+static FAULTS: [(&[u8], u8, u8); 35] = [
+    (b"add\t1 00", 2, 0),
+    (b"\x1f", 2, 0),
+    (b"jump \x7f", 2, 0),
+    (b"quit\r", 2, 0),
+    (b"add 1 \xc3\xa9", 2, 0),
+    (b"~", 3, 0),
+    (b"jump", 3, 0),
+    (b"QUIT", 3, 0),
+    (b"quits", 3, 0),
+    (b"1 add 00", 3, 0),
+    (b"add", 4, 0),
+    (b"add x", 4, 0),
+    (b"add 1 00 00", 4, 0),
+    (b"range a 1", 4, 0),
+    (b"range a 1 00 00", 4, 0),
+    (b"next a", 4, 0),
+    (b"next a 1 1", 4, 0),
+    (b"layout", 4, 0),
+    (b"layout 1 x", 4, 0),
+    (b"quit now", 4, 0),
+    (b"add 18446744073709551616 00", 5, 2),
+    (b"add 000000000000000000001 0g", 5, 2),
+    (b"add 1 000", 5, 3),
+    (b"add 1 0g", 5, 3),
+    (b"range abcdefghijklmnopq 9 00", 5, 2),
+    (b"range a_b 1 00", 5, 2),
+    (b"range a 9 0g", 5, 3),
+    (b"range a 0001 00", 5, 3),
+    (b"range a 1 0", 5, 4),
+    (b"next a 0", 5, 3),
+    (b"next a 65537", 5, 3),
+    (b"layout x", 5, 2),
+    (b"layout 000", 5, 2),
+    (b"layout 1", 6, 0),
+    (b"layout 99", 6, 0),
+];
+
+// What was read, as a row of the table tells it. A code of 8 bits stands at the top of its word.
+fn told(read: &Option<Request<1>>) -> (&[u8], &[u8], u64, u64) {
     match read {
-        Ok(None) => wanted == Read::Nothing,
-        Ok(Some(request)) => is_request(request, wanted),
-        Err(fault) => wanted == Read::Fault(fault.number, fault.word),
+        None => (b"", b"", 0, 0),
+        Some(Request::Add { key, code }) => (b"add", b"", *key, code.words()[0]),
+        Some(Request::Range { tag, tau, code }) => {
+            (b"range", tag.bytes(), u64::from(*tau), code.words()[0])
+        }
+        Some(Request::Next { tag, count }) => (b"next", tag.bytes(), u64::from(*count), 0),
+        Some(Request::Layout { shard }) => (b"layout", b"", u64::from(*shard), 0),
+        Some(Request::Quit) => (b"quit", b"", 0, 0),
     }
 }
 
-// Whether a request is as it has to be. A code of 8 bits stands at the top of its word.
-fn is_request(request: &Request<1>, wanted: Read) -> bool {
-    match (request, wanted) {
-        (Request::Add { key, code }, Read::Add(number, byte)) => {
-            *key == number && code.words() == [byte << 56]
+// Whether a line is the request, with the given number of shards.
+fn is_request(line: &[u8], shards: u32, word: &[u8], tag: &[u8], number: u64, code: u64) -> bool
+    requires { length line.now ≤ 4096 }
+{
+    match read_line::<1>(8, shards, line) {
+        Ok(read) => {
+            let (read_word, read_tag, read_number, read_code) = told(&read);
+            read_word == word && read_tag == tag && read_number == number && read_code == code << 56
         }
-        (Request::Range { tag, tau, code }, Read::Range(name, number, byte)) => {
-            tag.bytes() == name && *tau == number && code.words() == [byte << 56]
-        }
-        (Request::Next { tag, count }, Read::Next(name, number)) => {
-            tag.bytes() == name && *count == number
-        }
-        (Request::Layout { shard }, Read::Layout(number)) => *shard == number,
-        (Request::Quit, Read::Quit) => true,
-        _ => false,
+        Err(_) => false,
+    }
+}
+
+// Whether a line has the fault, with the given number of shards.
+fn is_fault(line: &[u8], shards: u32, number: u8, word: u8) -> bool
+    requires { length line.now ≤ 4096 }
+{
+    match read_line::<1>(8, shards, line) {
+        Ok(_) => false,
+        Err(fault) => fault.number == number && fault.word == word,
     }
 }
 
 #[test]
 fn a_line_is_a_request_or_has_its_first_fault(rt: HostRuntime) {
-    for (line, wanted) in LINES {
+    for &(line, word, tag, number, code) in &REQUESTS {
         assert!(rt; line.len() <= 4096);
-        assert!(rt;
-            is_read(&read_line::<1>(8, 1, line), wanted),
-            "{line:?} is not {wanted:?}"
-        );
+        assert!(rt; is_request(line, 1, word, tag, number, code), "{line:?}");
+    }
+    for &(line, number, word) in &FAULTS {
+        assert!(rt; line.len() <= 4096);
+        assert!(rt; is_fault(line, 1, number, word), "{line:?}");
     }
     assert_eq!(rt; Bad::line_too_long(), Bad { number: 1, word: 0 });
     // The last shard of sixteen, and none.
-    assert!(rt; is_read(&read_line::<1>(8, 16, b"layout 15"), Read::Layout(15)));
-    assert!(rt; is_read(&read_line::<1>(8, 16, b"layout 16"), Read::Fault(6, 0)));
+    assert!(rt; is_request(b"layout 15", 16, b"layout", b"", 15, 0));
+    assert!(rt; is_fault(b"layout 16", 16, 6, 0));
 }
 
 // Words, and whether they are tags.
-const TAGS: [(&[u8], bool); 12] = [
+static TAGS: [(&[u8], bool); 12] = [
     (b"a", true),
     (b"Z", true),
     (b"0", true),
@@ -136,7 +145,7 @@ const TAGS: [(&[u8], bool); 12] = [
 
 #[test]
 fn a_tag_is_its_text(rt: HostRuntime) -> Result<(), Fail> {
-    for (word, is_tag) in TAGS {
+    for &(word, is_tag) in &TAGS {
         match Tag::of(word) {
             Some(tag) => {
                 assert!(rt; is_tag, "{word:?}");
@@ -154,71 +163,98 @@ fn a_tag_is_its_text(rt: HostRuntime) -> Result<(), Fail> {
     Ok(())
 }
 
+// Whether a reply is written as a line.
+fn is_line(reply: Reply, line: &mut LineBuf, text: &[u8]) -> bool {
+    line.clear();
+    reply.write(line);
+    line.bytes() == text
+}
+
 #[test]
 fn each_reply_is_its_line(rt: HostRuntime) -> Result<(), Fail> {
     let tag = Tag::of(b"q16").ok_or("no tag")?;
     let mut line = LineBuf::new(rt.alloc())?;
-    let rows = replies(tag);
-    for (reply, text) in rows.iter() {
-        line.clear();
-        reply.write(&mut line);
-        assert_eq!(rt; line.bytes(), *text);
-    }
-    let mut bytes = [0u8; 2048];
-    bytes[..15].copy_from_slice(b"0,1,2/3,4,5/6,7");
-    let reply = Reply::Layout {
-        shard: 12,
-        text: LayoutText::new(bytes, 15),
-    };
-    line.clear();
-    reply.write(&mut line);
-    assert_eq!(rt; line.bytes(), b"layout 12 0,1,2/3,4,5/6,7\n".as_slice());
-    line.clear();
-    write_hit(&tag, 4, 2, &mut line);
-    assert_eq!(rt; line.bytes(), b"hit q16 4 2\n".as_slice());
-    Ok(())
-}
-
-// Each reply but that of a layout, and its line.
-fn replies(tag: Tag) -> [(Reply, &'static [u8]); 13] {
-    [
-        (Reply::Added { key: 1, at: 2 }, b"added 1 at 2\n"),
-        (
+    assert!(rt; is_line(Reply::Added { key: 1, at: 2 }, &mut line, b"added 1 at 2\n"));
+    assert!(rt;
+        is_line(
             Reply::Added {
                 key: u64::MAX,
-                at: 1,
+                at: 1
             },
-            b"added 18446744073709551615 at 1\n",
-        ),
-        (Reply::Taken { key: 0, at: 10 }, b"taken 0 at 10\n"),
-        (Reply::Open { tag, at: 0 }, b"open q16 at 0\n"),
-        (
+            &mut line,
+            b"added 18446744073709551615 at 1\n"
+        )
+    );
+    assert!(rt;
+        is_line(
+            Reply::Taken { key: 0, at: 10 },
+            &mut line,
+            b"taken 0 at 10\n"
+        )
+    );
+    assert!(rt; is_line(Reply::Open { tag, at: 0 }, &mut line, b"open q16 at 0\n"));
+    assert!(rt;
+        is_line(
             Reply::Hit {
                 tag,
                 dist: 64,
-                key: 103,
+                key: 103
             },
-            b"hit q16 64 103\n",
-        ),
-        (Reply::More { tag }, b"more q16\n"),
-        (Reply::Done { tag, count: 2 }, b"done q16 2\n"),
-        (Reply::Bad(Bad { number: 1, word: 0 }), b"bad 1\n"),
-        (Reply::Bad(Bad { number: 5, word: 4 }), b"bad 5 4\n"),
-        (Reply::Bad(Bad { number: 9, word: 0 }), b"bad 9\n"),
-        (
+            &mut line,
+            b"hit q16 64 103\n"
+        )
+    );
+    assert!(rt; is_line(Reply::More { tag }, &mut line, b"more q16\n"));
+    assert!(rt; is_line(Reply::Done { tag, count: 2 }, &mut line, b"done q16 2\n"));
+    assert!(rt;
+        is_line(
+            Reply::Bad(Bad { number: 1, word: 0 }),
+            &mut line,
+            b"bad 1\n"
+        )
+    );
+    assert!(rt;
+        is_line(
+            Reply::Bad(Bad { number: 5, word: 4 }),
+            &mut line,
+            b"bad 5 4\n"
+        )
+    );
+    assert!(rt;
+        is_line(
+            Reply::Bad(Bad { number: 9, word: 0 }),
+            &mut line,
+            b"bad 9\n"
+        )
+    );
+    assert!(rt;
+        is_line(
             Reply::Bad(Bad {
                 number: 10,
-                word: 0,
+                word: 0
             }),
-            b"bad 10\n",
-        ),
-        (
+            &mut line,
+            b"bad 10\n"
+        )
+    );
+    assert!(rt;
+        is_line(
             Reply::Bad(Bad {
                 number: 11,
-                word: 0,
+                word: 0
             }),
-            b"bad 11\n",
-        ),
-        (Reply::NoMemory, b"nomem\n"),
-    ]
+            &mut line,
+            b"bad 11\n"
+        )
+    );
+    assert!(rt; is_line(Reply::NoMemory, &mut line, b"nomem\n"));
+    let mut bytes = [0u8; 2048];
+    bytes[..15].copy_from_slice(b"0,1,2/3,4,5/6,7");
+    let text = LayoutText::new(bytes, 15);
+    let reply = Reply::Layout { shard: 12, text };
+    assert!(rt; is_line(reply, &mut line, b"layout 12 0,1,2/3,4,5/6,7\n"));
+    line.clear();
+    write_hit(&tag, 4, 2, &mut line);
+    assert!(rt; line.bytes() == b"hit q16 4 2\n".as_slice());
+    Ok(())
 }

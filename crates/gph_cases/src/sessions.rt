@@ -1,11 +1,11 @@
 //! Sessions from their bytes to their replies.
 
-use crate::trial::run_over;
+use crate::trial::compare_pieces;
 use gph_session::Outcome;
 use std::test::Fail;
 
 // What a session is about, its words, its input and its output. Rows 1 to 4 of most are at 0, 4, 8 and 1 bits from 00.
-const SESSIONS: [(&str, &str, &[u8], &[u8]); 38] = [
+static SESSIONS: [(&str, &str, &[u8], &[u8]); 38] = [
     ("an empty input gives nothing", "run --bits 8", b"", b""),
     (
         "a taken key",
@@ -267,19 +267,14 @@ const SESSIONS: [(&str, &str, &[u8], &[u8]); 38] = [
 
 #[test]
 fn each_session_has_its_replies_however_its_input_is_cut(rt: HostRuntime) -> Result<(), Fail> {
-    for (about, words, input, output) in SESSIONS {
-        for piece in [4096, 7, 1] {
-            assert!(rt; piece >= 1);
-            let trial = run_over(&rt, words, input, piece, &[], &[])?;
-            assert_eq!(rt; trial.outcome, Outcome::Done, "{about}, by {piece}");
-            assert_eq!(rt; trial.output.as_slice(), output, "{about}, by {piece}");
-        }
+    for &(about, words, input, output) in &SESSIONS {
+        compare_pieces(&rt, rt.alloc(), about, words, input, output, Outcome::Done)?;
     }
     Ok(())
 }
 
 // A byte, how often it stands at the front of the input, what follows it, and the output.
-const LONG_LINES: [(u8, usize, &[u8], &[u8]); 13] = [
+static LONG_LINES: [(u8, usize, &[u8], &[u8]); 13] = [
     (b' ', 4096, b"\nadd 1 00\n", b"added 1 at 1\n"),
     (b' ', 4096, b"\r\nadd 1 00\n", b"added 1 at 1\n"),
     (b' ', 4096, b"\r\r\nadd 1 00\n", b"bad 1\nadded 1 at 1\n"),
@@ -302,30 +297,23 @@ const LONG_LINES: [(u8, usize, &[u8], &[u8]); 13] = [
 
 #[test]
 fn a_line_over_4096_bytes_is_refused_and_the_next_is_read(rt: HostRuntime) -> Result<(), Fail> {
-    for (byte, count, rest, output) in LONG_LINES {
+    for &(byte, count, rest, output) in &LONG_LINES {
         let mut input = Vec::from_elem(rt.alloc(), byte, count)?;
         input.extend_from_slice(rest)?;
-        for piece in [4096, 7, 1] {
-            assert!(rt; piece >= 1);
-            let trial = run_over(
-                &rt,
-                "run --bits 8",
-                input.as_slice(),
-                piece,
-                &[],
-                &[],
-            )?;
-            assert_eq!(rt;
-                trial.outcome,
-                Outcome::Done,
-                "{count} of {byte}, by {piece}"
-            );
-            assert_eq!(rt;
-                trial.output.as_slice(),
-                output,
-                "{count} of {byte}, by {piece}"
-            );
-        }
+        let about = match byte {
+            b' ' => "spaces",
+            b'\t' => "tabs",
+            _ => "letters",
+        };
+        compare_pieces(
+            &rt,
+            rt.alloc(),
+            about,
+            "run --bits 8",
+            input.as_slice(),
+            output,
+            Outcome::Done,
+        )?;
     }
     Ok(())
 }

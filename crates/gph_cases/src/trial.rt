@@ -1,44 +1,81 @@
 //! One call of `run` over memory.
 
-ghost use Rattle.std.specs.Prelude.{◌≤◌};
-
 use gph_session::{Outcome, run};
 use line_io::{MemorySink, MemorySource};
 use read_meter::Meters;
 use std::alloc::Global;
+use std::env::Env;
+use std::process::Abort;
 use std::test::Fail;
 
 /// The ledger on which a session's postings are counted.
 #[derive(Drop)]
 pub(crate) struct Postings;
 
-/// What came of one call of `run`.
-#[derive(Drop)]
-pub(crate) struct Trial {
-    pub(crate) outcome: Outcome,
-    pub(crate) output: Vec<u8>,
+/// How the ends of a session behave: the bytes of a read, and the read and the write that fail, counted from 1, or 0.
+#[derive(Clone, Copy)]
+pub(crate) struct Ends {
+    pub(crate) piece: usize,
+    pub(crate) read: u64,
+    pub(crate) write: u64,
 }
 
-/// Runs the words, parted by spaces, over an input that comes in pieces. The calls of the source and of the sink fail that are
-/// listed, each counted from 1.
-pub(crate) fn run_over(
-    rt: &HostRuntime,
+/// Runs the words, parted by spaces, over an input, and compares how the call ends and what it wrote with what has to come.
+pub(crate) fn compare<R: Abort + Env>(
+    rt: &R,
+    alloc: Global,
+    about: &str,
     words: &str,
     input: &[u8],
-    piece: usize,
-    reads: &[u64],
-    writes: &[u64],
-) -> Result<Trial, Fail>
-    requires { 1 ≤ piece }
-{
-    let alloc = rt.alloc();
+    ends: Ends,
+    output: &[u8],
+    outcome: Outcome,
+) -> Result<(), Fail> {
+    let Ends { piece, read, write } = ends;
+    assert!(rt; piece >= 1);
     let words = list_of(alloc, words)?;
+    let mut source = MemorySource::new(input.to_vec(alloc)?, piece, [read].to_vec(alloc)?);
+    let mut sink = MemorySink::new(alloc, [write].to_vec(alloc)?);
     let mut meters: Meters<Postings> = Meters::new(rt, alloc)?;
-    let mut source = MemorySource::new(input.to_vec(alloc)?, piece, reads.to_vec(alloc)?);
-    let mut sink = MemorySink::new(alloc, writes.to_vec(alloc)?);
-    let outcome = run(alloc, words.as_slice(), &mut source, &mut sink, &mut meters);
-    let output = sink.bytes().to_vec(alloc)?;
-    Ok(Trial { outcome, output })
+    let ended = run(
+        alloc,
+        words.as_slice(),
+        &mut source,
+        &mut sink,
+        &mut meters,
+    );
+    assert_eq!(rt;
+        ended,
+        outcome,
+        "{about}, by {piece}, faults {read} and {write}"
+    );
+    assert_eq!(rt;
+        sink.bytes(),
+        output,
+        "{about}, by {piece}, faults {read} and {write}"
+    );
+    Ok(())
+}
+
+/// Compares a call without faults, with its input in pieces of 4,096, of 7 and of 1 bytes.
+pub(crate) fn compare_pieces<R: Abort + Env>(
+    rt: &R,
+    alloc: Global,
+    about: &str,
+    words: &str,
+    input: &[u8],
+    output: &[u8],
+    outcome: Outcome,
+) -> Result<(), Fail> {
+    for piece in [4096, 7, 1] {
+        let ends = Ends {
+            piece,
+            read: 0,
+            write: 0,
+        };
+        compare(rt, alloc, about, words, input, ends, output, outcome)?;
+    }
+    Ok(())
 }
 
 /// The words of a text.

@@ -1,11 +1,18 @@
 //! The words of the command line, and what they ask of a session.
 
-use crate::trial::run_over;
+use crate::trial::{Ends, compare, compare_pieces};
 use gph_session::Outcome;
 use std::test::Fail;
 
+// An input that comes in one piece, and no fault.
+const WHOLE: Ends = Ends {
+    piece: 4096,
+    read: 0,
+    write: 0,
+};
+
 // Words, and how a call with them ends on the five bytes of the line `jump`.
-const WORDS: [(&str, Outcome); 41] = [
+static WORDS: [(&str, Outcome); 41] = [
     ("", Outcome::Usage { word: 1 }),
     ("jump", Outcome::Usage { word: 1 }),
     ("Run --bits 8", Outcome::Usage { word: 1 }),
@@ -57,20 +64,27 @@ const WORDS: [(&str, Outcome); 41] = [
 
 #[test]
 fn words_are_a_session_or_have_a_first_fault(rt: HostRuntime) -> Result<(), Fail> {
-    for (words, outcome) in WORDS {
-        let trial = run_over(&rt, words, b"jump\n", 4096, &[], &[])?;
-        assert_eq!(rt; trial.outcome, outcome, "{words}");
+    for &(words, outcome) in &WORDS {
         let output: &[u8] = match outcome {
             Outcome::Done => b"bad 3\n",
             _ => b"",
         };
-        assert_eq!(rt; trial.output.as_slice(), output, "{words}");
+        compare(
+            &rt,
+            rt.alloc(),
+            words,
+            words,
+            b"jump\n",
+            WHOLE,
+            output,
+            outcome,
+        )?;
     }
     Ok(())
 }
 
 // Words, and the text of the starting layout.
-const LAYOUTS: [(&str, &[u8]); 5] = [
+static LAYOUTS: [(&str, &[u8]); 5] = [
     ("run --bits 8", b"layout 0 0,1,2,3,4,5,6,7\n"),
     (
         "run --bits 24",
@@ -86,16 +100,23 @@ const LAYOUTS: [(&str, &[u8]); 5] = [
 
 #[test]
 fn a_starting_layout_is_told_by_its_text(rt: HostRuntime) -> Result<(), Fail> {
-    for (words, output) in LAYOUTS {
-        let trial = run_over(&rt, words, b"layout 0\n", 4096, &[], &[])?;
-        assert_eq!(rt; trial.outcome, Outcome::Done, "{words}");
-        assert_eq!(rt; trial.output.as_slice(), output, "{words}");
+    for &(words, output) in &LAYOUTS {
+        compare(
+            &rt,
+            rt.alloc(),
+            words,
+            words,
+            b"layout 0\n",
+            WHOLE,
+            output,
+            Outcome::Done,
+        )?;
     }
     Ok(())
 }
 
 // Words with a limit of the input, an input, the output and the end.
-const LIMITS: [(&str, &[u8], &[u8], Outcome); 6] = [
+static LIMITS: [(&str, &[u8], &[u8], Outcome); 6] = [
     (
         "run --bits 8 --input 12",
         b"add 1 00\nget 1\n",
@@ -136,17 +157,8 @@ const LIMITS: [(&str, &[u8], &[u8], Outcome); 6] = [
 
 #[test]
 fn an_input_ends_at_its_limit(rt: HostRuntime) -> Result<(), Fail> {
-    for (words, input, output, outcome) in LIMITS {
-        for piece in [4096, 7, 1] {
-            assert!(rt; piece >= 1);
-            let trial = run_over(&rt, words, input, piece, &[], &[])?;
-            assert_eq!(rt; trial.outcome, outcome, "{words}, {input:?}, by {piece}");
-            assert_eq!(rt;
-                trial.output.as_slice(),
-                output,
-                "{words}, {input:?}, by {piece}"
-            );
-        }
+    for &(words, input, output, outcome) in &LIMITS {
+        compare_pieces(&rt, rt.alloc(), words, words, input, output, outcome)?;
     }
     Ok(())
 }

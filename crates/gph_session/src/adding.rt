@@ -27,9 +27,9 @@ pub(crate) fn add<const W: usize>(
 ) -> Reply
     requires few_words { W ≤ 8 }
     requires few_entries { limit ≤ ENTRIES }
-    requires one_shard { (arc_value version.old).shards ≡ 1 }
-    requires code { StandsFor W (arc_value version.old).layout.bits code (own_code (arc_value version.old).layout.bits code) }
-    ensures { AddsAs W (arc_value version.old) limit key code.entry result (arc_value version.new) }
+    requires one_shard { (arc_value version.old).contents.shards ≡ 1 }
+    requires code { StandsFor W (arc_value version.old).contents.layout.bits code (own_code (arc_value version.old).contents.layout.bits code) }
+    ensures { AddsAs W (arc_value version.old).contents limit key code.entry result (arc_value version.new).contents }
 {
     let op = Op::Add { key, code };
     match decide(&op, version.has_key(key), version.at(), limit) {
@@ -59,10 +59,10 @@ fn added_to<const W: usize>(
     code: Code<W>,
 ) -> Result<Arc<Version<W>>, NoMemory>
     requires few_words { W ≤ 8 }
-    requires room { version.now.at < ENTRIES }
-    requires code { StandsFor W version.now.layout.bits code (own_code version.now.layout.bits code) }
-    requires absent { code_at version.now.rows key ≡ None }
-    ensures { IfOk result (λ next. arc_value next ≡ after_entry version.now (added_entry version.now.layout.bits key code.entry)) }
+    requires room { version.now.contents.at < ENTRIES }
+    requires code { StandsFor W version.now.contents.layout.bits code (own_code version.now.contents.layout.bits code) }
+    requires absent { code_at version.now.contents.rows key ≡ None }
+    ensures { IfOk result (λ next. (arc_value next).contents ≡ after_entry version.now.contents (added_entry version.now.contents.layout.bits key code.entry)) }
 {
     let entry = Entry {
         who: 0,

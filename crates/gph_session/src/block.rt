@@ -20,12 +20,12 @@ pub(crate) fn answer_block<const W: usize, K: Sink, L>(
     steps: &mut Steps<L>,
 ) -> Result<Turn, Failed>
     requires few_words { W ≤ 8 }
-    requires ready { IsReady W session.old.config (arc_value session.old.version) }
+    requires ready { IsReady W session.old.config (arc_value session.old.version).contents }
     ensures flow { (bytes output : List ℕ) →
-        Stands W session.old.config bytes output (arc_value session.old.version) session.old.queries.items session.old.cutter.held →
+        Stands W session.old.config bytes output (arc_value session.old.version).contents session.old.queries.items session.old.cutter.held →
         (more : List ℕ) × Appends (K.held sink.old) (K.held sink.new) more
-        × FlowIs result W session.old.config (bytes ++ block.now) (output ++ more) (arc_value session.new.version) session.new.queries.items session.new.cutter.held }
-    ensures ready { IsReady W session.new.config (arc_value session.new.version) }
+        × FlowIs result W session.old.config (bytes ++ block.now) (output ++ more) (arc_value session.new.version).contents session.new.queries.items session.new.cutter.held }
+    ensures ready { IsReady W session.new.config (arc_value session.new.version).contents }
     ensures config { session.new.config ≡ session.old.config }
     ensures ledger { steps.new + reads_of session.old.queries.items ≡ steps.old + reads_of session.new.queries.items }
     ensures cause { IsCaused (K.faults sink.old) (K.faults sink.new) result }
@@ -50,14 +50,14 @@ fn answer_line<const W: usize, K: Sink, L>(
     steps: &mut Steps<L>,
 ) -> (usize, Result<Turn, Failed>)
     requires few_words { W ≤ 8 }
-    requires ready { IsReady W session.old.config (arc_value session.old.version) }
+    requires ready { IsReady W session.old.config (arc_value session.old.version).contents }
     requires some { 0 < length bytes.now }
     ensures progress { (0 < result.0) × (result.0 ≤ length bytes.now) }
     ensures flow { (before output : List ℕ) →
-        Stands W session.old.config before output (arc_value session.old.version) session.old.queries.items session.old.cutter.held →
+        Stands W session.old.config before output (arc_value session.old.version).contents session.old.queries.items session.old.cutter.held →
         (more : List ℕ) × Appends (K.held sink.old) (K.held sink.new) more
-        × FlowIs result.1 W session.old.config (before ++ take result.0 bytes.now) (output ++ more) (arc_value session.new.version) session.new.queries.items session.new.cutter.held }
-    ensures ready { IsReady W session.new.config (arc_value session.new.version) }
+        × FlowIs result.1 W session.old.config (before ++ take result.0 bytes.now) (output ++ more) (arc_value session.new.version).contents session.new.queries.items session.new.cutter.held }
+    ensures ready { IsReady W session.new.config (arc_value session.new.version).contents }
     ensures config { session.new.config ≡ session.old.config }
     ensures ledger { steps.new + reads_of session.old.queries.items ≡ steps.old + reads_of session.new.queries.items }
     ensures cause { IsCaused (K.faults sink.old) (K.faults sink.new) result.1 }
@@ -76,9 +76,9 @@ pub(crate) fn answer_end<const W: usize, K: Sink, L>(
     steps: &mut Steps<L>,
 ) -> Result<Turn, Failed>
     requires few_words { W ≤ 8 }
-    requires ready { IsReady W session.old.config (arc_value session.old.version) }
+    requires ready { IsReady W session.old.config (arc_value session.old.version).contents }
     ensures flow { (bytes output : List ℕ) →
-        Stands W session.old.config bytes output (arc_value session.old.version) session.old.queries.items session.old.cutter.held →
+        Stands W session.old.config bytes output (arc_value session.old.version).contents session.old.queries.items session.old.cutter.held →
         (more : List ℕ) × Appends (K.held sink.old) (K.held sink.new) more × EndIs result session.old.config bytes (output ++ more) (reads_of session.new.queries.items) }
     ensures ledger { steps.new + reads_of session.old.queries.items ≡ steps.old + reads_of session.new.queries.items }
     ensures cause { IsCaused (K.faults sink.old) (K.faults sink.new) result }

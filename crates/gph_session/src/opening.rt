@@ -25,11 +25,11 @@ pub(crate) fn open<const W: usize>(
     code: Code<W>,
 ) -> Reply
     requires few_words { W ≤ 8 }
-    requires code { StandsFor W (arc_value version.now).layout.bits code (own_code (arc_value version.now).layout.bits code) }
-    requires near { tau ≤ (arc_value version.now).layout.bits }
+    requires code { StandsFor W (arc_value version.now).contents.layout.bits code (own_code (arc_value version.now).contents.layout.bits code) }
+    requires near { tau ≤ (arc_value version.now).contents.layout.bits }
     requires some_room { 1 ≤ room }
     requires small_room { room ≤ 256 }
-    ensures { OpensAs (arc_value version.now) room queries.old.items tag tau code.entry result queries.new.items }
+    ensures { OpensAs (arc_value version.now).contents room queries.old.items tag tau code.entry result queries.new.items }
 {
     if place_of(queries, &tag).is_some() {
         return Reply::Bad(Bad { number: 7, word: 0 });

@@ -25,9 +25,9 @@ pub(crate) fn serve<const W: usize, S: Source, K: Sink, L>(
     steps: &mut Steps<L>,
 ) -> Outcome
     requires few_words { W ≤ 8 }
-    requires ready { IsReady W session.old.config (arc_value session.old.version) }
+    requires ready { IsReady W session.old.config (arc_value session.old.version).contents }
     requires room { length block.old ≡ BLOCK }
-    requires new { Stands W session.old.config [] [] (arc_value session.old.version) session.old.queries.items session.old.cutter.held }
+    requires new { Stands W session.old.config [] [] (arc_value session.old.version).contents session.old.queries.items session.old.cutter.held }
     ensures ends { EndsAs result session.old.config
         (record { bytes = S.left source.old; faults = S.faults source.old })
         (record { bytes = S.left source.new; faults = S.faults source.new })

@@ -55,7 +55,7 @@ pub(crate) fn new_session<const W: usize>(
     requires room { config.now.bits ≤ 64 * W }
     requires config { IsConfig config.now }
     ensures config { IfOk result (λ session. session.config ≡ config.now) }
-    ensures version { IfOk result (λ session. arc_value session.version ≡ contents_of config.now []) }
+    ensures version { IfOk result (λ session. (arc_value session.version).contents ≡ contents_of config.now []) }
     ensures queries { IfOk result (λ session. session.queries.items ≡ []) }
     ensures cutter { IfOk result (λ session. session.cutter.held ≡ kept []) }
 {
@@ -89,7 +89,7 @@ fn first_version<const W: usize>(
     requires few_words { W ≤ 8 }
     requires room { config.now.bits ≤ 64 * W }
     requires config { IsConfig config.now }
-    ensures { IfOk result (λ version. arc_value version ≡ contents_of config.now []) }
+    ensures { IfOk result (λ version. (arc_value version).contents ≡ contents_of config.now []) }
 {
     let Ok(layout) = starting_layout(alloc, config) else {
         return Err(NoMemory);
@@ -126,13 +126,13 @@ pub(crate) fn answer<const W: usize, K: Sink, L>(
     steps: &mut Steps<L>,
 ) -> Result<Turn, Failed>
     requires few_words { W ≤ 8 }
-    requires ready { IsReady W session.old.config (arc_value session.old.version) }
+    requires ready { IsReady W session.old.config (arc_value session.old.version).contents }
     ensures answers { (history : List JournalEntry) (s : State) →
-        Means W session.old.config (arc_value session.old.version) session.old.queries.items history s →
+        Means W session.old.config (arc_value session.old.version).contents session.old.queries.items history s →
         (line : List ℕ) → TellsOf (Some cut) session.old.cutter.line (line ∷ []) →
-        TurnIs result W session.old.config history s line (K.held sink.old) (K.held sink.new) (arc_value session.new.version) session.new.queries.items }
+        TurnIs result W session.old.config history s line (K.held sink.old) (K.held sink.new) (arc_value session.new.version).contents session.new.queries.items }
     ensures cutter { session.new.cutter ≡ session.old.cutter }
-    ensures ready { IsReady W session.new.config (arc_value session.new.version) }
+    ensures ready { IsReady W session.new.config (arc_value session.new.version).contents }
     ensures config { session.new.config ≡ session.old.config }
     ensures ledger { steps.new + reads_of session.old.queries.items ≡ steps.old + reads_of session.new.queries.items }
     ensures cause { IsCaused (K.faults sink.old) (K.faults sink.new) result }
@@ -157,14 +157,14 @@ fn meet<const W: usize, K: Sink, L>(
     steps: &mut Steps<L>,
 ) -> Result<Turn, Failed>
     requires few_words { W ≤ 8 }
-    requires ready { IsReady W session.old.config (arc_value session.old.version) }
+    requires ready { IsReady W session.old.config (arc_value session.old.version).contents }
     requires fit { IsFit W session.old.config.bits request }
     ensures answers { (history : List JournalEntry) (s : State) →
-        Means W session.old.config (arc_value session.old.version) session.old.queries.items history s →
+        Means W session.old.config (arc_value session.old.version).contents session.old.queries.items history s →
         (line : List ℕ) → Ok (Some request.entry) ≡ stored_reading W (reading session.old.config.bits session.old.config.shards line) →
-        TurnIs result W session.old.config history s line (K.held sink.old) (K.held sink.new) (arc_value session.new.version) session.new.queries.items }
+        TurnIs result W session.old.config history s line (K.held sink.old) (K.held sink.new) (arc_value session.new.version).contents session.new.queries.items }
     ensures cutter { session.new.cutter ≡ session.old.cutter }
-    ensures ready { IsReady W session.new.config (arc_value session.new.version) }
+    ensures ready { IsReady W session.new.config (arc_value session.new.version).contents }
     ensures config { session.new.config ≡ session.old.config }
     ensures ledger { steps.new + reads_of session.old.queries.items ≡ steps.old + reads_of session.new.queries.items }
     ensures cause { IsCaused (K.faults sink.old) (K.faults sink.new) result }

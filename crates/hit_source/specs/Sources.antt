@@ -1,5 +1,5 @@
 -- What a source of hits is asked, and where it stands.
-use Rattle.std.specs.Prelude.{◌≡◌, ℕ, ◌+◌, ◌<◌, ◌≤◌, ◌↔◌, Bool, true, false, List, [], ◌∷◌, length, take, drop, Option, Some, None, ℤ, IfSome, All}
+use Rattle.std.specs.Prelude.{◌≡◌, ℕ, ◌+◌, ◌≤◌, ◌↔◌, Bool, true, false, List, ◌∷◌, length, take, drop, Option, Some, None, ℤ, IfSome, All}
 use Rattle.hamming_model.specs.declared.hit.Hit.{Hit}
 
 -- what no call changes: all hits in order, the number of rows, whether every row is a hit, how many hits may wait, the farthest

@@ -2,8 +2,14 @@
 //! A poll reads and moves hits into the room within a budget, and the hits given and waiting are always the first of that list.
 #![tactic(auto)]
 
+mod draining;
 mod hit_source;
+mod hit_window;
+mod listed_hits;
 mod polled;
 
+pub use draining::{drain, take_waiting};
 pub use hit_source::HitSource;
+pub use hit_window::HitWindow;
+pub use listed_hits::ListedHits;
 pub use polled::Polled;

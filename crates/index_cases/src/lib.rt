@@ -21,4 +21,8 @@ mod postings;
 #[cfg(test)]
 mod scan;
 #[cfg(test)]
+mod sources;
+#[cfg(test)]
 mod thresholds;
+#[cfg(test)]
+mod versions;

@@ -1,2 +1,3 @@
 pub mod Opening
-pub mod Stub
+pub mod TaskLaw
+pub mod Tasks

@@ -1,7 +1,5 @@
 -- What a range query on a version asks, and where it stands when it is opened.
-use Rattle.std.specs.Prelude.{◌≡◌, ℕ, ◌+◌, ◌*◌, ◌≤◌, true, false, List, [], length, take, Option, Some, None, sum_by}
-use Rattle.std.specs.Prelude.{◌^◌}
-use Rattle.hamming_model.specs.Codes.{StandsFor}
+use Rattle.std.specs.Prelude.{◌≡◌, ℕ, ◌+◌, ◌*◌, ◌^◌, ◌≤◌, false, List, [], length, take, Option, None, sum_by}
 use Rattle.hamming_model.specs.Scan.{scan}
 use Rattle.threshold_model.specs.Vectors.{IsChoice, IsLeast, row_counts}
 use Rattle.shard_version.specs.Contents.{Contents}
@@ -38,10 +36,3 @@ pub record BeginsRange (version : Contents) (a : Asked) (s : Standing) : Type 0 
   pub reads : s.reads ≡ 0
   pub begun : s.begun ≡ None
   pub units : s.units ≤ values_of_parts version.layout.parts + 2 * a.bound None + 1
-
--- STUB
-abbrev pub nothing_asked : Asked
-nothing_asked = record { hits = []; rows = 0; near = false; room = 1; farthest = 0; plan = λ given. ([], 0); bound = λ given. 0 }
-
-abbrev pub nowhere : Standing
-nowhere = record { given = 0; waiting = []; floor = None; reads = 0; ended = true; begun = None; units = 0 }

@@ -1,27 +1,35 @@
 //! A range query on one version.
 
-ghost use Rattle.std.specs.Prelude.{◌≡◌, ◌*◌, ◌<◌, ◌≤◌, ℕ, List, IfOk};
+ghost use Rattle.std.specs.Prelude.{◌≡◌, ◌+◌, ◌<◌, ◌≤◌, ◌++◌, false, length, if◌then◌else◌, IfOk, IfSome};
 ghost use Rattle.std.specs.Arc.{arc_value};
 ghost use Rattle.hamming_model.specs.Codes.{StandsFor};
+ghost use Rattle.hit_source.specs.Moves.{PollAnswers};
+ghost use Rattle.hit_source.specs.Work.{Works, IsStopped};
 ghost use Rattle.shard_query.specs.Opening.{AsksRange, BeginsRange, code_of};
+ghost use Rattle.shard_query.specs.Tasks.{IsTask, asked_of, standing_of, with_kept};
 
 use gph_codes::Code;
 use hamming_model::Hit;
-use hit_source::{HitSource, Polled};
+use hit_source::{HitSource, HitWindow, Polled};
 use read_meter::{NoMemory, Steps};
+use search_model::hits_are_few;
 use shard_version::Version;
+use shard_walk::{Plan, Walk};
 use std::alloc::Global;
 use std::sync::Arc;
 
 /// All codes of a version within a radius of a query, found through the posting tables.
+///
+/// The hits are collected while postings are read, put in order with the last read, and then given: the
+/// room is a window over them.
 #[derive(Drop)]
 pub struct RangeTask<const W: usize> {
-    version: Arc<Version<W>>,
-    never: Never,
+    plan: Plan<W>,
+    walk: Walk,
+    window: HitWindow,
+    reads: u64,
+    ghost kept: { IsTask plan walk window reads },
 }
-
-#[derive(Drop)]
-enum Never {}
 
 impl<const W: usize> RangeTask<W> {
     /// Opens the query: plans it and takes all its memory, room for at most as many hits as the least cost.
@@ -37,66 +45,171 @@ impl<const W: usize> RangeTask<W> {
         room: usize,
     ) -> Result<RangeTask<W>, NoMemory>
         requires few_words { W ≤ 8 }
-        requires code { StandsFor W (arc_value version).layout.bits query (code_of (arc_value version) query) }
-        requires near { tau ≤ (arc_value version).layout.bits }
+        requires code { StandsFor W (arc_value version).contents.layout.bits query (code_of (arc_value version).contents query) }
+        requires near { tau ≤ (arc_value version).contents.layout.bits }
         requires some_room { 1 ≤ room }
         requires small_room { room ≤ 256 }
         ensures asked { IfOk result (λ task.
-            AsksRange (arc_value version.entry) (code_of (arc_value version.entry) query.entry) tau room (⟦<RangeTask<W> as HitSource>⟧.asked task)) }
-        ensures begins { IfOk result (λ task. BeginsRange (arc_value version.entry)
+            AsksRange (arc_value version.entry).contents (code_of (arc_value version.entry).contents query.entry) tau room (⟦<RangeTask<W> as HitSource>⟧.asked task)) }
+        ensures begins { IfOk result (λ task. BeginsRange (arc_value version.entry).contents
             (⟦<RangeTask<W> as HitSource>⟧.asked task) (⟦<RangeTask<W> as HitSource>⟧.standing task)) }
     {
-        Err(NoMemory)
+        hits_are_few();
+        let plan = Plan::open(alloc, version, query, tau)?;
+        let walk = Walk::start(&plan);
+        let window = HitWindow::reserve(alloc, plan.least() as usize, room)?;
+        Ok(RangeTask {
+            plan,
+            walk,
+            window,
+            reads: 0,
+        })
+    }
+
+    // Does one unit of work: takes a value of a ball, reads a posting, or moves a hit into the room. It
+    // answers whether it could.
+    fn work<L>(&mut self, steps: &mut Steps<L>) -> bool
+        ensures plan { self.new.plan ≡ self.old.plan }
+        ensures room { self.new.window.room ≡ self.old.window.room }
+        ensures works { Works (if result then 1 else 0)
+            (standing_of self.old.plan self.old.walk self.old.window self.old.reads)
+            (standing_of self.new.plan self.new.walk self.new.window self.new.reads)
+            steps.old steps.new }
+        ensures stops { result ≡ false → IsStopped
+            (asked_of self.new.plan self.new.window.room)
+            (standing_of self.new.plan self.new.walk self.new.window self.new.reads) }
+    {
+        if self.reads < self.plan.least() {
+            self.search(steps);
+            return true;
+        }
+        if self.window.is_full() || self.window.has_moved_all() {
+            return false;
+        }
+        self.window.advance();
+        true
+    }
+
+    // Takes a value of a ball, or reads a posting of its list.
+    fn search<L>(&mut self, steps: &mut Steps<L>)
+        requires more { self.old.reads < self.old.plan.least }
+        ensures plan { self.new.plan ≡ self.old.plan }
+        ensures room { self.new.window.room ≡ self.old.window.room }
+        ensures works { Works 1
+            (standing_of self.old.plan self.old.walk self.old.window self.old.reads)
+            (standing_of self.new.plan self.new.walk self.new.window self.new.reads)
+            steps.old steps.new }
+    {
+        if self.walk.is_in_list() {
+            self.read(steps);
+            return;
+        }
+        self.walk.next_value(&self.plan);
+    }
+
+    // Reads a posting. With the last one the hits that were kept are put in order.
+    fn read<L>(&mut self, steps: &mut Steps<L>)
+        requires more { self.old.reads < self.old.plan.least }
+        requires posting { self.old.walk.next < self.old.walk.size }
+        ensures plan { self.new.plan ≡ self.old.plan }
+        ensures room { self.new.window.room ≡ self.old.window.room }
+        ensures works { Works 1
+            (standing_of self.old.plan self.old.walk self.old.window self.old.reads)
+            (standing_of self.new.plan self.new.walk self.new.window self.new.reads)
+            steps.old steps.new }
+    {
+        hits_are_few();
+        let least = self.plan.least();
+        let kept = self.walk.read(&self.plan, steps);
+        keep(&mut self.window, kept);
+        self.reads += 1;
+        if self.reads == least {
+            self.window.sort();
+        }
+    }
+
+    // How a poll ends that ends here.
+    fn judged(&self) -> Polled
+        ensures { PollAnswers (asked_of self.now.plan self.now.window.room)
+            (standing_of self.now.plan self.now.walk self.now.window self.now.reads) result }
+    {
+        if self.reads == self.plan.least() && self.window.has_moved_all() {
+            Polled::Ended
+        } else if self.window.is_full() {
+            Polled::Full
+        } else {
+            Polled::Moved
+        }
+    }
+}
+
+// Adds a hit behind those that were found, if there is one.
+fn keep(window: &mut HitWindow, kept: Option<Hit>)
+    requires { length window.old.found < window.old.capacity }
+    ensures { window.new ≡ with_kept window.old kept }
+{
+    if let Some(hit) = kept {
+        window.push(hit);
     }
 }
 
 impl<const W: usize> HitSource for RangeTask<W> {
-    ghost use Rattle.shard_query.specs.Opening.{nothing_asked, nowhere};
-    ghost use Rattle.std.specs.Prelude.{[]};
-    ghost use Rattle.shard_query.specs.Stub.{absurd_task};
+    ghost use Rattle.shard_query.specs.Tasks.{asked_of, standing_of};
+    ghost use Rattle.shard_query.specs.TaskLaw.{task_lawful};
 
-    ghost asked = { λ task. nothing_asked };
-    ghost standing = { λ task. nowhere };
-    ghost planned = { λ task. [] };
-    ghost lawful = { λ task. absurd_task task.never };
+    ghost asked = { λ task. asked_of task.plan task.window.room };
+
+    ghost standing = { λ task. standing_of task.plan task.walk task.window task.reads };
+
+    ghost planned = { λ task. task.plan.thresholds };
+
+    ghost lawful = { λ task. task_lawful task.plan task.walk task.window task.reads task.kept };
 
     fn poll<L>(&mut self, budget: u32, steps: &mut Steps<L>) -> Polled {
-        match self.never {}
+        for _done in 0..budget {
+            if !self.work(steps) {
+                return self.judged();
+            }
+        }
+        self.judged()
     }
 
     fn head(&self) -> Option<Hit> {
-        match self.never {}
+        self.window.head()
     }
 
     fn pop(&mut self) -> Option<Hit> {
-        match self.never {}
+        self.window.pop()
     }
 
     fn floor(&self) -> Option<u32> {
-        match self.never {}
+        if self.reads < self.plan.least() {
+            return Some(0);
+        }
+        self.window.floor()
     }
 
     fn reads(&self) -> u64 {
-        match self.never {}
+        self.reads
     }
 
     fn rows(&self) -> u64 {
-        match self.never {}
+        self.plan.rows()
     }
 
     fn near(&self) -> bool {
-        match self.never {}
+        false
     }
 
     fn plan(&mut self, given: Option<u32>) -> u64 {
-        match self.never {}
+        self.plan.least()
     }
 
     fn thresholds(&self) -> &[i32] {
-        match self.never {}
+        self.plan.thresholds()
     }
 
     fn bound(&mut self, given: Option<u32>) -> u64 {
-        match self.never {}
+        self.plan.least()
     }
 }

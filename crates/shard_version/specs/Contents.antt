@@ -13,6 +13,7 @@ use Rattle.entry_log.specs.declared.entry.Entry.{Entry}
 use Rattle.entry_log.specs.declared.op.Op.{Op}
 use Rattle.entry_log.specs.declared.op.Op.TheVariants.{Add, Delete}
 use Rattle.part_layout.specs.Laid.{Laid, IsLaid, laid_code}
+use Rattle.shard_version.specs.declared.version.TheConstants.{ENTRIES}
 
 -- the shard of so many, the number of entries taken in, the layout, and the rows: key and code, ascending by key
 pub record Contents : Type 0 where
@@ -66,4 +67,4 @@ pub record IsVersion (version : Contents) : Type 0 where
   pub ascending : IsStrictlySortedBy nat_cmp (keys_of version.rows)
   pub own_keys : AllByRecursion (λ row. row.0 % version.shards ≡ version.shard) version.rows
   pub from_entries : length version.rows ≤ version.at
-  pub few_entries : version.at ≤ 1048576
+  pub few_entries : version.at ≤ ENTRIES

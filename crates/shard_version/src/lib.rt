@@ -2,6 +2,11 @@
 //! The tables agree with the one set of rows, and an entry changes all of them together.
 #![tactic(auto)]
 
+mod laws;
+mod part_table;
+mod places;
+mod tables;
 mod version;
 
-pub use version::Version;
+pub use laws::{counts_are_of_the_rows, versions_follow_the_history};
+pub use version::{ENTRIES, Version};

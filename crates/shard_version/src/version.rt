@@ -1,14 +1,23 @@
 //! The tables of one shard after the first entries of a history.
 
-ghost use Rattle.std.specs.Prelude.{◌≡◌, ◌*◌, ◌<◌, ◌≤◌, ℕ, length, is_some, IfOk};
+ghost use Rattle.std.specs.Prelude.{◌≡◌, ℕ, ◌+◌, ◌*◌, ◌%◌, ◌==◌, ◌<◌, ◌≤◌, length, min, take, true, None, is_some, IfOk, OnErr, OnOk};
 ghost use Rattle.std.specs.Arc.{arc_value};
+ghost use Rattle.hamming_model.specs.Codes.{StandsFor};
 ghost use Rattle.hamming_model.specs.History.{code_at};
 ghost use Rattle.entry_log.specs.Meaning.{MeansEntry};
 ghost use Rattle.shard_version.specs.Contents.{IsVersion, FitsShard, after_entry, empty_of, entry_of};
+ghost use Rattle.shard_version.specs.Kept.{next_with, with_added, with_deleted};
+ghost use Rattle.shard_version.specs.Tables.{AreFirst, ArePostings, AreStored, HasTables, counts_of, table_at};
 
-use entry_log::Entry;
+use crate::part_table::PartTable;
+use crate::places::{place_of, stands_at};
+use crate::tables::{copies, empty_tables, insert_in_each, remove_from_each};
+use count_table::{Counts, changes_follow_a_list, counts_are_those_of_a_list};
+use entry_log::{Entry, Op};
+use gph_codes::Code;
 use part_layout::Layout;
-use read_meter::NoMemory;
+use posting_table::Postings;
+use read_meter::{NoMemory, Steps};
 use std::alloc::Global;
 use std::marker::Model;
 use std::sync::Arc;
@@ -24,23 +33,25 @@ pub struct Version<const W: usize> {
     shards: u32,
     at: u64,
     layout: Arc<Layout>,
-    never: Never,
+    alloc: Global,
+    // keys ascend
+    rows: Vec<(u64, Code<W>)>,
+    // one for each part of the layout
+    tables: Vec<PartTable<W>>,
 }
 
-#[derive(Drop)]
-enum Never {}
-
 impl<const W: usize> Model for Version<W> {
-    ghost use Rattle.std.specs.Prelude.{[]};
     ghost use Rattle.std.specs.Arc.{arc_value};
-    ghost use Rattle.shard_version.specs.Contents.{Contents, contents_code};
+    ghost use Rattle.shard_version.specs.Tables.{Tabled, tabled_code};
+    ghost use Rattle.shard_version.specs.Kept.{IsKept, contents_of, tabled_of};
 
-    ghost Value = { Contents };
+    ghost Value = { Tabled };
 
-    ghost coded = { contents_code };
+    ghost coded = { tabled_code };
 
-    ghost view = { λ kept. record { shard = kept.shard; shards = kept.shards; at = kept.at; layout = arc_value kept.layout; rows = [] } };
+    ghost view = { λ kept. tabled_of (contents_of kept.shard kept.shards kept.at (arc_value kept.layout) kept.rows.items) kept.tables.items };
 
+    ghost invariant = { λ kept. IsKept {W = W} (contents_of kept.shard kept.shards kept.at (arc_value kept.layout) kept.rows.items) kept.rows.items kept.tables.items };
 }
 
 impl<const W: usize> Version<W> {
@@ -59,9 +70,20 @@ impl<const W: usize> Version<W> {
         requires room { (arc_value layout).bits ≤ 64 * W }
         requires own_shard { shard < shards }
         requires few_shards { shards ≤ 16 }
-        ensures { IfOk result (λ version. version ≡ empty_of shard shards (arc_value layout)) }
+        ensures { IfOk result (λ version. version.contents ≡ empty_of shard shards (arc_value layout)) }
     {
-        Err(NoMemory)
+        changes_follow_a_list();
+        let parts = layout.parts();
+        let tables = empty_tables(alloc, &layout, parts)?;
+        Ok(Version {
+            shard,
+            shards,
+            at: 0,
+            layout,
+            alloc,
+            rows: Vec::new(alloc),
+            tables,
+        })
     }
 
     /// An equal version of its own: the tables are copied whole.
@@ -72,7 +94,22 @@ impl<const W: usize> Version<W> {
     pub fn copy(&self) -> Result<Version<W>, NoMemory>
         ensures { IfOk result (λ version. version ≡ self.now) }
     {
-        Err(NoMemory)
+        let tables = copies(self.alloc, &self.tables)?;
+        let Ok(rows) = Vec::from_slice(self.alloc, self.rows.as_slice()) else {
+            return Err(NoMemory);
+        };
+        let Ok(layout) = self.layout.clone() else {
+            return Err(NoMemory);
+        };
+        Ok(Version {
+            shard: self.shard,
+            shards: self.shards,
+            at: self.at,
+            layout,
+            alloc: self.alloc,
+            rows,
+            tables,
+        })
     }
 
     /// The version after one more entry: an entry of another shard changes no row. A refusal drops the
@@ -83,55 +120,157 @@ impl<const W: usize> Version<W> {
     /// `NoMemory` where there is no memory for one row more.
     pub fn apply(self, entry: &Entry<W>) -> Result<Version<W>, NoMemory>
         requires few_words { W ≤ 8 }
-        requires room { self.at < ENTRIES }
-        requires means { MeansEntry self.layout.bits entry.now (entry_of self.layout.bits entry.now) }
-        requires fits { FitsShard self (entry_of self.layout.bits entry.now).operation }
-        ensures { IfOk result (λ version. version ≡ after_entry self.entry (entry_of self.entry.layout.bits entry.now)) }
+        requires room { self.contents.at < ENTRIES }
+        requires means { MeansEntry self.contents.layout.bits entry.now (entry_of self.contents.layout.bits entry.now) }
+        requires fits { FitsShard self.contents (entry_of self.contents.layout.bits entry.now).operation }
+        ensures { IfOk result (λ version. version.contents ≡ after_entry self.entry.contents (entry_of self.entry.contents.layout.bits entry.now)) }
     {
-        Err(NoMemory)
+        match entry.op {
+            Op::Add { key, code } if self.owns(key) => self.with_row(key, code),
+            Op::Delete { key } if self.owns(key) => self.without_row(key),
+            _ => Ok(self.passed()),
+        }
+    }
+
+    // Whether a key is of this shard.
+    fn owns(&self, key: u64) -> bool
+        ensures { result ≡ (key % self.now.contents.shards == self.now.contents.shard) }
+    {
+        key % u64::from(self.shards) == u64::from(self.shard)
+    }
+
+    // The version after an entry that changes no row.
+    fn passed(mut self) -> Version<W>
+        requires { self.contents.at < ENTRIES }
+        ensures { result.contents ≡ next_with self.entry.contents self.entry.contents.rows }
+    {
+        self.at += 1;
+        self
+    }
+
+    // The version after an entry that adds a row.
+    fn with_row(mut self, key: u64, code: Code<W>) -> Result<Version<W>, NoMemory>
+        requires room { self.contents.at < ENTRIES }
+        requires own { key % self.contents.shards ≡ self.contents.shard }
+        requires code { StandsFor W self.contents.layout.bits code (take self.contents.layout.bits code) }
+        requires absent { code_at self.contents.rows key ≡ None }
+        ensures { IfOk result (λ version. version.contents ≡ with_added self.entry.contents key code.entry) }
+    {
+        changes_follow_a_list();
+        counts_are_those_of_a_list();
+        let place = place_of(&self.rows, key);
+        insert_in_each(&mut self.tables, &self.layout, key, code)?;
+        let Ok(()) = self.rows.insert(place, (key, code)) else {
+            return Err(NoMemory);
+        };
+        self.at += 1;
+        Ok(self)
+    }
+
+    // The version after an entry that deletes a row.
+    fn without_row(mut self, key: u64) -> Result<Version<W>, NoMemory>
+        requires room { self.contents.at < ENTRIES }
+        requires present { is_some (code_at self.contents.rows key) ≡ true }
+        ensures { IfOk result (λ version. version.contents ≡ with_deleted self.entry.contents key) }
+    {
+        changes_follow_a_list();
+        let place = place_of(&self.rows, key);
+        let code = self.rows[place].1;
+        remove_from_each(&mut self.tables, &self.layout, key, &code)?;
+        self.rows.remove(place);
+        self.at += 1;
+        Ok(self)
     }
 
     /// The shard whose rows these are.
     pub fn shard(&self) -> u32
-        ensures { result ≡ self.now.shard }
+        ensures { result ≡ self.now.contents.shard }
     {
-        match self.never {}
+        self.shard
     }
 
     /// The number of shards.
     pub fn shards(&self) -> u32
-        ensures { result ≡ self.now.shards }
+        ensures { result ≡ self.now.contents.shards }
     {
-        match self.never {}
+        self.shards
     }
 
     /// How many entries of the history were taken in.
     pub fn at(&self) -> u64
-        ensures at { result ≡ self.now.at }
-        ensures version { IsVersion self.now }
+        ensures at { result ≡ self.now.contents.at }
+        ensures version { IsVersion self.now.contents }
     {
-        match self.never {}
+        self.at
     }
 
     /// How many rows there are.
     pub fn rows(&self) -> u64
-        ensures number { result ≡ length self.now.rows }
-        ensures version { IsVersion self.now }
+        ensures number { result ≡ length self.now.contents.rows }
+        ensures version { IsVersion self.now.contents }
     {
-        match self.never {}
+        self.rows.len() as u64
     }
 
     /// Whether a key has a row.
     pub fn has_key(&self, key: u64) -> bool
-        ensures { result ≡ is_some (code_at self.now.rows key) }
+        ensures { result ≡ is_some (code_at self.now.contents.rows key) }
     {
-        match self.never {}
+        stands_at(&self.rows, place_of(&self.rows, key), key)
     }
 
     /// The layout.
     pub fn layout(&self) -> &Arc<Layout>
-        ensures { arc_value result.now ≡ self.now.layout }
+        ensures layout { arc_value result.now ≡ self.now.contents.layout }
+        ensures version { IsVersion self.now.contents }
+        ensures tables { HasTables W self.now }
     {
-        match self.never {}
+        &self.layout
+    }
+
+    /// The posting lists of a part: each row once, in the list of its code's value at the part.
+    pub fn postings(&self, part: u32) -> &Postings<W>
+        requires { part < length self.now.contents.layout.parts }
+        ensures table { result.now ≡ table_at self.now part }
+        ensures postings { ArePostings W self.now.contents part result.now }
+    {
+        &self.tables[part as usize].postings
+    }
+
+    /// How many rows have each value of a part.
+    pub fn counts(&self, part: u32) -> &Counts
+        requires { part < length self.now.contents.layout.parts }
+        ensures { result.now ≡ counts_of self.now.contents part }
+    {
+        &self.tables[part as usize].counts
+    }
+
+    /// The rows of least key, so many, or all where there are fewer, in the order of their keys. Adds
+    /// one step for each.
+    ///
+    /// # Errors
+    ///
+    /// `NoMemory` where there is no memory for that many; no row is read then.
+    pub fn first_rows<M>(
+        &self,
+        n: u32,
+        steps: &mut Steps<M>,
+    ) -> Result<Vec<(u64, Code<W>)>, NoMemory>
+        ensures rows { IfOk result (λ rows. AreFirst n self.now.contents rows.items) }
+        ensures codes { IfOk result (λ rows. AreStored W self.now.contents.layout.bits rows.items) }
+        ensures steps { OnOk result (steps.new ≡ steps.old + min n (length self.now.contents.rows)) }
+        ensures unread { OnErr result (steps.new ≡ steps.old) }
+    {
+        let number = self.rows.len().min(n as usize);
+        let Ok(mut first) = Vec::with_capacity(self.alloc, number) else {
+            return Err(NoMemory);
+        };
+        for i in 0..number {
+            steps.tick();
+            let Ok(()) = first.push(self.rows[i]) else {
+                unreachable!();
+            };
+        }
+        Ok(first)
     }
 }

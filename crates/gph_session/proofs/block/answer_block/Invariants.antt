@@ -11,11 +11,11 @@ abbrev pub invariant-loop-done : goal.invariant-loop-done
 invariant-loop-done g l = record {
   within : l.done ≤ length l.block;
   config : l.session.config ≡ l.fn.session.config;
-  ready : IsReady g.row.W l.session.config (arc_value l.session.version);
+  ready : IsReady g.row.W l.session.config (arc_value l.session.version).contents;
   goes : (bytes output : List ℕ)
-      → Stands g.row.W l.fn.session.config bytes output (arc_value l.fn.session.version) l.fn.session.queries.items l.fn.session.cutter.held
+      → Stands g.row.W l.fn.session.config bytes output (arc_value l.fn.session.version).contents l.fn.session.queries.items l.fn.session.cutter.held
       → (more : List ℕ) × Appends (g.K.Sink.held l.fn.sink) (g.K.Sink.held l.sink) more
-      × Stands g.row.W l.fn.session.config (bytes ++ take l.done l.block) (output ++ more) (arc_value l.session.version) l.session.queries.items l.session.cutter.held;
+      × Stands g.row.W l.fn.session.config (bytes ++ take l.done l.block) (output ++ more) (arc_value l.session.version).contents l.session.queries.items l.session.cutter.held;
   ledger : l.steps + reads_of l.fn.session.queries.items ≡ l.fn.steps + reads_of l.session.queries.items;
   never_falls : g.K.Sink.faults l.fn.sink ≤ g.K.Sink.faults l.sink;
 }

@@ -11,9 +11,9 @@ use Rattle.gph_session.proofs.opening.open.Goals as goal
 
 pub returns-in-Ok-put : goal.returns-in-Ok-put
 returns-in-Ok-put g c =
-    let version = arc_value c.args.version.now in
+    let version = (arc_value c.args.version.now).contents in
     let held : OpenQuery g.row.W = record { tag = c.args.tag; task = c.in-Ok-open.task; given = 0; done = false } in
-    let pinned : arc_value c.in-Ok.pinned ≡ version = search rules in
+    let pinned : (arc_value c.in-Ok.pinned).contents ≡ version = search rules in
     let asks = subst (λ v. AsksRange v (own_code v.layout.bits c.args.code) c.args.tau c.args.room (asked_of held)) pinned c.in-Ok-open.ensures.asked in
     let begins = subst (λ v. BeginsRange v (asked_of held) (standing_of held)) pinned c.in-Ok-open.ensures.begins in
     let whole : IsVersion version = search rules in (

@@ -15,7 +15,7 @@ returns-in-Err-clause-ends g c =
     (g.K.Sink.held c.args.sink.now) (g.K.Sink.held c.loop-session.sink) (g.K.Sink.held c.loop-session.sink)
     (g.S.Source.faults c.args.source.now) (g.S.Source.faults c.loop-session.source) (g.S.Source.faults c.read.new.self)
     (g.K.Sink.faults c.args.sink.now) (g.K.Sink.faults c.loop-session.sink) (g.K.Sink.faults c.loop-session.sink)
-    (arc_value c.loop-session.session.version) c.loop-session.session.queries.items c.loop-session.session.cutter.held c.loop-session.invariant.within c.loop-session.invariant.goes
+    (arc_value c.loop-session.session.version).contents c.loop-session.session.queries.items c.loop-session.session.cutter.held c.loop-session.invariant.within c.loop-session.invariant.goes
     c.loop-session.invariant.source_faults c.in-Err.ensures.bytes c.in-Err.ensures.cause.failed
 
 pub returns-in-Ok-answer_end-clause-ends : goal.returns-in-Ok-answer_end-clause-ends
@@ -29,7 +29,7 @@ returns-in-Ok-answer_end-clause-ends g c =
     (g.K.Sink.held c.args.sink.now) (g.K.Sink.held c.loop-session.sink) (g.K.Sink.held c.answer_end.new.sink)
     (g.S.Source.faults c.args.source.now) (g.S.Source.faults c.loop-session.source) (g.S.Source.faults c.read.new.self)
     (g.K.Sink.faults c.args.sink.now) (g.K.Sink.faults c.loop-session.sink) (g.K.Sink.faults c.answer_end.new.sink)
-    (arc_value c.loop-session.session.version) c.loop-session.session.queries.items c.loop-session.session.cutter.held c.loop-session.invariant.within c.loop-session.invariant.goes
+    (arc_value c.loop-session.session.version).contents c.loop-session.session.queries.items c.loop-session.session.cutter.held c.loop-session.invariant.within c.loop-session.invariant.goes
     c.loop-session.session.config c.loop-session.invariant.config (reads_of c.answer_end.new.session.queries.items) none at_end c.in-Ok-answer_end.ensures.flow
 
 pub returns-in-Err-answer_end-clause-ends : goal.returns-in-Err-answer_end-clause-ends
@@ -43,7 +43,7 @@ returns-in-Err-answer_end-clause-ends g c =
     (g.K.Sink.held c.args.sink.now) (g.K.Sink.held c.loop-session.sink) (g.K.Sink.held c.answer_end.new.sink)
     (g.S.Source.faults c.args.source.now) (g.S.Source.faults c.loop-session.source) (g.S.Source.faults c.read.new.self)
     (g.K.Sink.faults c.args.sink.now) (g.K.Sink.faults c.loop-session.sink) (g.K.Sink.faults c.answer_end.new.sink)
-    (arc_value c.loop-session.session.version) c.loop-session.session.queries.items c.loop-session.session.cutter.held c.loop-session.invariant.within c.loop-session.invariant.goes
+    (arc_value c.loop-session.session.version).contents c.loop-session.session.queries.items c.loop-session.session.cutter.held c.loop-session.invariant.within c.loop-session.invariant.goes
     c.loop-session.session.config c.loop-session.invariant.config (reads_of c.answer_end.new.session.queries.items) none at_end c.loop-session.invariant.sink_faults c.in-Err-answer_end.ensures.cause.failed c.in-Err-answer_end.ensures.flow
 
 pub returns-then-taken-limit-clause-ends : goal.returns-then-taken-limit-clause-ends
@@ -58,7 +58,7 @@ returns-then-taken-limit-clause-ends g c =
     (g.K.Sink.held c.args.sink.now) (g.K.Sink.held c.loop-session.sink) (g.K.Sink.held c.loop-session.sink)
     (g.S.Source.faults c.args.source.now) (g.S.Source.faults c.loop-session.source) (g.S.Source.faults c.read.new.self)
     (g.K.Sink.faults c.args.sink.now) (g.K.Sink.faults c.loop-session.sink) (g.K.Sink.faults c.loop-session.sink)
-    (arc_value c.loop-session.session.version) c.loop-session.session.queries.items c.loop-session.session.cutter.held c.loop-session.invariant.within c.loop-session.invariant.goes
+    (arc_value c.loop-session.session.version).contents c.loop-session.session.queries.items c.loop-session.session.cutter.held c.loop-session.invariant.within c.loop-session.invariant.goes
     (get_or c.read.new.room 0 0) read c.if-taken-limit.true
 
 pub loop-session-preserved : goal.loop-session-preserved
@@ -76,11 +76,11 @@ loop-session-preserved g c =
     (g.K.Sink.held c.args.sink.now) (g.K.Sink.held c.loop-session.sink) (g.K.Sink.held c.answer_block.new.sink)
     (g.S.Source.faults c.args.source.now) (g.S.Source.faults c.loop-session.source) (g.S.Source.faults c.read.new.self)
     (g.K.Sink.faults c.args.sink.now) (g.K.Sink.faults c.loop-session.sink) (g.K.Sink.faults c.answer_block.new.sink)
-    (arc_value c.loop-session.session.version) c.loop-session.session.queries.items c.loop-session.session.cutter.held c.loop-session.invariant.within c.loop-session.invariant.goes
-    c.loop-session.session.config c.loop-session.invariant.config (reads_of c.answer_block.new.session.queries.items) piece read fits (arc_value c.answer_block.new.session.version) c.answer_block.new.session.queries.items c.answer_block.new.session.cutter.held (λ bytes output standing.
+    (arc_value c.loop-session.session.version).contents c.loop-session.session.queries.items c.loop-session.session.cutter.held c.loop-session.invariant.within c.loop-session.invariant.goes
+    c.loop-session.session.config c.loop-session.invariant.config (reads_of c.answer_block.new.session.queries.items) piece read fits (arc_value c.answer_block.new.session.version).contents c.answer_block.new.session.queries.items c.answer_block.new.session.cutter.held (λ bytes output standing.
     let is : c.answer_block.result ≡ Ok Goes = search rules in
     let f = c.answer_block.ensures.flow bytes output standing in
-    (f.0, f.1, subst (λ r. FlowIs r g.row.W c.loop-session.session.config (bytes ++ piece) (output ++ f.0) (arc_value c.answer_block.new.session.version) c.answer_block.new.session.queries.items c.answer_block.new.session.cutter.held) is f.2)) in
+    (f.0, f.1, subst (λ r. FlowIs r g.row.W c.loop-session.session.config (bytes ++ piece) (output ++ f.0) (arc_value c.answer_block.new.session.version).contents c.answer_block.new.session.queries.items c.answer_block.new.session.cutter.held) is f.2)) in
     record {
       within = omega (arith, long, fits);
       config = c.answer_block.ensures.config ∙ c.loop-session.invariant.config;
@@ -106,11 +106,11 @@ returns-in-Ok-Quits-clause-ends g c =
     (g.K.Sink.held c.args.sink.now) (g.K.Sink.held c.loop-session.sink) (g.K.Sink.held c.answer_block.new.sink)
     (g.S.Source.faults c.args.source.now) (g.S.Source.faults c.loop-session.source) (g.S.Source.faults c.read.new.self)
     (g.K.Sink.faults c.args.sink.now) (g.K.Sink.faults c.loop-session.sink) (g.K.Sink.faults c.answer_block.new.sink)
-    (arc_value c.loop-session.session.version) c.loop-session.session.queries.items c.loop-session.session.cutter.held c.loop-session.invariant.within c.loop-session.invariant.goes
+    (arc_value c.loop-session.session.version).contents c.loop-session.session.queries.items c.loop-session.session.cutter.held c.loop-session.invariant.within c.loop-session.invariant.goes
     c.loop-session.session.config c.loop-session.invariant.config (reads_of c.answer_block.new.session.queries.items) piece read fits (λ bytes output standing.
     let is : c.answer_block.result ≡ Ok Quits = search rules in
     let f = c.answer_block.ensures.flow bytes output standing in
-    (f.0, f.1, subst (λ r. FlowIs r g.row.W c.loop-session.session.config (bytes ++ piece) (output ++ f.0) (arc_value c.answer_block.new.session.version) c.answer_block.new.session.queries.items c.answer_block.new.session.cutter.held) is f.2))
+    (f.0, f.1, subst (λ r. FlowIs r g.row.W c.loop-session.session.config (bytes ++ piece) (output ++ f.0) (arc_value c.answer_block.new.session.version).contents c.answer_block.new.session.queries.items c.answer_block.new.session.cutter.held) is f.2))
 
 pub returns-in-Err-answer_block-clause-ends : goal.returns-in-Err-answer_block-clause-ends
 returns-in-Err-answer_block-clause-ends g c =
@@ -127,5 +127,5 @@ returns-in-Err-answer_block-clause-ends g c =
     (g.K.Sink.held c.args.sink.now) (g.K.Sink.held c.loop-session.sink) (g.K.Sink.held c.answer_block.new.sink)
     (g.S.Source.faults c.args.source.now) (g.S.Source.faults c.loop-session.source) (g.S.Source.faults c.read.new.self)
     (g.K.Sink.faults c.args.sink.now) (g.K.Sink.faults c.loop-session.sink) (g.K.Sink.faults c.answer_block.new.sink)
-    (arc_value c.loop-session.session.version) c.loop-session.session.queries.items c.loop-session.session.cutter.held c.loop-session.invariant.within c.loop-session.invariant.goes
+    (arc_value c.loop-session.session.version).contents c.loop-session.session.queries.items c.loop-session.session.cutter.held c.loop-session.invariant.within c.loop-session.invariant.goes
     c.loop-session.session.config c.loop-session.invariant.config (reads_of c.answer_block.new.session.queries.items) piece read fits c.loop-session.invariant.sink_faults c.in-Err-answer_block.ensures.cause.failed c.in-Err-answer_block.ensures.flow

@@ -11,17 +11,17 @@ pub serve-requires : goal.serve-requires
 serve-requires g c =
     let session = c.in-Ok.session in
     let same = sym c.in-Ok.ensures.config in
-    let first = subst (λ (config : Config). arc_value session.version ≡ contents_of config []) same c.in-Ok.ensures.version in
+    let first = subst (λ (config : Config). (arc_value session.version).contents ≡ contents_of config []) same c.in-Ok.ensures.version in
     let allowed = subst (λ (config : Config). IsAllowed g.row.W config.bits) same c.requires.allowed in
     let is = subst IsConfig same c.requires.config in (
       search rules,
       (
         search rules,
         (
-          is_ready g.row.W session.config (arc_value session.version) allowed is first,
+          is_ready g.row.W session.config (arc_value session.version).contents allowed is first,
           (
             search rules,
-            stands_new g.row.W session.config (arc_value session.version) session.queries.items session.cutter.held first c.in-Ok.ensures.queries c.in-Ok.ensures.cutter,
+            stands_new g.row.W session.config (arc_value session.version).contents session.queries.items session.cutter.held first c.in-Ok.ensures.queries c.in-Ok.ensures.cutter,
           ),
         ),
       ),

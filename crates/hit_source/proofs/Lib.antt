@@ -1,0 +1,3 @@
+pub mod WorkLemmas
+pub mod ListedLemmas
+pub mod DrainLemmas

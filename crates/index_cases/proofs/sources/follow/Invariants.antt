@@ -1,0 +1,6 @@
+-- No hit waits before a poll.
+use Rattle.std.proofs.Common.{◌≡◌, []}
+use Rattle.index_cases.proofs.sources.follow.Given as goal
+
+abbrev pub invariant-loop-place : goal.invariant-loop-place
+invariant-loop-place g l = (g.S.HitSource.standing l.source).waiting ≡ []

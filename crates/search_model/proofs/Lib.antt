@@ -1,0 +1,6 @@
+pub mod CostLemmas
+pub mod HitLemmas
+pub mod KeptLemmas
+pub mod PostingLemmas
+pub mod SameLemmas
+pub mod StoredLemmas

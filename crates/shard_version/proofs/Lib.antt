@@ -1,0 +1,6 @@
+mod PlaceLemmas
+mod SumLemmas
+mod PartLemmas
+mod HistoryLemmas
+mod KeptLemmas
+mod EntryLemmas

@@ -1,0 +1,4 @@
+pub mod Counted
+pub mod Inside
+pub mod Planned
+pub mod Walks

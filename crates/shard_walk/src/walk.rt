@@ -1,0 +1,135 @@
+//! A walk over the posting lists of a plan.
+
+ghost use Rattle.std.specs.Prelude.{◌≡◌, ◌+◌, ◌<◌, ◌≤◌, ◌↔◌, ◌++◌, IsTrue, true, false, [], length};
+ghost use Rattle.std.specs.Option.{option_to_list};
+ghost use Rattle.hamming_model.specs.Scan.{in_order, scan};
+ghost use Rattle.shard_walk.specs.Planned.{parts_of, query_of};
+ghost use Rattle.shard_walk.specs.Walks.{IsPlace, BeginsValue, PassesPart, part_begun, hits_left, reads_left, values_left, all_values};
+
+use crate::plan::Plan;
+use ball_walk::{Ball, ball_sums_add_up};
+use hamming_model::Hit;
+use read_meter::Steps;
+use search_model::{lists_read_by_parts, near_rows_are_kept_once, rows_read_are_the_cost};
+use std::marker::Model;
+
+/// Where a search stands: part by part it goes over the values of the ball, and over the posting list of each.
+#[derive(Drop)]
+pub struct Walk {
+    part: usize,
+    ball: Ball,
+    // the value whose posting list is read, the next place in it, and its length
+    value: u16,
+    next: u32,
+    size: u32,
+}
+
+impl Model for Walk {
+    ghost use Rattle.shard_walk.specs.Walks.{Place};
+
+    ghost Value = { Place };
+
+    ghost view = { λ w. record { part = w.part; ball = w.ball; value = w.value; next = w.next; size = w.size } };
+}
+
+impl Walk {
+    /// A walk that has read nothing.
+    pub fn start<const W: usize>(plan: &Plan<W>) -> Walk
+        ensures place { IsPlace plan.now result }
+        ensures hits { in_order (hits_left plan.now result)
+            ≡ scan plan.now.version.contents.rows (query_of plan.now) plan.now.tau }
+        ensures reads { reads_left plan.now result ≡ plan.now.least }
+        ensures values { values_left plan.now result ≤ all_values (parts_of plan.now) }
+    {
+        near_rows_are_kept_once();
+        rows_read_are_the_cost();
+        lists_read_by_parts();
+        ball_sums_add_up();
+        plan.parts();
+        Walk::at_part(plan, 0)
+    }
+
+    /// Whether the posting list that it is in has a posting left.
+    pub fn is_in_list(&self) -> bool
+        ensures { IsTrue result ↔ self.now.next < self.now.size }
+    {
+        self.next < self.size
+    }
+
+    /// Reads the next posting of its posting list, for one step, and gives its hit if its part keeps it.
+    pub fn read<const W: usize, L>(
+        &mut self,
+        plan: &Plan<W>,
+        steps: &mut Steps<L>,
+    ) -> Option<Hit>
+        requires place { IsPlace plan.now self.old }
+        requires posting { self.old.next < self.old.size }
+        ensures place { IsPlace plan.now self.new }
+        ensures hits { hits_left plan.now self.old
+            ≡ option_to_list result ++ hits_left plan.now self.new }
+        ensures reads { reads_left plan.now self.old ≡ reads_left plan.now self.new + 1 }
+        ensures values { values_left plan.now self.new ≡ values_left plan.now self.old }
+        ensures step { steps.new ≡ steps.old + 1 }
+    {
+        let (key, code) = plan.posting(self.part, self.value, self.next, steps);
+        self.next += 1;
+        plan.kept(self.part, key, &code)
+    }
+
+    /// Goes on to the posting list of the next value of a ball. Parts that have none left are passed.
+    pub fn next_value<const W: usize>(&mut self, plan: &Plan<W>)
+        requires place { IsPlace plan.now self.old }
+        requires list_done { self.old.next ≡ self.old.size }
+        requires some_left { 0 < reads_left plan.now self.old }
+        ensures place { IsPlace plan.now self.new }
+        ensures hits { hits_left plan.now self.new ≡ hits_left plan.now self.old }
+        ensures reads { reads_left plan.now self.new ≡ reads_left plan.now self.old }
+        ensures values { values_left plan.now self.old ≡ values_left plan.now self.new + 1 }
+    {
+        while !self.begin_value(plan) {
+            self.pass_part(plan);
+        }
+    }
+
+    // Goes on to the next part, where this one has nothing left.
+    fn pass_part<const W: usize>(&mut self, plan: &Plan<W>)
+        requires place { IsPlace plan.now self.old }
+        requires list_done { self.old.next ≡ self.old.size }
+        requires ball_done { self.old.ball ≡ [] }
+        requires some_left { 0 < reads_left plan.now self.old }
+        ensures { PassesPart plan.now self.old self.new }
+    {
+        *self = Walk::at_part(plan, self.part + 1);
+    }
+
+    // Takes the next value of the ball and begins its posting list, if there is one.
+    fn begin_value<const W: usize>(&mut self, plan: &Plan<W>) -> bool
+        requires place { IsPlace plan.now self.old }
+        requires list_done { self.old.next ≡ self.old.size }
+        ensures begun { result ≡ true → BeginsValue plan.now self.old self.new }
+        ensures none { result ≡ false → (self.new ≡ self.old) × (self.old.ball ≡ []) }
+    {
+        let Some(value) = self.ball.next() else {
+            return false;
+        };
+        self.value = value;
+        self.next = 0;
+        self.size = plan.list_len(self.part, value);
+        true
+    }
+
+    // At a part of which nothing was read.
+    fn at_part<const W: usize>(plan: &Plan<W>, part: usize) -> Walk
+        requires { part < length (parts_of plan.now) }
+        ensures part { result ≡ part_begun plan.now part }
+        ensures place { IsPlace plan.now result }
+    {
+        Walk {
+            part,
+            ball: plan.ball(part),
+            value: 0,
+            next: 0,
+            size: 0,
+        }
+    }
+}
