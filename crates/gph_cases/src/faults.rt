@@ -1,9 +1,11 @@
 //! Sessions whose source or sink fails.
 
-use crate::trial::{Ends, compare, list_of};
+use crate::trial::{Ends, Postings, compare, list_of};
 use gph_session::{Outcome, run};
 use line_io::{SteadySink, SteadySource};
+use read_meter::Meters;
 use std::alloc::Global;
+use std::env::Env;
 use std::process::Abort;
 use std::test::Fail;
 
@@ -81,7 +83,7 @@ static REPLIES: [&[u8]; 8] = [
 ];
 
 // Compares that session where its write of a number fails.
-fn fail_write<R: Abort>(
+fn fail_write<R: Abort + Env>(
     rt: &R,
     alloc: Global,
     input: &[u8],
@@ -232,11 +234,13 @@ fn a_session_over_steady_ends_is_done(rt: HostRuntime) -> Result<(), Fail> {
     let words = list_of(rt.alloc(), "run --bits 8")?;
     let (input, _) = whole_lines(rt.alloc(), 59)?;
     let mut source = SteadySource::new(input, 7);
+    let mut meters: Meters<Postings> = Meters::new(&rt, rt.alloc())?;
     let outcome = run(
         rt.alloc(),
         words.as_slice(),
         &mut source,
         &mut SteadySink::new(),
+        &mut meters,
     );
     assert_eq!(rt; outcome, Outcome::Done);
     Ok(())

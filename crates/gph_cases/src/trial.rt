@@ -2,9 +2,15 @@
 
 use gph_session::{Outcome, run};
 use line_io::{MemorySink, MemorySource};
+use read_meter::Meters;
 use std::alloc::Global;
+use std::env::Env;
 use std::process::Abort;
 use std::test::Fail;
+
+/// The ledger on which a session's postings are counted.
+#[derive(Drop)]
+pub(crate) struct Postings;
 
 /// How the ends of a session behave: the bytes of a read, and the read and the write that fail, counted from 1, or 0.
 #[derive(Clone, Copy)]
@@ -15,7 +21,7 @@ pub(crate) struct Ends {
 }
 
 /// Runs the words, parted by spaces, over an input, and compares how the call ends and what it wrote with what has to come.
-pub(crate) fn compare<R: Abort>(
+pub(crate) fn compare<R: Abort + Env>(
     rt: &R,
     alloc: Global,
     about: &str,
@@ -30,7 +36,14 @@ pub(crate) fn compare<R: Abort>(
     let words = list_of(alloc, words)?;
     let mut source = MemorySource::new(input.to_vec(alloc)?, piece, [read].to_vec(alloc)?);
     let mut sink = MemorySink::new(alloc, [write].to_vec(alloc)?);
-    let ended = run(alloc, words.as_slice(), &mut source, &mut sink);
+    let mut meters: Meters<Postings> = Meters::new(rt, alloc)?;
+    let ended = run(
+        alloc,
+        words.as_slice(),
+        &mut source,
+        &mut sink,
+        &mut meters,
+    );
     assert_eq!(rt;
         ended,
         outcome,
@@ -45,7 +58,7 @@ pub(crate) fn compare<R: Abort>(
 }
 
 /// Compares a call without faults, with its input in pieces of 4,096, of 7 and of 1 bytes.
-pub(crate) fn compare_pieces<R: Abort>(
+pub(crate) fn compare_pieces<R: Abort + Env>(
     rt: &R,
     alloc: Global,
     about: &str,

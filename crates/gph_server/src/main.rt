@@ -4,9 +4,14 @@
 
 use gph_session::{Outcome, run};
 use line_io::{Gathered, GatheredReader, GatheredWriter};
+use read_meter::Meters;
 use std::env;
 use std::io::ErrorKind;
 use std::process::ExitCode;
+
+// The ledger on which the postings that are read are counted.
+#[derive(Drop)]
+struct Postings;
 
 fn main(rt: HostRuntime) -> ExitCode {
     let outcome = outcome_of(&rt);
@@ -39,12 +44,21 @@ fn outcome_of(rt: &HostRuntime) -> Outcome {
         return Outcome::NoMemory;
     };
     let words: Vec<String> = words;
+    let Ok(mut meters) = Meters::<Postings>::new(rt, rt.alloc()) else {
+        return Outcome::NoMemory;
+    };
     let Ok(gathered) = Gathered::new(rt.alloc(), rt.stdout()) else {
         return Outcome::NoMemory;
     };
     let mut source = GatheredReader::new(rt.stdin(), &gathered);
     let mut sink = GatheredWriter::new(&gathered);
-    let outcome = run(rt.alloc(), words.as_slice(), &mut source, &mut sink);
+    let outcome = run(
+        rt.alloc(),
+        words.as_slice(),
+        &mut source,
+        &mut sink,
+        &mut meters,
+    );
     if gathered.give_out() {
         outcome
     } else {

@@ -1,9 +1,14 @@
 pub mod RunLemmas
+pub mod VersionLemmas
+pub mod HeldLemmas
+pub mod LawLemmas
+pub mod LedgerLemmas
+pub mod QueryLemmas
 pub mod FlowLemmas
 pub mod ReadingLemmas
-pub mod QueryLemmas
 pub mod StepLemmas
 pub mod WritingLemmas
+pub mod GivingLemmas
 pub mod BlockLemmas
 pub mod ServeLemmas
 pub mod TopLemmas

@@ -1,17 +1,19 @@
 -- Lemmas on what a line asks: a reading from what words of 64 bits keep of it, and that each code has its bits.
-use Rattle.std.proofs.Common.{◌≡◌, ℕ, zero, suc, ◌*◌, ◌/◌, ◌%◌, ◌<◌, ◌==◌, ◌&&◌, nat_lt, Bool, true, false, cond, List, [], ◌∷◌, length, Option, Some, None, Result, Ok, Err, refl, sym, ap, ◌∙◌, arith, ◌++◌, length-append, not}
+use Rattle.std.proofs.Common.{◌≡◌, ℕ, zero, suc, ◌*◌, ◌/◌, ◌%◌, ◌<◌, ◌≤◌, ◌==◌, ◌&&◌, nat_lt, nat_le, Bool, true, false, cond, List, [], ◌∷◌, length, Option, Some, None, Result, Ok, Err, refl, sym, ap, ◌∙◌, arith, ◌++◌, length-append, not}
 use Rattle.std.specs.List.{AllByRecursion, list_all}
 use Rattle.std.specs.Char.{digit_value}
+use Rattle.std.specs.Str.Parse.{digits_value}
 use Rattle.std.proofs.lemmas.Bool.Decides.{Decides-eqb}
+use Rattle.std.proofs.lemmas.Bool.{leb-true}
 use Rattle.hamming_model.specs.Codes.{bits_of, hex_code, padded, IsCode}
 use Rattle.query_protocol.specs.Words.{words, is_printable}
-use Rattle.query_protocol.specs.Forms.{key_of, radius_of, count_of, shard_of, code_of, tag_of}
-use Rattle.query_protocol.specs.Requests.{LineRequest, Add, Range, Next, Layout, Quit, request_word, add_of, range_of, next_of, layout_of, with_words, of_words, reading, stored_reading, bad}
+use Rattle.query_protocol.specs.Forms.{key_of, radius_of, count_of, shard_of, code_of, tag_of, is_decimal}
+use Rattle.query_protocol.specs.Requests.{LineRequest, Add, Range, Next, Cost, Plan, Layout, Quit, request_word, add_of, range_of, next_of, cost_of, plan_of, layout_of, with_words, of_words, reading, stored_reading, bad}
 use Rattle.query_protocol.specs.declared.bad.Bad.{Bad}
 use Rattle.query_protocol.specs.declared.request.Request.{Request}
 use Rattle.query_protocol.specs.declared.request.Request.TheVariants as kept
 use Rattle.query_protocol.specs.declared.request.RequestWord.{RequestWord}
-use Rattle.query_protocol.specs.declared.request.RequestWord.TheVariants.{AddWord, RangeWord, NextWord, LayoutWord, QuitWord}
+use Rattle.query_protocol.specs.declared.request.RequestWord.TheVariants.{AddWord, RangeWord, NextWord, CostWord, PlanWord, LayoutWord, QuitWord}
 
 -- ---- from what words keep
 
@@ -45,6 +47,8 @@ kept_add W (Ok None) key stored e = cc
 kept_add W (Ok (Some (Add other code))) key stored e = let same : key ≡ other = cc in (code, ap (λ (k : ℕ). Ok (Some (Add k code))) (sym same), cc)
 kept_add W (Ok (Some (Range tag tau code))) key stored e = cc
 kept_add W (Ok (Some (Next tag count))) key stored e = cc
+kept_add W (Ok (Some (Cost other))) key stored e = cc
+kept_add W (Ok (Some (Plan other place))) key stored e = cc
 kept_add W (Ok (Some (Layout shard))) key stored e = cc
 kept_add W (Ok (Some Quit)) key stored e = cc
 
@@ -58,6 +62,8 @@ kept_range W (Ok (Some (Range other radius code))) tag tau stored e =
     let same_tau : tau ≡ radius = cc in
     (code, ap (λ (t : List ℕ). Ok (Some (Range t radius code))) (sym same_tag) ∙ ap (λ (r : ℕ). Ok (Some (Range tag r code))) (sym same_tau), cc)
 kept_range W (Ok (Some (Next other count))) tag tau stored e = cc
+kept_range W (Ok (Some (Cost other))) tag tau stored e = cc
+kept_range W (Ok (Some (Plan other place))) tag tau stored e = cc
 kept_range W (Ok (Some (Layout shard))) tag tau stored e = cc
 kept_range W (Ok (Some Quit)) tag tau stored e = cc
 
@@ -71,6 +77,8 @@ kept_next W (Ok (Some (Next other number))) tag count e =
     let same_tag : tag ≡ other = cc in
     let same_count : count ≡ number = cc in
     ap (λ (t : List ℕ). Ok (Some (Next t number))) (sym same_tag) ∙ ap (λ (n : ℕ). Ok (Some (Next tag n))) (sym same_count)
+kept_next W (Ok (Some (Cost other))) tag count e = cc
+kept_next W (Ok (Some (Plan other place))) tag count e = cc
 kept_next W (Ok (Some (Layout shard))) tag count e = cc
 kept_next W (Ok (Some Quit)) tag count e = cc
 
@@ -81,6 +89,8 @@ kept_quit W (Ok (Some (Add key code))) e = cc
 kept_quit W (Ok (Some (Range tag tau code))) e = cc
 kept_quit W (Ok (Some (Next tag count))) e = cc
 kept_quit W (Ok (Some (Layout shard))) e = cc
+kept_quit W (Ok (Some (Cost other))) e = cc
+kept_quit W (Ok (Some (Plan other place))) e = cc
 kept_quit W (Ok (Some Quit)) e = refl
 
 abbrev pub layout_kept : (W : ℕ) → ℕ → Request W
@@ -92,15 +102,48 @@ kept_layout W (Ok None) shard e = cc
 kept_layout W (Ok (Some (Add key code))) shard e = cc
 kept_layout W (Ok (Some (Range tag tau code))) shard e = cc
 kept_layout W (Ok (Some (Next tag count))) shard e = cc
+kept_layout W (Ok (Some (Cost other))) shard e = cc
+kept_layout W (Ok (Some (Plan other place))) shard e = cc
 kept_layout W (Ok (Some (Layout other))) shard e = let same : shard ≡ other = cc in ap (λ (n : ℕ). Ok (Some (Layout n))) (sym same)
 kept_layout W (Ok (Some Quit)) shard e = cc
 
+abbrev pub cost_kept : (W : ℕ) → List ℕ → Request W
+cost_kept W tag = kept.Cost tag
+
+pub kept_cost : (W : ℕ) (asked : Result (Option LineRequest) Bad) (tag : List ℕ) → Ok (Some (cost_kept W tag)) ≡ stored_reading W asked → asked ≡ Ok (Some (Cost tag))
+kept_cost W (Err fault) tag e = cc
+kept_cost W (Ok None) tag e = cc
+kept_cost W (Ok (Some (Add key code))) tag e = cc
+kept_cost W (Ok (Some (Range other tau code))) tag e = cc
+kept_cost W (Ok (Some (Next other count))) tag e = cc
+kept_cost W (Ok (Some (Cost other))) tag e = let same : tag ≡ other = cc in ap (λ (t : List ℕ). Ok (Some (Cost t))) (sym same)
+kept_cost W (Ok (Some (Plan other place))) tag e = cc
+kept_cost W (Ok (Some (Layout shard))) tag e = cc
+kept_cost W (Ok (Some Quit)) tag e = cc
+
+abbrev pub plan_kept : (W : ℕ) → List ℕ → ℕ → Request W
+plan_kept W tag shard = kept.Plan tag shard
+
+pub kept_plan : (W : ℕ) (asked : Result (Option LineRequest) Bad) (tag : List ℕ) (shard : ℕ) → Ok (Some (plan_kept W tag shard)) ≡ stored_reading W asked → asked ≡ Ok (Some (Plan tag shard))
+kept_plan W (Err fault) tag shard e = cc
+kept_plan W (Ok None) tag shard e = cc
+kept_plan W (Ok (Some (Add key code))) tag shard e = cc
+kept_plan W (Ok (Some (Range other tau code))) tag shard e = cc
+kept_plan W (Ok (Some (Next other count))) tag shard e = cc
+kept_plan W (Ok (Some (Cost other))) tag shard e = cc
+kept_plan W (Ok (Some (Plan other place))) tag shard e =
+    let same_tag : tag ≡ other = cc in
+    let same_shard : shard ≡ place = cc in
+    ap (λ (t : List ℕ). Ok (Some (Plan t place))) (sym same_tag) ∙ ap (λ (n : ℕ). Ok (Some (Plan tag n))) (sym same_shard)
+kept_plan W (Ok (Some (Layout other))) tag shard e = cc
+kept_plan W (Ok (Some Quit)) tag shard e = cc
+
 -- ---- each code has its bits
 
--- where a request has a code, it has so many bits
+-- where a request has a code, it has so many bits, and where it has a radius, that is at most so many
 abbrev pub HasCode : ℕ → Result (Option LineRequest) Bad → Type 0
 HasCode bits (Ok (Some (Add key code))) = IsCode bits code
-HasCode bits (Ok (Some (Range tag tau code))) = IsCode bits code
+HasCode bits (Ok (Some (Range tag tau code))) = IsCode bits code × (tau ≤ bits)
 HasCode bits asked = Unit {0}
 
 -- where a word is a code, it has so many bits
@@ -144,16 +187,36 @@ add_code bits None code h = tt
 add_code bits (Some key) None h = tt
 add_code bits (Some key) (Some code) h = h
 
-range_code : (bits : ℕ) (tag : Option (List ℕ)) (tau : Option ℕ) (code : Option (List ℕ)) → IsCodeIf bits code → HasCode bits (range_of tag tau code)
-range_code bits None tau code h = tt
-range_code bits (Some tag) None code h = tt
-range_code bits (Some tag) (Some tau) None h = tt
-range_code bits (Some tag) (Some tau) (Some code) h = h
+-- where a word is a radius, it is at most so many
+abbrev IsWithinIf : ℕ → Option ℕ → Type 0
+IsWithinIf bits None = Unit {0}
+IsWithinIf bits (Some tau) = tau ≤ bits
+
+radius_if : (bits value : ℕ) (form least most : Bool) → nat_le value bits ≡ most → IsWithinIf bits (cond (form && least && most) (Some value) None)
+radius_if bits value true true true is = leb-true value bits is
+radius_if bits value true true false is = tt
+radius_if bits value true false most is = tt
+radius_if bits value false least most is = tt
+
+range_code : (bits : ℕ) (tag : Option (List ℕ)) (tau : Option ℕ) (code : Option (List ℕ)) → IsWithinIf bits tau → IsCodeIf bits code → HasCode bits (range_of tag tau code)
+range_code bits None tau code near h = tt
+range_code bits (Some tag) None code near h = tt
+range_code bits (Some tag) (Some tau) None near h = tt
+range_code bits (Some tag) (Some tau) (Some code) near h = (h, near)
 
 next_code : (bits : ℕ) (tag : Option (List ℕ)) (count : Option ℕ) → HasCode bits (next_of tag count)
 next_code bits None count = tt
 next_code bits (Some tag) None = tt
 next_code bits (Some tag) (Some count) = tt
+
+cost_code : (bits : ℕ) (tag : Option (List ℕ)) → HasCode bits (cost_of tag)
+cost_code bits None = tt
+cost_code bits (Some tag) = tt
+
+plan_code : (bits shards : ℕ) (tag : Option (List ℕ)) (shard : Option ℕ) → HasCode bits (plan_of shards tag shard)
+plan_code bits shards None shard = tt
+plan_code bits shards (Some tag) None = tt
+plan_code bits shards (Some tag) (Some shard) = elim (nat_lt shard shards) as (λ t. HasCode bits (cond t (Ok (Some (Plan tag shard))) (Err (bad 6)))) [ true ↦ tt | false ↦ tt ]
 
 layout_code : (bits shards : ℕ) (shard : Option ℕ) → HasCode bits (layout_of shards shard)
 layout_code bits shards None = tt
@@ -170,12 +233,19 @@ words_code bits shards whole (Some RangeWord) [] = tt
 words_code bits shards whole (Some RangeWord) (tag ∷ []) = tt
 words_code bits shards whole (Some RangeWord) (tag ∷ tau ∷ []) = tt
 words_code bits shards whole (Some RangeWord) (tag ∷ tau ∷ code ∷ []) =
-    range_code bits (tag_of tag) (radius_of bits tau) (code_of bits code) (code_if bits code whole (length code == bits / 4) (list_all (λ byte. nat_lt (digit_value byte) 16) code) refl)
+    range_code bits (tag_of tag) (radius_of bits tau) (code_of bits code) (radius_if bits (digits_value 10 tau) (is_decimal 3 tau) (nat_le 0 (digits_value 10 tau)) (nat_le (digits_value 10 tau) bits) refl) (code_if bits code whole (length code == bits / 4) (list_all (λ byte. nat_lt (digit_value byte) 16) code) refl)
 words_code bits shards whole (Some RangeWord) (tag ∷ tau ∷ code ∷ more ∷ rest) = tt
 words_code bits shards whole (Some NextWord) [] = tt
 words_code bits shards whole (Some NextWord) (tag ∷ []) = tt
 words_code bits shards whole (Some NextWord) (tag ∷ count ∷ []) = next_code bits (tag_of tag) (count_of count)
 words_code bits shards whole (Some NextWord) (tag ∷ count ∷ more ∷ rest) = tt
+words_code bits shards whole (Some CostWord) [] = tt
+words_code bits shards whole (Some CostWord) (tag ∷ []) = cost_code bits (tag_of tag)
+words_code bits shards whole (Some CostWord) (tag ∷ more ∷ rest) = tt
+words_code bits shards whole (Some PlanWord) [] = tt
+words_code bits shards whole (Some PlanWord) (tag ∷ []) = tt
+words_code bits shards whole (Some PlanWord) (tag ∷ shard ∷ []) = plan_code bits shards (tag_of tag) (shard_of shard)
+words_code bits shards whole (Some PlanWord) (tag ∷ shard ∷ more ∷ rest) = tt
 words_code bits shards whole (Some LayoutWord) [] = tt
 words_code bits shards whole (Some LayoutWord) (shard ∷ []) = layout_code bits shards (shard_of shard)
 words_code bits shards whole (Some LayoutWord) (shard ∷ more ∷ rest) = tt

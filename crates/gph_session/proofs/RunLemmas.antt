@@ -3,7 +3,7 @@ use Rattle.std.proofs.Common.{◌≡◌, ℕ, Bool, true, false, cond, List, [],
 use Rattle.std.proofs.lemmas.List.Concat.{flat_map-append}
 use Rattle.hamming_model.specs.History.{JournalEntry}
 use Rattle.part_layout.specs.declared.config.Config.{Config}
-use Rattle.query_protocol.specs.Requests.{LineRequest, Add, Range, Next, Layout, Quit, reading}
+use Rattle.query_protocol.specs.Requests.{LineRequest, Add, Range, Next, Cost, Plan, Layout, Quit, reading}
 use Rattle.query_protocol.specs.Replies.{text}
 use Rattle.query_protocol.specs.declared.bad.Bad.{Bad}
 use Rattle.query_protocol.specs.declared.reply.Reply.{Reply}
@@ -52,6 +52,8 @@ not_quit (Ok None) config history s replies at t h = refl
 not_quit (Ok (Some (Add key code))) config history s replies at t h = refl
 not_quit (Ok (Some (Range tag tau code))) config history s replies at t h = refl
 not_quit (Ok (Some (Next tag count))) config history s replies at t h = refl
+not_quit (Ok (Some (Cost tag))) config history s replies at t h = refl
+not_quit (Ok (Some (Plan tag shard))) config history s replies at t h = refl
 not_quit (Ok (Some (Layout shard))) config history s replies at t h = refl
 not_quit (Ok (Some Quit)) config history s replies at t h = absurd h
 

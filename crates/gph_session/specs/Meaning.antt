@@ -1,105 +1,95 @@
 -- How the session's fields mean a state. No public clause cites this module.
-use Rattle.std.specs.Prelude.{◌≡◌, ◌≢◌, ℕ, ◌+◌, ◌*◌, ◌<◌, ◌≤◌, ◌⊎◌, Bool, true, false, List, length, take, Option, Some, None, is_some, Result, Ok, Err}
-use Rattle.std.specs.Ordering.{nat_cmp}
-use Rattle.std.specs.BTreeMap.{insert_entry}
-use Rattle.slab.specs.Slab.{Slab, get, slab_len, Updates}
-use Rattle.read_meter.specs.declared.NoMemory.{NoMemory}
-use Rattle.hamming_model.specs.Stored.{stored_rows, AreCodeRows}
-use Rattle.hamming_model.specs.History.{JournalEntry, code_at, rows_of}
-use Rattle.hamming_model.specs.Scan.{scan, answer}
+use Rattle.std.specs.Prelude.{◌≡◌, ℕ, ◌≤◌, true, List, [], ◌∷◌, length, take}
+use Rattle.hamming_model.specs.Stored.{AreCodes}
+use Rattle.hamming_model.specs.Codes.{StandsFor}
+use Rattle.hamming_model.specs.History.{JournalEntry, rows_of}
+use Rattle.hamming_model.specs.Scan.{Ask}
+use Rattle.hamming_model.specs.Scan as ask
+use Rattle.hit_source.specs.Sources.{Asked, IsLawful}
+use Rattle.shard_version.specs.Contents.{Contents}
+use Rattle.shard_query.specs.Opening.{AsksRange}
 use Rattle.part_layout.specs.declared.config.Config.{Config}
 use Rattle.part_layout.specs.Laid.{Laid}
-use Rattle.part_layout.specs.Contiguous.{contiguous}
 use Rattle.gph_codes.specs.Allowed.{IsAllowed}
-use Rattle.query_protocol.specs.Requests.{bad}
-use Rattle.query_protocol.specs.declared.reply.Reply.{Reply}
-use Rattle.query_protocol.specs.declared.reply.Reply.TheVariants as reply
+use Rattle.query_protocol.specs.declared.request.Request.{Request}
+use Rattle.query_protocol.specs.declared.request.Request.TheVariants as kept
 use Rattle.gph_session.specs.declared.open_query.OpenQuery.{OpenQuery}
 use Rattle.gph_session.specs.State.{Query, State}
-use Rattle.gph_session.specs.Step.{most_open}
+use Rattle.gph_session.specs.Ledger.{layout_of, IsBound}
+use Rattle.gph_session.specs.Held.{asked_of, standing_of}
+use Rattle.gph_session.specs.Changing.{own_code}
 
--- adding a row: what it answers and leaves
-abbrev pub PutsRow : List (ℕ × List ℕ) → ℕ → List ℕ → Result Bool NoMemory → List (ℕ × List ℕ) → Type 0
-PutsRow old key code (Ok true) new = (code_at old key ≡ None) × (new ≡ insert_entry nat_cmp old key code)
-PutsRow old key code (Ok false) new = (is_some (code_at old key) ≡ true) × (new ≡ old)
-PutsRow old key code (Err refusal) new = new ≡ old
+-- the layout of a session's versions
+abbrev pub laid_of : Config → Laid
+laid_of config = record { bits = config.bits; parts = layout_of config }
 
--- the reply to an add, and the rows that it leaves
-abbrev pub AddsAs : List (ℕ × List ℕ) → ℕ → List ℕ → Reply → List (ℕ × List ℕ) → Type 0
-AddsAs old key code (reply.Added added at) new =
-    (added ≡ key) × (code_at old key ≡ None) × (new ≡ insert_entry nat_cmp old key code) × (at ≡ length new)
-AddsAs old key code (reply.Taken taken at) new =
-    (taken ≡ key) × (is_some (code_at old key) ≡ true) × (new ≡ old) × (at ≡ length old)
-AddsAs old key code reply.NoMemory new = new ≡ old
-AddsAs old key code other new = ⊥
+-- the one shard of a session after a history
+abbrev pub contents_of : Config → List JournalEntry → Contents
+contents_of config history =
+    record { shard = 0; shards = 1; at = length history; layout = laid_of config; rows = rows_of history }
 
--- no query has the tag
-abbrev pub IsFree : Slab OpenQuery → List ℕ → Type 0
-IsFree queries tag = (place : ℕ) (held : OpenQuery) → get queries place ≡ Some held → held.tag ≢ tag
-
--- the query of the tag stands at a place
-pub record StandsAt (queries : Slab OpenQuery) (tag : List ℕ) (place : ℕ) : Type 0 where
-  pub held : OpenQuery
-  pub is_there : get queries place ≡ Some held
-  pub has_tag : held.tag ≡ tag
-
--- a query was put at a place that was empty
-pub record PutsAt (old new : Slab OpenQuery) (held : OpenQuery) : Type 0 where
-  pub place : ℕ
-  pub was_empty : get old place ≡ None
-  pub updates : Updates old new place (Some held)
-  pub one_more : slab_len new ≡ slab_len old + 1
-
--- a query of a tag was put there with its whole answer, of which nothing was given
-pub record PutsQuery (old new : Slab OpenQuery) (tag : List ℕ) (rows : List (ℕ × List ℕ)) (tau : ℕ) (code : List ℕ) : Type 0 where
-  pub held : OpenQuery
-  pub puts : PutsAt old new held
-  pub has_tag : held.tag ≡ tag
-  pub hits_are : held.hits.items ≡ scan rows code tau
-  pub none_given : held.given ≡ 0
-
--- the reply to an opening, and the queries that it leaves
-abbrev pub OpensAs : List (ℕ × List ℕ) → Slab OpenQuery → List ℕ → ℕ → List ℕ → Reply → Slab OpenQuery → Type 0
-OpensAs rows old tag tau code (reply.Bad fault) new =
-    (new.slots ≡ old.slots) × (((fault ≡ bad 7) × (place : ℕ) × StandsAt old tag place) ⊎ ((fault ≡ bad 9) × IsFree old tag × (most_open ≤ slab_len old)))
-OpensAs rows old tag tau code reply.NoMemory new = (new.slots ≡ old.slots) × IsFree old tag × (slab_len old < most_open)
-OpensAs rows old tag tau code (reply.Open opened at) new =
-    (opened ≡ tag) × (at ≡ length rows) × IsFree old tag × (slab_len old < most_open) × PutsQuery old new tag rows tau code
-OpensAs rows old tag tau code other new = ⊥
+-- what a source is asked is this question on the rows of a history
+abbrev pub AsksOn : Ask → Config → List JournalEntry → Asked → Type 0
+AsksOn (ask.Range tau code) config history asked = AsksRange (contents_of config history) code tau config.room asked
+AsksOn (ask.Near number code) config history asked = ⊥
 
 -- a query in memory is this one of the state, in a history
-pub record Keeps (bits : ℕ) (history : List JournalEntry) (held : OpenQuery) (query : Query) : Type 0 where
+pub record Keeps {W : ℕ} (config : Config) (history : List JournalEntry) (held : OpenQuery W) (query : Query) : Type 0 where
+  pub tag : held.tag ≡ query.tag
   pub within : query.position ≤ length history
-  pub hits_are : held.hits.items ≡ answer bits (rows_of (take query.position history)) query.ask
-  pub given_is : held.given ≡ query.given
-  pub given_within : held.given ≤ length held.hits.items
+  pub asks : AsksOn query.ask config (take query.position history) (asked_of held)
+  pub few : length (asked_of held).hits ≤ 1048576
+  pub given : held.given ≡ query.given
+  pub counted : held.given ≡ (standing_of held).given
+  pub done : held.done ≡ query.done
+  pub lawful : IsLawful (asked_of held) (standing_of held)
+  pub ended : query.done ≡ true → (standing_of held).ended ≡ true
+  pub told : query.told_reads ≤ (standing_of held).reads
+  pub told_done : query.told_all ≡ true → query.done ≡ true
+  pub told_all : query.told_all ≡ true → (standing_of held).reads ≡ query.told_reads
 
--- the open query of a tag, in memory and in the state
-abbrev pub FoundAs : ℕ → List JournalEntry → Slab OpenQuery → List ℕ → Option Query → Type 0
-FoundAs bits history queries tag None = IsFree queries tag
-FoundAs bits history queries tag (Some query) =
-    (place : ℕ) × (found : StandsAt queries tag place) × Keeps bits history found.held query
+-- a query in memory has read what the state's query may have read
+pub record HasRead {W : ℕ} (config : Config) (history : List JournalEntry) (held : OpenQuery W) (query : Query) : Type 0 where
+  pub bound : ℕ
+  pub is_bound : IsBound config history query bound
+  pub within : (standing_of held).reads ≤ bound
+  pub told : query.told_reads ≤ (standing_of held).reads
+  pub told_all : query.told_all ≡ true → (standing_of held).reads ≡ query.told_reads
 
--- the queries in memory are those of the state, each tag at one place
-pub record HoldsQueries (bits : ℕ) (history : List JournalEntry) (queries : Slab OpenQuery) (s : State) : Type 0 where
-  pub found : (tag : List ℕ) → FoundAs bits history queries tag (s.query tag)
-  pub alone : (j k : ℕ) (x y : OpenQuery) → get queries j ≡ Some x → get queries k ≡ Some y → x.tag ≡ y.tag → j ≡ k
-  pub count : s.open_count ≡ slab_len queries
+-- the queries in memory are those of the state, in their order
+abbrev pub AllKeep : {W : ℕ} → Config → List JournalEntry → List (OpenQuery W) → List Query → Type 0
+AllKeep config history [] [] = Unit {0}
+AllKeep config history [] (query ∷ queries) = ⊥
+AllKeep config history (held ∷ helds) [] = ⊥
+AllKeep config history (held ∷ helds) (query ∷ queries) = Keeps config history held query × AllKeep config history helds queries
 
--- the rows in memory are those of the history, each of whose entries added one
-pub record HoldsRows (W bits : ℕ) (history : List JournalEntry) (rows : List (ℕ × List ℕ)) : Type 0 where
-  pub rows_are : rows ≡ stored_rows (64 * W) (rows_of history)
-  pub number : length (rows_of history) ≡ length history
-  pub codes : AreCodeRows bits (rows_of history)
+-- the queries in memory have read what those of the state may have read
+abbrev pub AllRead : {W : ℕ} → Config → List JournalEntry → List (OpenQuery W) → List Query → Type 0
+AllRead config history [] [] = Unit {0}
+AllRead config history [] (query ∷ queries) = ⊥
+AllRead config history (held ∷ helds) [] = ⊥
+AllRead config history (held ∷ helds) (query ∷ queries) = HasRead config history held query × AllRead config history helds queries
 
 -- the fields mean a state of a session that is alone, in the history so far
-pub record Means (W bits : ℕ) (rows : List (ℕ × List ℕ)) (queries : Slab OpenQuery) (history : List JournalEntry) (s : State) : Type 0 where
-  pub rows_hold : HoldsRows W bits history rows
-  pub queries_hold : HoldsQueries bits history queries s
+pub record Means (W : ℕ) (config : Config) (version : Contents) (queries : List (OpenQuery W)) (history : List JournalEntry) (s : State) : Type 0 where
+  pub version_is : version ≡ contents_of config history
+  pub codes : AreCodes config.bits history
+  pub keep : AllKeep config history queries s.queries
   pub position : s.position ≡ length history
   pub who : s.who ≡ 0
 
--- what a session was asked to be fits its words, and its layout is the contiguous one
-pub record IsReady (W : ℕ) (config : Config) (layout : Laid) : Type 0 where
+-- a request's code stands for one of so many bits, and its radius is at most that
+abbrev pub IsFit : (W bits : ℕ) → Request W → Type 0
+IsFit W bits (kept.Add key stored) = StandsFor W bits stored (own_code bits stored)
+IsFit W bits (kept.Range tag tau stored) = StandsFor W bits stored (own_code bits stored) × (tau ≤ bits)
+IsFit W bits other = Unit {0}
+
+-- what a session was asked to be fits its words, and its version has the one shard's layout
+pub record IsReady (W : ℕ) (config : Config) (version : Contents) : Type 0 where
   pub allowed : IsAllowed W config.bits
-  pub laid : layout.parts ≡ contiguous config.bits config.parts
+  pub some_room : 1 ≤ config.room
+  pub small_room : config.room ≤ 256
+  pub few_entries : config.entries ≤ 1048576
+  pub one_shard : version.shards ≡ 1
+  pub laid : version.layout ≡ laid_of config
+  pub few_parts : length (layout_of config) ≤ 64

@@ -1,5 +1,5 @@
 -- A whole session: its steps in one history, and what is written.
-use Rattle.std.specs.Prelude.{◌≡◌, ℕ, Bool, true, false, if◌then◌else◌, List, [], ◌∷◌, ◌++◌, length, map, Option, Some, Result, Ok}
+use Rattle.std.specs.Prelude.{◌≡◌, ℕ, ◌<◌, Bool, true, false, if◌then◌else◌, List, [], ◌∷◌, ◌++◌, length, map, take, Option, Some, Result, Ok}
 use Rattle.std.specs.List.{flat_map}
 use Rattle.hamming_model.specs.History.{JournalEntry}
 use Rattle.hamming_model.specs.History as journal
@@ -9,6 +9,7 @@ use Rattle.query_protocol.specs.Replies.{text}
 use Rattle.query_protocol.specs.declared.bad.Bad.{Bad}
 use Rattle.query_protocol.specs.declared.reply.Reply.{Reply}
 use Rattle.query_protocol.specs.declared.reply.Reply.TheVariants as reply
+use Rattle.gph_session.specs.Ledger.{IsRise}
 use Rattle.gph_session.specs.State.{State, new_session}
 use Rattle.gph_session.specs.Step.{Exchange, Step}
 
@@ -47,12 +48,26 @@ pub record IsSolo (config : Config) (exchanges : List Exchange) : Type 0 where
   pub run : Run config (commits config exchanges) (new_session 0 0) exchanges last
   pub alone : AreAlone config [] exchanges
 
--- a session alone answers these lines by these bytes
-pub record AnswersLines (config : Config) (lines : List (List ℕ)) (bytes : List ℕ) : Type 0 where
+-- a session alone answers these lines by these bytes, and its queries read so many postings
+pub record AnswersLines (config : Config) (lines : List (List ℕ)) (bytes : List ℕ) (rise : ℕ) : Type 0 where
   pub exchanges : List Exchange
   pub solo : IsSolo config exchanges
   pub lines_are : map (λ exchange. exchange.line) exchanges ≡ lines
   pub bytes_are : bytes ≡ written exchanges
+  pub ledger : IsRise config (commits config exchanges) solo.last.queries rise
+
+-- the output is the replies to some of the lines in front, and of the replies to the line after them a part, and the queries of
+-- the session that answered these lines read so many postings
+pub record IsRefused (config : Config) (of_lines : List (List ℕ)) (output : List ℕ) (rise : ℕ) : Type 0 where
+  pub answered : List Exchange
+  pub refused : Exchange
+  pub rest : List (List ℕ)
+  pub solo : IsSolo config (answered ++ refused ∷ [])
+  pub lines_are : of_lines ≡ map (λ exchange. exchange.line) answered ++ refused.line ∷ rest
+  pub taken : ℕ
+  pub not_all : taken < length (text refused.replies)
+  pub output_is : output ≡ written answered ++ take taken (text refused.replies)
+  pub ledger : IsRise config (commits config (answered ++ refused ∷ [])) solo.last.queries rise
 
 -- the line ends the session
 abbrev pub asks_quit : Result (Option LineRequest) Bad → Bool

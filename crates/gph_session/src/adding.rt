@@ -1,26 +1,81 @@
 //! `add`.
 
-ghost use Rattle.std.specs.Prelude.{ℕ};
-ghost use Rattle.gph_session.specs.Meaning.{AddsAs};
+ghost use Rattle.std.specs.Prelude.{◌≡◌, ◌*◌, ◌<◌, ◌≤◌, ℕ, IfOk, None};
+ghost use Rattle.std.specs.Arc.{arc_value};
+ghost use Rattle.hamming_model.specs.Codes.{StandsFor};
+ghost use Rattle.hamming_model.specs.History.{code_at};
+ghost use Rattle.shard_version.specs.Contents.{after_entry};
+ghost use Rattle.shard_version.specs.declared.version.TheConstants.{ENTRIES};
+ghost use Rattle.gph_session.specs.Changing.{AddsAs, added_entry, own_code};
 
-use crate::rows::Rows;
+use entry_log::{Decision, Entry, Op, decide};
 use gph_codes::Code;
 use query_protocol::Reply;
 use read_meter::NoMemory;
+use shard_version::Version;
+use std::alloc::Global;
+use std::sync::Arc;
 
-/// Commits an entry that adds a row, and says what came of it.
-pub(crate) fn add<const W: usize>(rows: &mut Rows<W>, key: u64, code: Code<W>) -> Reply
-    ensures { AddsAs rows.old key code.entry result rows.new }
+/// Commits an entry that adds a row, where at most `limit` entries may stand, and says what came of it. The version that was
+/// there before stays as it is for the queries that stand on it.
+pub(crate) fn add<const W: usize>(
+    alloc: Global,
+    version: &mut Arc<Version<W>>,
+    limit: u64,
+    key: u64,
+    code: Code<W>,
+) -> Reply
+    requires few_words { W ≤ 8 }
+    requires few_entries { limit ≤ ENTRIES }
+    requires one_shard { (arc_value version.old).contents.shards ≡ 1 }
+    requires code { StandsFor W (arc_value version.old).contents.layout.bits code (own_code (arc_value version.old).contents.layout.bits code) }
+    ensures { AddsAs W (arc_value version.old).contents limit key code.entry result (arc_value version.new).contents }
 {
-    match rows.add(key, code) {
-        Ok(true) => Reply::Added {
-            key,
-            at: rows.number(),
+    let op = Op::Add { key, code };
+    match decide(&op, version.has_key(key), version.at(), limit) {
+        Decision::Added => match added_to(alloc, version, key, code) {
+            Ok(next) => {
+                let at = next.at();
+                *version = next;
+                Reply::Added { key, at }
+            }
+            Err(NoMemory) => Reply::NoMemory,
         },
-        Ok(false) => Reply::Taken {
+        Decision::Taken => Reply::Taken {
             key,
-            at: rows.number(),
+            at: version.at(),
         },
-        Err(NoMemory) => Reply::NoMemory,
+        Decision::Full => Reply::Full { at: version.at() },
+        // An operation that adds is never decided so.
+        Decision::Deleted | Decision::Absent => unreachable!(),
+    }
+}
+
+// A version with one row more.
+fn added_to<const W: usize>(
+    alloc: Global,
+    version: &Version<W>,
+    key: u64,
+    code: Code<W>,
+) -> Result<Arc<Version<W>>, NoMemory>
+    requires few_words { W ≤ 8 }
+    requires room { version.now.contents.at < ENTRIES }
+    requires code { StandsFor W version.now.contents.layout.bits code (own_code version.now.contents.layout.bits code) }
+    requires absent { code_at version.now.contents.rows key ≡ None }
+    ensures { IfOk result (λ next. (arc_value next).contents ≡ after_entry version.now.contents (added_entry version.now.contents.layout.bits key code.entry)) }
+{
+    let entry = Entry {
+        who: 0,
+        op: Op::Add { key, code },
+    };
+    let Ok(copy) = version.copy() else {
+        return Err(NoMemory);
+    };
+    let Ok(next) = copy.apply(&entry) else {
+        return Err(NoMemory);
+    };
+    match Arc::new(alloc, next) {
+        Ok(next) => Ok(next),
+        Err(_) => Err(NoMemory),
     }
 }

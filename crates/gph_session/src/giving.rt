@@ -1,95 +1,112 @@
 //! `next`.
 
-ghost use Rattle.std.specs.Prelude.{◌≡◌, ℕ, ◌+◌, ◌≤◌, min, nat_lt, if◌then◌else◌, length, OnOk, IfOk};
-ghost use Rattle.query_protocol.specs.Replies.{text};
-ghost use Rattle.gph_session.specs.Step.{next_replies, hit_replies};
-ghost use Rattle.gph_session.specs.Flow.{Writes, IsCaused, GivesAs};
+ghost use Rattle.std.specs.Prelude.{◌≡◌, IfOk};
+ghost use Rattle.gph_session.specs.GivenHits.{FillsUp, GivesHits, GivesQuery, GivesAs};
+ghost use Rattle.gph_session.specs.Writing.{IsCaused};
 
 use crate::open_query::{OpenQuery, place_of};
 use crate::output::{say, write_all};
 use crate::session::Turn;
-use hamming_model::Hit;
+use hit_source::{HitSource, Polled};
 use line_io::{Failed, LineBuf, Sink};
 use query_protocol::{Bad, Reply, Tag, write_hit};
-use slab::Slab;
+use read_meter::Steps;
+
+/// How many units of work a source does at most in one poll.
+const BUDGET: u32 = 4096;
 
 /// Gives the next hits of the query of a tag, at most `count`, and says whether its answer has more.
-pub(crate) fn give<K: Sink>(
-    queries: &mut Slab<OpenQuery>,
+pub(crate) fn give<const W: usize, K: Sink, L>(
+    queries: &mut Vec<OpenQuery<W>>,
     tag: &Tag,
     count: u32,
     out: &mut LineBuf,
     sink: &mut K,
+    steps: &mut Steps<L>,
 ) -> Result<Turn, Failed>
-    ensures gives { GivesAs queries.old tag.now count (K.held sink.old) (K.held sink.new) result queries.new }
-    ensures cause { IsCaused (K.faults sink.old) (K.faults sink.new) result }
-{
-    match place_of(queries, tag) {
-        None => say(out, sink, &Reply::Bad(Bad { number: 8, word: 0 })),
-        Some(place) => match queries.get_mut(place) {
-            None => unreachable!(),
-            Some(query) => give_hits(tag, &query.hits, &mut query.given, count, out, sink),
-        },
-    }
-}
-
-// Gives the next hits of an answer, and its end or that there are more.
-fn give_hits<K: Sink>(
-    tag: &Tag,
-    hits: &[Hit],
-    given: &mut usize,
-    count: u32,
-    out: &mut LineBuf,
-    sink: &mut K,
-) -> Result<Turn, Failed>
-    ensures written { given.old ≤ length hits.now →
-        Writes (K.held sink.old) (K.held sink.new) result (text (next_replies tag.now count given.old hits.now)) }
-    ensures given { given.old ≤ length hits.now → OnOk result (given.new ≡ min (given.old + count) (length hits.now)) }
+    ensures gives { GivesAs queries.old.items tag.now count (K.held sink.old) (K.held sink.new) steps.old steps.new result queries.new.items }
     ensures cause { IsCaused (K.faults sink.old) (K.faults sink.new) result }
     ensures goes { IfOk result (λ turn. turn ≡ Turn.Goes) }
 {
-    let start = (*given).min(hits.len());
-    let end = start + (hits.len() - start).min(count as usize);
-    match give_each(tag, &hits[start..end], out, sink) {
+    match place_of(queries, tag) {
+        None => say(out, sink, &Reply::Bad(Bad { number: 8, word: 0 })),
+        Some(place) => give_query(&mut queries[place], tag, count, out, sink, steps),
+    }
+}
+
+// Gives the next hits of a query, and its end or that there are more.
+fn give_query<const W: usize, K: Sink, L>(
+    query: &mut OpenQuery<W>,
+    tag: &Tag,
+    count: u32,
+    out: &mut LineBuf,
+    sink: &mut K,
+    steps: &mut Steps<L>,
+) -> Result<Turn, Failed>
+    ensures gives { GivesQuery tag.now count query.old query.new (K.held sink.old) (K.held sink.new) steps.old steps.new result }
+    ensures cause { IsCaused (K.faults sink.old) (K.faults sink.new) result }
+    ensures goes { IfOk result (λ turn. turn ≡ Turn.Goes) }
+{
+    match give_hits(&mut query.task, tag, count, out, sink, steps) {
         Err(Failed) => Err(Failed),
-        Ok(()) => {
-            *given = end;
-            say(out, sink, &end_of(tag, end, hits.len()))
+        Ok(given) => {
+            query.given = query.given.saturating_add(u64::from(given));
+            if query.task.head().is_some() {
+                return say(out, sink, &Reply::More { tag: *tag });
+            }
+            query.done = true;
+            say(
+                out,
+                sink,
+                &Reply::Done {
+                    tag: *tag,
+                    count: query.given,
+                },
+            )
         }
     }
 }
 
-// Gives each of these hits.
-fn give_each<K: Sink>(
+// Gives the next hits of a source, at most `count`, and tells how many it gave.
+fn give_hits<H: HitSource, K: Sink, L>(
+    source: &mut H,
     tag: &Tag,
-    hits: &[Hit],
+    count: u32,
     out: &mut LineBuf,
     sink: &mut K,
-) -> Result<(), Failed>
-    ensures written { Writes (K.held sink.old) (K.held sink.new) result (text (hit_replies tag.now hits.now)) }
+    steps: &mut Steps<L>,
+) -> Result<u32, Failed>
+    ensures gives { GivesHits (H.asked source.old) tag.now count (H.standing source.old) (H.standing source.new)
+        (K.held sink.old) (K.held sink.new) steps.old steps.new result }
+    ensures asked { H.asked source.new ≡ H.asked source.old }
     ensures cause { IsCaused (K.faults sink.old) (K.faults sink.new) result }
 {
-    for hit in hits {
+    let mut given: u32 = 0;
+    fill(source, steps);
+    while given < count {
+        let Some(hit) = source.pop() else {
+            return Ok(given);
+        };
         out.clear();
         write_hit(tag, hit.dist, hit.key, out);
         match write_all(sink, out.bytes()) {
-            Ok(()) => {}
+            Ok(()) => given += 1,
             Err(Failed) => return Err(Failed),
         }
+        fill(source, steps);
     }
-    Ok(())
+    Ok(given)
 }
 
-// Whether an answer of so many hits has more than were given.
-fn end_of(tag: &Tag, given: usize, number: usize) -> Reply
-    ensures { result ≡ (if nat_lt given number then Reply.More tag.now else Reply.Done tag.now number) }
+// Polls a source until a hit waits or it has ended.
+fn fill<H: HitSource, L>(source: &mut H, steps: &mut Steps<L>)
+    ensures fills { FillsUp (H.asked source.old) (H.standing source.old) (H.standing source.new) steps.old steps.new }
+    ensures asked { H.asked source.new ≡ H.asked source.old }
 {
-    if given < number {
-        Reply::More { tag: *tag }
-    } else {
-        Reply::Done {
-            tag: *tag,
-            count: number as u64,
+    while source.head().is_none() {
+        match source.poll(BUDGET, steps) {
+            Polled::Moved => {}
+            Polled::Full | Polled::Ended => return,
         }
     }
 }

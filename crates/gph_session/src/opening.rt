@@ -1,27 +1,35 @@
 //! `range`.
 
-ghost use Rattle.std.specs.Prelude.{◌≡◌, ℕ, ◌≤◌, OnOk, OnErr};
-ghost use Rattle.gph_session.specs.Meaning.{OpensAs, PutsAt};
+ghost use Rattle.std.specs.Prelude.{◌≡◌, ◌*◌, ◌++◌, ◌≤◌, [], ◌∷◌, ℕ, OnErr, OnOk};
+ghost use Rattle.std.specs.Arc.{arc_value};
+ghost use Rattle.hamming_model.specs.Codes.{StandsFor};
+ghost use Rattle.gph_session.specs.Changing.{OpensAs, own_code};
 
 use crate::open_query::{MOST_OPEN, OpenQuery, place_of};
-use crate::rows::Rows;
 use gph_codes::Code;
 use query_protocol::{Bad, Reply, Tag};
 use read_meter::NoMemory;
-use slab::Slab;
+use shard_query::RangeTask;
+use shard_version::Version;
 use std::alloc::Global;
+use std::sync::Arc;
 
-/// Opens a query for all codes at most `tau` away, with its whole answer, and says what came of it.
+/// Opens a query for all codes of a version at most `tau` away, of whose hits `room` may wait, and says what came of it.
 pub(crate) fn open<const W: usize>(
     alloc: Global,
-    rows: &Rows<W>,
-    queries: &mut Slab<OpenQuery>,
+    version: &Arc<Version<W>>,
+    room: u32,
+    queries: &mut Vec<OpenQuery<W>>,
     tag: Tag,
     tau: u32,
-    code: &Code<W>,
+    code: Code<W>,
 ) -> Reply
-    requires { W ≤ 8 }
-    ensures { OpensAs rows.now queries.old tag tau code.now result queries.new }
+    requires few_words { W ≤ 8 }
+    requires code { StandsFor W (arc_value version.now).contents.layout.bits code (own_code (arc_value version.now).contents.layout.bits code) }
+    requires near { tau ≤ (arc_value version.now).contents.layout.bits }
+    requires some_room { 1 ≤ room }
+    requires small_room { room ≤ 256 }
+    ensures { OpensAs (arc_value version.now).contents room queries.old.items tag tau code.entry result queries.new.items }
 {
     if place_of(queries, &tag).is_some() {
         return Reply::Bad(Bad { number: 7, word: 0 });
@@ -29,30 +37,34 @@ pub(crate) fn open<const W: usize>(
     if queries.len() >= MOST_OPEN {
         return Reply::Bad(Bad { number: 9, word: 0 });
     }
-    let Ok(hits) = rows.scan(alloc, code, tau) else {
+    let Ok(pinned) = version.clone() else {
+        return Reply::NoMemory;
+    };
+    let Ok(task) = RangeTask::open(alloc, pinned, code, tau, room as usize) else {
         return Reply::NoMemory;
     };
     let query = OpenQuery {
         tag,
-        hits,
+        task,
         given: 0,
+        done: false,
     };
     match put(queries, query) {
         Ok(()) => Reply::Open {
             tag,
-            at: rows.number(),
+            at: version.at(),
         },
         Err(NoMemory) => Reply::NoMemory,
     }
 }
 
-// Puts a query at a free place.
-fn put(queries: &mut Slab<OpenQuery>, query: OpenQuery) -> Result<(), NoMemory>
-    ensures ok { OnOk result (PutsAt queries.old queries.new query) }
-    ensures err { OnErr result (queries.new.slots ≡ queries.old.slots) }
+// Puts a query after the others.
+fn put<const W: usize>(queries: &mut Vec<OpenQuery<W>>, query: OpenQuery<W>) -> Result<(), NoMemory>
+    ensures ok { OnOk result (queries.new.items ≡ queries.old.items ++ query.entry ∷ []) }
+    ensures err { OnErr result (queries.new.items ≡ queries.old.items) }
 {
-    match queries.insert(query) {
-        Ok(_) => Ok(()),
+    match queries.push(query) {
+        Ok(()) => Ok(()),
         Err(_) => Err(NoMemory),
     }
 }

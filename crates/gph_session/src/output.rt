@@ -2,7 +2,7 @@
 
 ghost use Rattle.std.specs.Prelude.{◌≡◌, ℕ, ◌+◌, ◌≤◌, ◌<◌, length, IfOk};
 ghost use Rattle.query_protocol.specs.Replies.{reply_line};
-ghost use Rattle.gph_session.specs.Flow.{Writes, IsCaused};
+ghost use Rattle.gph_session.specs.Writing.{Writes, IsCaused};
 
 use crate::session::Turn;
 use line_io::{Failed, LineBuf, Sink};

@@ -1,30 +1,32 @@
 //! One session: what it holds, and its answer to one line.
 
-ghost use Rattle.std.specs.Prelude.{◌≡◌, ℕ, ◌*◌, ◌≤◌, List, [], ◌∷◌, IfOk, Some, None, Ok, Err};
-ghost use Rattle.hamming_model.specs.Codes.{padded, IsCode};
+ghost use Rattle.std.specs.Prelude.{◌≡◌, ◌*◌, ◌+◌, ◌≤◌, ℕ, List, [], ◌∷◌, IfOk, IfSome, Some, Ok};
+ghost use Rattle.std.specs.Arc.{arc_value};
 ghost use Rattle.hamming_model.specs.History.{JournalEntry};
 ghost use Rattle.query_protocol.specs.Requests.{reading, stored_reading};
-ghost use Rattle.query_protocol.specs.Requests as asks;
 ghost use Rattle.line_io.specs.Kept.{kept, TellsOf};
 ghost use Rattle.gph_codes.specs.Allowed.{IsAllowed};
-ghost use Rattle.gph_session.specs.State.{State};
-ghost use Rattle.part_layout.specs.Contiguous.{contiguous};
 ghost use Rattle.command_line.specs.CommandWords.{IsConfig};
-ghost use Rattle.gph_session.specs.Meaning.{Means, IsReady};
-ghost use Rattle.gph_session.specs.Flow.{IsCaused, TurnIs};
+ghost use Rattle.gph_session.specs.State.{State};
+ghost use Rattle.gph_session.specs.Held.{reads_of};
+ghost use Rattle.gph_session.specs.Meaning.{Means, IsReady, IsFit, contents_of, laid_of};
+ghost use Rattle.gph_session.specs.Writing.{IsCaused};
+ghost use Rattle.gph_session.specs.Flow.{TurnIs};
 
 use crate::adding::add;
+use crate::costing::cost;
 use crate::giving::give;
 use crate::open_query::{MOST_OPEN, OpenQuery};
 use crate::opening::open;
 use crate::output::say;
-use crate::rows::Rows;
+use crate::planning::plan;
 use line_io::{Cut, Cutter, Failed, LineBuf, Sink};
 use part_layout::{Config, Layout, LayoutFault};
 use query_protocol::{Bad, Reply, Request, read_line};
-use read_meter::NoMemory;
-use slab::Slab;
+use read_meter::{NoMemory, Steps};
+use shard_version::Version;
 use std::alloc::Global;
+use std::sync::Arc;
 
 /// Whether a session goes on after a line.
 #[derive(Clone, Copy, Debug, PartialEq, Eq)]
@@ -37,10 +39,9 @@ pub(crate) enum Turn {
 #[derive(Drop)]
 pub(crate) struct Session<const W: usize> {
     pub(crate) config: Config,
-    pub(crate) layout: Layout,
     pub(crate) alloc: Global,
-    pub(crate) rows: Rows<W>,
-    pub(crate) queries: Slab<OpenQuery>,
+    pub(crate) version: Arc<Version<W>>,
+    pub(crate) queries: Vec<OpenQuery<W>>,
     pub(crate) cutter: Cutter,
     pub(crate) out: LineBuf,
 }
@@ -50,31 +51,28 @@ pub(crate) fn new_session<const W: usize>(
     alloc: Global,
     config: &Config,
 ) -> Result<Session<W>, NoMemory>
-    requires { IsConfig config.now }
+    requires few_words { W ≤ 8 }
+    requires room { config.now.bits ≤ 64 * W }
+    requires config { IsConfig config.now }
     ensures config { IfOk result (λ session. session.config ≡ config.now) }
-    ensures layout { IfOk result (λ session. session.layout.parts ≡ contiguous config.now.bits config.now.parts) }
-    ensures rows { IfOk result (λ session. session.rows ≡ []) }
-    ensures queries { IfOk result (λ session. session.queries.slots ≡ []) }
+    ensures version { IfOk result (λ session. (arc_value session.version).contents ≡ contents_of config.now []) }
+    ensures queries { IfOk result (λ session. session.queries.items ≡ []) }
     ensures cutter { IfOk result (λ session. session.cutter.held ≡ kept []) }
 {
-    let layout = match starting_layout(alloc, config) {
-        Ok(layout) => layout,
-        Err(NoMemory) => return Err(NoMemory),
+    let Ok(version) = first_version(alloc, config) else {
+        return Err(NoMemory);
     };
-    let cutter = match Cutter::new(alloc) {
-        Ok(cutter) => cutter,
-        Err(NoMemory) => return Err(NoMemory),
+    let Ok(cutter) = Cutter::new(alloc) else {
+        return Err(NoMemory);
     };
-    let out = match LineBuf::new(alloc) {
-        Ok(out) => out,
-        Err(NoMemory) => return Err(NoMemory),
+    let Ok(out) = LineBuf::new(alloc) else {
+        return Err(NoMemory);
     };
-    match Slab::with_capacity(alloc, MOST_OPEN) {
+    match Vec::with_capacity(alloc, MOST_OPEN) {
         Ok(queries) => Ok(Session {
             config: *config,
-            layout,
             alloc,
-            rows: Rows::new(alloc),
+            version,
             queries,
             cutter,
             out,
@@ -83,10 +81,35 @@ pub(crate) fn new_session<const W: usize>(
     }
 }
 
+// The version before the first entry, with the contiguous layout.
+fn first_version<const W: usize>(
+    alloc: Global,
+    config: &Config,
+) -> Result<Arc<Version<W>>, NoMemory>
+    requires few_words { W ≤ 8 }
+    requires room { config.now.bits ≤ 64 * W }
+    requires config { IsConfig config.now }
+    ensures { IfOk result (λ version. (arc_value version).contents ≡ contents_of config.now []) }
+{
+    let Ok(layout) = starting_layout(alloc, config) else {
+        return Err(NoMemory);
+    };
+    let Ok(layout) = Arc::new(alloc, layout) else {
+        return Err(NoMemory);
+    };
+    let Ok(version) = Version::empty(alloc, 0, 1, layout) else {
+        return Err(NoMemory);
+    };
+    match Arc::new(alloc, version) {
+        Ok(version) => Ok(version),
+        Err(_) => Err(NoMemory),
+    }
+}
+
 // The contiguous layout. What a session may be asked can be cut so, and only memory may be wanting.
 fn starting_layout(alloc: Global, config: &Config) -> Result<Layout, NoMemory>
     requires { IsConfig config.now }
-    ensures { IfOk result (λ layout. layout.parts ≡ contiguous config.now.bits config.now.parts) }
+    ensures { IfOk result (λ layout. layout ≡ laid_of config.now) }
 {
     match Layout::contiguous(alloc, config.bits, config.parts) {
         Ok(layout) => Ok(layout),
@@ -96,20 +119,22 @@ fn starting_layout(alloc: Global, config: &Config) -> Result<Layout, NoMemory>
 }
 
 /// Answers the line that was cut last, unless it ends the session.
-pub(crate) fn answer<const W: usize, K: Sink>(
+pub(crate) fn answer<const W: usize, K: Sink, L>(
     session: &mut Session<W>,
     cut: Cut,
     sink: &mut K,
+    steps: &mut Steps<L>,
 ) -> Result<Turn, Failed>
     requires few_words { W ≤ 8 }
-    requires ready { IsReady W session.old.config session.old.layout }
+    requires ready { IsReady W session.old.config (arc_value session.old.version).contents }
     ensures answers { (history : List JournalEntry) (s : State) →
-        Means W session.old.config.bits session.old.rows session.old.queries history s →
+        Means W session.old.config (arc_value session.old.version).contents session.old.queries.items history s →
         (line : List ℕ) → TellsOf (Some cut) session.old.cutter.line (line ∷ []) →
-        TurnIs result W session.old.config history s line (K.held sink.old) (K.held sink.new) session.new.rows session.new.queries }
+        TurnIs result W session.old.config history s line (K.held sink.old) (K.held sink.new) (arc_value session.new.version).contents session.new.queries.items }
     ensures cutter { session.new.cutter ≡ session.old.cutter }
+    ensures ready { IsReady W session.new.config (arc_value session.new.version).contents }
     ensures config { session.new.config ≡ session.old.config }
-    ensures layout { session.new.layout ≡ session.old.layout }
+    ensures ledger { steps.new + reads_of session.old.queries.items ≡ steps.old + reads_of session.new.queries.items }
     ensures cause { IsCaused (K.faults sink.old) (K.faults sink.new) result }
 {
     match read_cut(
@@ -120,40 +145,45 @@ pub(crate) fn answer<const W: usize, K: Sink>(
     ) {
         Err(fault) => say(&mut session.out, sink, &Reply::Bad(fault)),
         Ok(None) => Ok(Turn::Goes),
-        Ok(Some(request)) => meet(session, request, sink),
+        Ok(Some(request)) => meet(session, request, sink, steps),
     }
 }
 
 // Meets a request.
-fn meet<const W: usize, K: Sink>(
+fn meet<const W: usize, K: Sink, L>(
     session: &mut Session<W>,
     request: Request<W>,
     sink: &mut K,
+    steps: &mut Steps<L>,
 ) -> Result<Turn, Failed>
     requires few_words { W ≤ 8 }
-    requires ready { IsReady W session.old.config session.old.layout }
+    requires ready { IsReady W session.old.config (arc_value session.old.version).contents }
+    requires fit { IsFit W session.old.config.bits request }
     ensures answers { (history : List JournalEntry) (s : State) →
-        Means W session.old.config.bits session.old.rows session.old.queries history s →
+        Means W session.old.config (arc_value session.old.version).contents session.old.queries.items history s →
         (line : List ℕ) → Ok (Some request.entry) ≡ stored_reading W (reading session.old.config.bits session.old.config.shards line) →
-        TurnIs result W session.old.config history s line (K.held sink.old) (K.held sink.new) session.new.rows session.new.queries }
+        TurnIs result W session.old.config history s line (K.held sink.old) (K.held sink.new) (arc_value session.new.version).contents session.new.queries.items }
     ensures cutter { session.new.cutter ≡ session.old.cutter }
+    ensures ready { IsReady W session.new.config (arc_value session.new.version).contents }
     ensures config { session.new.config ≡ session.old.config }
-    ensures layout { session.new.layout ≡ session.old.layout }
+    ensures ledger { steps.new + reads_of session.old.queries.items ≡ steps.old + reads_of session.new.queries.items }
     ensures cause { IsCaused (K.faults sink.old) (K.faults sink.new) result }
 {
     match request {
         Request::Add { key, code } => {
-            let reply = add(&mut session.rows, key, code);
+            let limit = session.config.entries;
+            let reply = add(session.alloc, &mut session.version, limit, key, code);
             say(&mut session.out, sink, &reply)
         }
         Request::Range { tag, tau, code } => {
             let reply = open(
                 session.alloc,
-                &session.rows,
+                &session.version,
+                session.config.room,
                 &mut session.queries,
                 tag,
                 tau,
-                &code,
+                code,
             );
             say(&mut session.out, sink, &reply)
         }
@@ -163,15 +193,20 @@ fn meet<const W: usize, K: Sink>(
             count,
             &mut session.out,
             sink,
+            steps,
         ),
-        Request::Layout { shard } => say(
-            &mut session.out,
-            sink,
-            &Reply::Layout {
-                shard,
-                text: session.layout.text(),
-            },
-        ),
+        Request::Cost { tag } => {
+            let reply = cost(&mut session.queries, &tag);
+            say(&mut session.out, sink, &reply)
+        }
+        Request::Plan { tag, shard } => {
+            let reply = plan(&mut session.queries, &tag, shard);
+            say(&mut session.out, sink, &reply)
+        }
+        Request::Layout { shard } => {
+            let text = session.version.layout().text();
+            say(&mut session.out, sink, &Reply::Layout { shard, text })
+        }
         Request::Quit => Ok(Turn::Quits),
     }
 }
@@ -185,7 +220,8 @@ fn read_cut<const W: usize>(
 ) -> Result<Option<Request<W>>, Bad>
     requires few_words { W ≤ 8 }
     requires allowed { IsAllowed W bits }
-    ensures { (line : List ℕ) → TellsOf (Some cut) cutter.now.line (line ∷ []) → result ≡ stored_reading W (reading bits shards line) }
+    ensures reads { (line : List ℕ) → TellsOf (Some cut) cutter.now.line (line ∷ []) → result ≡ stored_reading W (reading bits shards line) }
+    ensures fit { IfOk result (λ asked. IfSome asked (IsFit W bits)) }
 {
     match cut {
         Cut::Line => read_line(bits, shards, cutter.line()),

@@ -3,7 +3,7 @@
 ghost use Rattle.std.specs.Prelude.{◌≡◌, ℕ, ◌↔◌, ◌≤◌, map, string_bytes, Err};
 ghost use Rattle.gph_codes.specs.Allowed.{IsAllowed};
 ghost use Rattle.command_line.specs.CommandWords.{IsConfig, asked};
-ghost use Rattle.gph_session.specs.Outcomes.{Untouched, IsDone, IsReadFault, IsWriteFault, IsInputLimit, EndsAs, ForConfig, IsComplete, IsUnread, ends};
+ghost use Rattle.gph_session.specs.Outcomes.{Untouched, IsDone, IsReadFault, IsWriteFault, IsInputLimit, ServesAs, ForConfig, IsComplete, IsUnread, ends};
 
 use crate::Outcome;
 use crate::serve::{BLOCK, serve};
@@ -12,73 +12,78 @@ use command_line::read_words;
 use gph_codes::for_width;
 use line_io::{Sink, Source};
 use part_layout::Config;
+use read_meter::Meters;
 use std::alloc::Global;
 
 /// Serves one session over `source` and `sink`, as the words ask: `run`, and the options `--bits`, `--parts` and `--input`. Reads
-/// at most 4,096 bytes at a time, answers each whole line of a block before the next read, and offers each reply in one piece.
-pub fn run<S: Source, K: Sink>(
+/// at most 4,096 bytes at a time, answers each whole line of a block before the next read, and offers each reply in one piece. The
+/// first of the ledgers counts the postings that the session's queries read.
+pub fn run<S: Source, K: Sink, L>(
     alloc: Global,
     words: &[String],
     source: &mut S,
     sink: &mut K,
+    meters: &mut Meters<L>,
 ) -> Outcome
     // Words that ask for nothing, and want of memory, are told before the first read.
     ensures usage { (word : ℕ) → (asked (map string_bytes words.now) ≡ Err word) ↔ (result ≡ Outcome.Usage word) }
     ensures unread { IsUnread result → Untouched
         (ends (S.left source.old) (S.faults source.old)) (ends (S.left source.new) (S.faults source.new))
-        (ends (K.held sink.old) (K.faults sink.old)) (ends (K.held sink.new) (K.faults sink.new)) }
-    // What was read and written, by each other outcome, with its cause.
+        (ends (K.held sink.old) (K.faults sink.old)) (ends (K.held sink.new) (K.faults sink.new)) meters.old meters.new }
+    // What was read, written and counted, by each other outcome, with its cause.
     ensures done { result ≡ Outcome.Done → ForConfig IsDone (asked (map string_bytes words.now))
         (ends (S.left source.old) (S.faults source.old)) (ends (S.left source.new) (S.faults source.new))
-        (ends (K.held sink.old) (K.faults sink.old)) (ends (K.held sink.new) (K.faults sink.new)) }
+        (ends (K.held sink.old) (K.faults sink.old)) (ends (K.held sink.new) (K.faults sink.new)) meters.old meters.new }
     ensures read_fault { result ≡ Outcome.ReadFault → ForConfig IsReadFault (asked (map string_bytes words.now))
         (ends (S.left source.old) (S.faults source.old)) (ends (S.left source.new) (S.faults source.new))
-        (ends (K.held sink.old) (K.faults sink.old)) (ends (K.held sink.new) (K.faults sink.new)) }
+        (ends (K.held sink.old) (K.faults sink.old)) (ends (K.held sink.new) (K.faults sink.new)) meters.old meters.new }
     ensures write_fault { result ≡ Outcome.WriteFault → ForConfig IsWriteFault (asked (map string_bytes words.now))
         (ends (S.left source.old) (S.faults source.old)) (ends (S.left source.new) (S.faults source.new))
-        (ends (K.held sink.old) (K.faults sink.old)) (ends (K.held sink.new) (K.faults sink.new)) }
+        (ends (K.held sink.old) (K.faults sink.old)) (ends (K.held sink.new) (K.faults sink.new)) meters.old meters.new }
     ensures input_limit { result ≡ Outcome.InputLimit → ForConfig IsInputLimit (asked (map string_bytes words.now))
         (ends (S.left source.old) (S.faults source.old)) (ends (S.left source.new) (S.faults source.new))
-        (ends (K.held sink.old) (K.faults sink.old)) (ends (K.held sink.new) (K.faults sink.new)) }
+        (ends (K.held sink.old) (K.faults sink.old)) (ends (K.held sink.new) (K.faults sink.new)) meters.old meters.new }
     // No input within the limit is turned away, unless a fault rose or memory lacked.
     ensures complete { IsComplete result (asked (map string_bytes words.now))
         (ends (S.left source.old) (S.faults source.old)) (ends (S.left source.new) (S.faults source.new))
         (ends (K.held sink.old) (K.faults sink.old)) (ends (K.held sink.new) (K.faults sink.new)) }
 {
     match read_words(words) {
-        Ok(config) => serve_any(alloc, &config, source, sink),
+        Ok(config) => serve_any(alloc, &config, source, sink, meters),
         Err(word) => Outcome::Usage { word },
     }
 }
 
 // Serves a session over codes of any allowed number of bits.
-fn serve_any<S: Source, K: Sink>(
+fn serve_any<S: Source, K: Sink, L>(
     alloc: Global,
     config: &Config,
     source: &mut S,
     sink: &mut K,
+    meters: &mut Meters<L>,
 ) -> Outcome
     requires { IsConfig config.now }
-    ensures { EndsAs result config.now
+    ensures { ServesAs result config.now
         (ends (S.left source.old) (S.faults source.old)) (ends (S.left source.new) (S.faults source.new))
-        (ends (K.held sink.old) (K.faults sink.old)) (ends (K.held sink.new) (K.faults sink.new)) }
+        (ends (K.held sink.old) (K.faults sink.old)) (ends (K.held sink.new) (K.faults sink.new)) meters.old meters.new }
 {
-    for_width!(config.bits, serve_width<_, _>, alloc, config, source, sink)
+    for_width!(config.bits, serve_width<_, _, _>, alloc, config, source, sink, meters)
 }
 
 // Serves a session over codes of W words.
-fn serve_width<const W: usize, S: Source, K: Sink>(
+fn serve_width<const W: usize, S: Source, K: Sink, L>(
     alloc: Global,
     config: &Config,
     source: &mut S,
     sink: &mut K,
+    meters: &mut Meters<L>,
 ) -> Outcome
     requires few_words { W ≤ 8 }
     requires allowed { IsAllowed W config.now.bits }
     requires config { IsConfig config.now }
-    ensures { EndsAs result config.now
+    ensures { ServesAs result config.now
         (ends (S.left source.old) (S.faults source.old)) (ends (S.left source.new) (S.faults source.new))
-        (ends (K.held sink.old) (K.faults sink.old)) (ends (K.held sink.new) (K.faults sink.new)) }
+        (ends (K.held sink.old) (K.faults sink.old)) (ends (K.held sink.new) (K.faults sink.new)) meters.old meters.new }
 {
     let Ok(mut session) = new_session::<W>(alloc, config) else {
         return Outcome::NoMemory;
@@ -86,5 +91,11 @@ fn serve_width<const W: usize, S: Source, K: Sink>(
     let Ok(mut block) = Vec::from_elem(alloc, 0u8, BLOCK) else {
         return Outcome::NoMemory;
     };
-    serve(&mut session, block.as_mut_slice(), source, sink)
+    serve(
+        &mut session,
+        block.as_mut_slice(),
+        source,
+        sink,
+        &mut meters.as_mut()[0],
+    )
 }

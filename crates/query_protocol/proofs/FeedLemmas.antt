@@ -1,5 +1,5 @@
 -- No line feed stands within a reply.
-use Rattle.std.proofs.Common.{◌≡◌, ℕ, ◌<◌, ◌^◌, ◌==◌, ◌&&◌, not, nat_le, Bool, true, false, List, [], ◌∷◌, ◌++◌, if◌then◌else◌, length, codes, decimal, refl, subst, arith}
+use Rattle.std.proofs.Common.{◌≡◌, ℕ, suc, ℤ, pos, negsuc, All, ◌<◌, ◌^◌, ◌==◌, ◌&&◌, not, nat_le, Bool, true, false, List, [], ◌∷◌, ◌++◌, if◌then◌else◌, length, codes, decimal, refl, subst, arith}
 use Rattle.std.proofs.lemmas.Bool.Decides.{nat_tests}
 use Rattle.std.proofs.lemmas.Fmt.{digits_decimal}
 use Rattle.std.proofs.lemmas.List.Folds.{list_all-append}
@@ -8,7 +8,7 @@ use Rattle.std.specs.Int.{IsInRange}
 use Rattle.std.specs.List.{list_all}
 use Rattle.std.specs.Str.Parse.{AllDigits}
 use Rattle.query_protocol.specs.Forms.{is_tag, is_letter_or_digit}
-use Rattle.query_protocol.specs.Replies.{has_no_feed, IsWritten, reply_text, fault_text}
+use Rattle.query_protocol.specs.Replies.{has_no_feed, IsWritten, IsSigned64, reply_text, fault_text, threshold_text, thresholds_text}
 use Rattle.query_protocol.specs.declared.bad.Bad.{Bad}
 use Rattle.query_protocol.specs.declared.reply.Reply.{Reply}
 use Rattle.query_protocol.specs.declared.reply.Reply.TheVariants as reply
@@ -77,6 +77,22 @@ four : (a b c d : List ℕ) → has_no_feed a ≡ true → has_no_feed b ≡ tru
 four a b c d first second third fourth =
     no_feed_joined (a ++ b ++ c) d (no_feed_joined (a ++ b) c (no_feed_joined a b first second) third) fourth
 
+-- a threshold
+threshold_no_feed : (threshold : ℤ) → IsSigned64 threshold → has_no_feed (threshold_text threshold) ≡ true
+threshold_no_feed (pos number) small =
+    no_feed_joined (codes " ") (decimal number) refl (number_no_feed number small)
+threshold_no_feed (negsuc number) small =
+    no_feed_joined (codes " -") (decimal (suc number)) refl (number_no_feed (suc number) small)
+
+-- thresholds
+thresholds_no_feed : (thresholds : List ℤ) → All IsSigned64 thresholds → has_no_feed (thresholds_text thresholds) ≡ true
+thresholds_no_feed [] all = refl
+thresholds_no_feed (threshold ∷ others) all =
+    let first : IsSigned64 threshold = all 0 (pos 0) (omega arith) in
+    let rest : All IsSigned64 others = λ at other inside. all (suc at) other (omega arith) in
+    no_feed_joined (threshold_text threshold) (thresholds_text others) (threshold_no_feed threshold first)
+    (thresholds_no_feed others rest)
+
 -- the text of a fault
 fault_no_feed : (fault : Bad) → fault.number < 2 ^ 64 → fault.word < 2 ^ 64 → has_no_feed (fault_text fault) ≡ true
 fault_no_feed fault number word = step (fault.number == 5)
@@ -97,6 +113,7 @@ reply_no_feed (reply.Added key at) is =
     four (codes "added ") (decimal key) (codes " at ") (decimal at) refl (number_no_feed key is.0) refl (number_no_feed at is.1)
 reply_no_feed (reply.Taken key at) is =
     four (codes "taken ") (decimal key) (codes " at ") (decimal at) refl (number_no_feed key is.0) refl (number_no_feed at is.1)
+reply_no_feed (reply.Full at) is = no_feed_joined (codes "full at ") (decimal at) refl (number_no_feed at is)
 reply_no_feed (reply.Open tag at) is =
     four (codes "open ") tag (codes " at ") (decimal at) refl (tag_no_feed tag is.0) refl (number_no_feed at is.1)
 reply_no_feed (reply.Hit tag dist key) is =
@@ -107,6 +124,17 @@ reply_no_feed (reply.Hit tag dist key) is =
 reply_no_feed (reply.More tag) is = no_feed_joined (codes "more ") tag refl (tag_no_feed tag is)
 reply_no_feed (reply.Done tag count) is =
     four (codes "done ") tag (codes " ") (decimal count) refl (tag_no_feed tag is.0) refl (number_no_feed count is.1)
+reply_no_feed (reply.Cost tag reads bound) is =
+    no_feed_joined (codes "cost " ++ tag ++ codes " reads " ++ decimal reads ++ codes " bound ") (decimal bound)
+    (no_feed_joined (codes "cost " ++ tag ++ codes " reads " ++ decimal reads) (codes " bound ")
+    (four (codes "cost ") tag (codes " reads ") (decimal reads) refl (tag_no_feed tag is.0) refl (number_no_feed reads is.1)) refl)
+    (number_no_feed bound is.2)
+reply_no_feed (reply.Plan tag shard cost thresholds) is =
+    no_feed_joined (codes "plan " ++ tag ++ codes " " ++ decimal shard ++ codes " cost " ++ decimal cost) (thresholds_text thresholds)
+    (no_feed_joined (codes "plan " ++ tag ++ codes " " ++ decimal shard ++ codes " cost ") (decimal cost)
+    (no_feed_joined (codes "plan " ++ tag ++ codes " " ++ decimal shard) (codes " cost ")
+    (four (codes "plan ") tag (codes " ") (decimal shard) refl (tag_no_feed tag is.0) refl (number_no_feed shard is.1)) refl)
+    (number_no_feed cost is.2)) (thresholds_no_feed thresholds is.3)
 reply_no_feed (reply.Layout shard text) is =
     four (codes "layout ") (decimal shard) (codes " ") text refl (number_no_feed shard is.0) refl is.1
 reply_no_feed (reply.Bad fault) is = fault_no_feed fault is.0 is.1

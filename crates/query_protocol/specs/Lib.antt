@@ -1,4 +1,5 @@
 pub mod TagLayout
+pub mod ThresholdLayout
 pub mod Words
 pub mod Forms
 pub mod Requests

@@ -1,5 +1,6 @@
 -- The text of replies: a line each.
-use Rattle.std.specs.Prelude.{◌≡◌, ℕ, ◌<◌, ◌^◌, ◌==◌, not, Bool, true, if◌then◌else◌, List, [], ◌∷◌, ◌++◌, codes, decimal}
+use Rattle.std.specs.Prelude.{◌≡◌, ℕ, ◌<◌, ◌^◌, ◌==◌, not, Bool, true, if◌then◌else◌, List, [], ◌∷◌, ◌++◌, All, ℤ, pos, negsuc, suc, codes, decimal}
+use Rattle.std.specs.Fmt.{signed_decimal}
 use Rattle.std.specs.List.{flat_map, list_all}
 use Rattle.query_protocol.specs.Forms.{is_tag}
 use Rattle.query_protocol.specs.declared.bad.Bad.{Bad}
@@ -11,14 +12,27 @@ abbrev pub fault_text : Bad → List ℕ
 fault_text fault =
     codes "bad " ++ decimal fault.number ++ (if fault.number == 5 then codes " " ++ decimal fault.word else [])
 
+-- the text of a threshold, with the space before it
+abbrev pub threshold_text : ℤ → List ℕ
+threshold_text threshold = codes " " ++ signed_decimal threshold
+
+-- the text of thresholds
+abbrev pub thresholds_text : List ℤ → List ℕ
+thresholds_text thresholds = flat_map threshold_text thresholds
+
 -- a reply without its line feed
 abbrev pub reply_text : Reply → List ℕ
 reply_text (reply.Added key at) = codes "added " ++ decimal key ++ codes " at " ++ decimal at
 reply_text (reply.Taken key at) = codes "taken " ++ decimal key ++ codes " at " ++ decimal at
+reply_text (reply.Full at) = codes "full at " ++ decimal at
 reply_text (reply.Open tag at) = codes "open " ++ tag ++ codes " at " ++ decimal at
 reply_text (reply.Hit tag dist key) = codes "hit " ++ tag ++ codes " " ++ decimal dist ++ codes " " ++ decimal key
 reply_text (reply.More tag) = codes "more " ++ tag
 reply_text (reply.Done tag count) = codes "done " ++ tag ++ codes " " ++ decimal count
+reply_text (reply.Cost tag reads bound) =
+    codes "cost " ++ tag ++ codes " reads " ++ decimal reads ++ codes " bound " ++ decimal bound
+reply_text (reply.Plan tag shard cost thresholds) =
+    codes "plan " ++ tag ++ codes " " ++ decimal shard ++ codes " cost " ++ decimal cost ++ thresholds_text thresholds
 reply_text (reply.Layout shard text) = codes "layout " ++ decimal shard ++ codes " " ++ text
 reply_text (reply.Bad fault) = fault_text fault
 reply_text reply.NoMemory = codes "nomem"
@@ -39,14 +53,23 @@ has_no_feed bytes = list_all (λ byte. not (byte == 10)) bytes
 abbrev pub IsWord64 : ℕ → Type 0
 IsWord64 number = number < 2 ^ 64
 
+-- a signed number whose digits are those of a number of at most 64 bits
+abbrev pub IsSigned64 : ℤ → Type 0
+IsSigned64 (pos number) = IsWord64 number
+IsSigned64 (negsuc number) = IsWord64 (suc number)
+
 -- what a reply may hold: numbers of at most 64 bits, tags of the form of tags, and a layout's text with no line feed
 abbrev pub IsWritten : Reply → Type 0
 IsWritten (reply.Added key at) = IsWord64 key × IsWord64 at
 IsWritten (reply.Taken key at) = IsWord64 key × IsWord64 at
+IsWritten (reply.Full at) = IsWord64 at
 IsWritten (reply.Open tag at) = (is_tag tag ≡ true) × IsWord64 at
 IsWritten (reply.Hit tag dist key) = (is_tag tag ≡ true) × IsWord64 dist × IsWord64 key
 IsWritten (reply.More tag) = is_tag tag ≡ true
 IsWritten (reply.Done tag count) = (is_tag tag ≡ true) × IsWord64 count
+IsWritten (reply.Cost tag reads bound) = (is_tag tag ≡ true) × IsWord64 reads × IsWord64 bound
+IsWritten (reply.Plan tag shard cost thresholds) =
+    (is_tag tag ≡ true) × IsWord64 shard × IsWord64 cost × All IsSigned64 thresholds
 IsWritten (reply.Layout shard text) = IsWord64 shard × (has_no_feed text ≡ true)
 IsWritten (reply.Bad fault) = IsWord64 fault.number × IsWord64 fault.word
 IsWritten reply.NoMemory = Unit {0}

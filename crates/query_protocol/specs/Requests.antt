@@ -8,13 +8,15 @@ use Rattle.query_protocol.specs.declared.bad.Bad.{Bad}
 use Rattle.query_protocol.specs.declared.request.Request.{Request}
 use Rattle.query_protocol.specs.declared.request.Request.TheVariants as kept
 use Rattle.query_protocol.specs.declared.request.RequestWord.{RequestWord}
-use Rattle.query_protocol.specs.declared.request.RequestWord.TheVariants.{AddWord, RangeWord, NextWord, LayoutWord, QuitWord}
+use Rattle.query_protocol.specs.declared.request.RequestWord.TheVariants.{AddWord, RangeWord, NextWord, CostWord, PlanWord, LayoutWord, QuitWord}
 
 -- what a line asks, each code with its own bits
 pub data LineRequest : Type 0 where
   Add : ℕ → List ℕ → LineRequest
   Range : List ℕ → ℕ → List ℕ → LineRequest
   Next : List ℕ → ℕ → LineRequest
+  Cost : List ℕ → LineRequest
+  Plan : List ℕ → ℕ → LineRequest
   Layout : ℕ → LineRequest
   Quit : LineRequest
 
@@ -24,6 +26,8 @@ request_word word =
     if bytes_eq word (codes "add") then Some AddWord else
     if bytes_eq word (codes "range") then Some RangeWord else
     if bytes_eq word (codes "next") then Some NextWord else
+    if bytes_eq word (codes "cost") then Some CostWord else
+    if bytes_eq word (codes "plan") then Some PlanWord else
     if bytes_eq word (codes "layout") then Some LayoutWord else
     if bytes_eq word (codes "quit") then Some QuitWord else None
 
@@ -54,6 +58,17 @@ next_of None count = Err (bad_word 2)
 next_of (Some tag) None = Err (bad_word 3)
 next_of (Some tag) (Some count) = Ok (Some (Next tag count))
 
+-- a tag
+abbrev pub cost_of : Option (List ℕ) → Result (Option LineRequest) Bad
+cost_of None = Err (bad_word 2)
+cost_of (Some tag) = Ok (Some (Cost tag))
+
+-- a tag and a shard, which has to be one of so many
+abbrev pub plan_of : ℕ → Option (List ℕ) → Option ℕ → Result (Option LineRequest) Bad
+plan_of shards None shard = Err (bad_word 2)
+plan_of shards (Some tag) None = Err (bad_word 3)
+plan_of shards (Some tag) (Some shard) = if nat_lt shard shards then Ok (Some (Plan tag shard)) else Err (bad 6)
+
 -- a shard, which has to be one of so many
 abbrev pub layout_of : ℕ → Option ℕ → Result (Option LineRequest) Bad
 layout_of shards None = Err (bad_word 2)
@@ -66,6 +81,8 @@ with_words bits shards (Some AddWord) (key ∷ code ∷ []) = add_of (key_of key
 with_words bits shards (Some RangeWord) (tag ∷ tau ∷ code ∷ []) =
     range_of (tag_of tag) (radius_of bits tau) (code_of bits code)
 with_words bits shards (Some NextWord) (tag ∷ count ∷ []) = next_of (tag_of tag) (count_of count)
+with_words bits shards (Some CostWord) (tag ∷ []) = cost_of (tag_of tag)
+with_words bits shards (Some PlanWord) (tag ∷ shard ∷ []) = plan_of shards (tag_of tag) (shard_of shard)
 with_words bits shards (Some LayoutWord) (shard ∷ []) = layout_of shards (shard_of shard)
 with_words bits shards (Some QuitWord) [] = Ok (Some Quit)
 with_words bits shards (Some word) after = Err (bad 4)
@@ -86,6 +103,8 @@ abbrev pub stored : (W : ℕ) → LineRequest → Request W
 stored W (Add key code) = kept.Add key (padded (64 * W) code)
 stored W (Range tag tau code) = kept.Range tag tau (padded (64 * W) code)
 stored W (Next tag count) = kept.Next tag count
+stored W (Cost tag) = kept.Cost tag
+stored W (Plan tag shard) = kept.Plan tag shard
 stored W (Layout shard) = kept.Layout shard
 stored W Quit = kept.Quit
 

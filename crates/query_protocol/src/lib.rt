@@ -9,6 +9,7 @@ mod reading;
 mod reply;
 mod request;
 mod tag;
+mod threshold_list;
 mod words;
 
 pub use bad::Bad;
@@ -18,3 +19,4 @@ pub use reading::read_line;
 pub use reply::{Reply, write_hit};
 pub use request::{Request, RequestWord};
 pub use tag::{TAG_MOST, Tag};
+pub use threshold_list::{THRESHOLDS_MOST, ThresholdList};

@@ -5,7 +5,7 @@ ghost use Rattle.gph_codes.specs.Allowed.{IsAllowed};
 ghost use Rattle.line_io.specs.declared.cutter.TheConstants.{LINE_MOST};
 ghost use Rattle.query_protocol.specs.Words.{words};
 ghost use Rattle.query_protocol.specs.Requests.{reading, of_words, stored_reading, request_word, with_words};
-ghost use Rattle.query_protocol.specs.declared.request.RequestWord.TheVariants.{AddWord, RangeWord, NextWord, LayoutWord, QuitWord};
+ghost use Rattle.query_protocol.specs.declared.request.RequestWord.TheVariants.{AddWord, RangeWord, NextWord, CostWord, PlanWord, LayoutWord, QuitWord};
 
 use crate::forms::{code_of, count_of, key_of, radius_of, shard_of};
 use crate::words::{is_printable, next_word};
@@ -66,6 +66,8 @@ fn read_after<const W: usize>(
         Some(RequestWord::AddWord) => read_add(bits, after),
         Some(RequestWord::RangeWord) => read_range(bits, after),
         Some(RequestWord::NextWord) => read_next(after),
+        Some(RequestWord::CostWord) => read_cost(after),
+        Some(RequestWord::PlanWord) => read_plan(shards, after),
         Some(RequestWord::LayoutWord) => read_layout(shards, after),
         Some(RequestWord::QuitWord) => read_quit(after),
     }
@@ -81,6 +83,10 @@ fn request_word(word: &[u8]) -> Option<RequestWord>
         Some(RequestWord::RangeWord)
     } else if word == b"next".as_slice() {
         Some(RequestWord::NextWord)
+    } else if word == b"cost".as_slice() {
+        Some(RequestWord::CostWord)
+    } else if word == b"plan".as_slice() {
+        Some(RequestWord::PlanWord)
     } else if word == b"layout".as_slice() {
         Some(RequestWord::LayoutWord)
     } else if word == b"quit".as_slice() {
@@ -164,6 +170,47 @@ fn read_next<const W: usize>(after: &[u8]) -> Result<Option<Request<W>>, Bad>
         return Err(Bad::of_word(3));
     };
     Ok(Some(Request::Next { tag, count }))
+}
+
+// The words after `cost`.
+fn read_cost<const W: usize>(after: &[u8]) -> Result<Option<Request<W>>, Bad>
+    ensures { (bits shards : ℕ) → result ≡ stored_reading W (with_words bits shards (Some CostWord) (words after.now)) }
+{
+    let Some((tag, after)) = next_word(after) else {
+        return Err(Bad::of_line(4));
+    };
+    if next_word(after).is_some() {
+        return Err(Bad::of_line(4));
+    }
+    let Some(tag) = Tag::of(tag) else {
+        return Err(Bad::of_word(2));
+    };
+    Ok(Some(Request::Cost { tag }))
+}
+
+// The words after `plan`.
+fn read_plan<const W: usize>(shards: u32, after: &[u8]) -> Result<Option<Request<W>>, Bad>
+    ensures { (bits : ℕ) → result ≡ stored_reading W (with_words bits shards (Some PlanWord) (words after.now)) }
+{
+    let Some((tag, after)) = next_word(after) else {
+        return Err(Bad::of_line(4));
+    };
+    let Some((shard, after)) = next_word(after) else {
+        return Err(Bad::of_line(4));
+    };
+    if next_word(after).is_some() {
+        return Err(Bad::of_line(4));
+    }
+    let Some(tag) = Tag::of(tag) else {
+        return Err(Bad::of_word(2));
+    };
+    let Some(shard) = shard_of(shard) else {
+        return Err(Bad::of_word(3));
+    };
+    if shard >= shards {
+        return Err(Bad::of_line(6));
+    }
+    Ok(Some(Request::Plan { tag, shard }))
 }
 
 // The words after `layout`.

@@ -1,8 +1,10 @@
-ghost use Rattle.std.specs.Prelude.{◌≡◌, ◌≤◌, ◌+◌, [], ◌++◌, ◌∷◌, length, decimal, codes};
-ghost use Rattle.query_protocol.specs.Replies.{reply_line};
+ghost use Rattle.std.specs.Prelude.{◌≡◌, ◌≤◌, ◌+◌, ◌*◌, [], ◌++◌, ◌∷◌, length, decimal, codes};
+ghost use Rattle.line_io.specs.declared.cutter.TheConstants.{LINE_MOST};
+ghost use Rattle.query_protocol.specs.Replies.{reply_line, threshold_text, thresholds_text};
+ghost use Rattle.query_protocol.specs.declared.threshold_list.TheConstants.{THRESHOLDS_MOST};
 ghost use Rattle.query_protocol.specs.declared.reply.Reply.TheVariants as reply;
 
-use crate::{Bad, Tag};
+use crate::{Bad, THRESHOLDS_MOST, Tag, ThresholdList};
 use line_io::LineBuf;
 use part_layout::LayoutText;
 
@@ -10,19 +12,57 @@ use part_layout::LayoutText;
 #[derive(Debug, Drop)]
 pub enum Reply {
     /// The entry that adds the key was accepted, as the entry of this number.
-    Added { key: u64, at: u64 },
+    Added {
+        key: u64,
+        at: u64,
+    },
     /// The key is taken, in the rows of the first `at` entries.
-    Taken { key: u64, at: u64 },
+    Taken {
+        key: u64,
+        at: u64,
+    },
+    /// No entry was accepted: the history of `at` entries is as long as it may be.
+    Full {
+        at: u64,
+    },
     /// The query stands at the first `at` entries.
-    Open { tag: Tag, at: u64 },
+    Open {
+        tag: Tag,
+        at: u64,
+    },
     /// One hit.
-    Hit { tag: Tag, dist: u32, key: u64 },
+    Hit {
+        tag: Tag,
+        dist: u32,
+        key: u64,
+    },
     /// The answer has further hits.
-    More { tag: Tag },
+    More {
+        tag: Tag,
+    },
     /// The answer was given whole; `count` is the number of its hits.
-    Done { tag: Tag, count: u64 },
+    Done {
+        tag: Tag,
+        count: u64,
+    },
+    /// How many postings the query has read, and the bound that its reads stay within.
+    Cost {
+        tag: Tag,
+        reads: u64,
+        bound: u64,
+    },
+    /// The query's thresholds in the shard, one a part, and what they cost.
+    Plan {
+        tag: Tag,
+        shard: u32,
+        cost: u64,
+        thresholds: ThresholdList,
+    },
     /// The shard's layout, by its text.
-    Layout { shard: u32, text: LayoutText },
+    Layout {
+        shard: u32,
+        text: LayoutText,
+    },
     /// The line is no request, or the request can't be met.
     Bad(Bad),
     /// There was no memory for the request, and it changed nothing.
@@ -38,10 +78,18 @@ impl Reply {
         match self {
             Reply::Added { key, at } => write_key(b"added ", *key, *at, out),
             Reply::Taken { key, at } => write_key(b"taken ", *key, *at, out),
+            Reply::Full { at } => write_full(*at, out),
             Reply::Open { tag, at } => write_open(tag, *at, out),
             Reply::Hit { tag, dist, key } => write_hit(tag, *dist, *key, out),
             Reply::More { tag } => write_more(tag, out),
             Reply::Done { tag, count } => write_done(tag, *count, out),
+            Reply::Cost { tag, reads, bound } => write_cost(tag, *reads, *bound, out),
+            Reply::Plan {
+                tag,
+                shard,
+                cost,
+                thresholds,
+            } => write_plan(tag, *shard, *cost, thresholds, out),
             Reply::Layout { shard, text } => write_layout(*shard, text, out),
             Reply::Bad(fault) => write_fault(fault, out),
             Reply::NoMemory => out.put(b"nomem\n"),
@@ -75,6 +123,15 @@ fn write_key(word: &[u8], key: u64, at: u64, out: &mut LineBuf)
     out.put(b"\n");
 }
 
+fn write_full(at: u64, out: &mut LineBuf)
+    requires { out.old ≡ [] }
+    ensures { out.new ≡ reply_line (reply.Full at) }
+{
+    out.put(b"full at ");
+    out.put_number(at);
+    out.put(b"\n");
+}
+
 fn write_open(tag: &Tag, at: u64, out: &mut LineBuf)
     requires { out.old ≡ [] }
     ensures { out.new ≡ reply_line (reply.Open tag.now at) }
@@ -104,6 +161,57 @@ fn write_done(tag: &Tag, count: u64, out: &mut LineBuf)
     out.put(b" ");
     out.put_number(count);
     out.put(b"\n");
+}
+
+fn write_cost(tag: &Tag, reads: u64, bound: u64, out: &mut LineBuf)
+    requires { out.old ≡ [] }
+    ensures { out.new ≡ reply_line (reply.Cost tag.now reads bound) }
+{
+    out.put(b"cost ");
+    out.put(tag.bytes());
+    out.put(b" reads ");
+    out.put_number(reads);
+    out.put(b" bound ");
+    out.put_number(bound);
+    out.put(b"\n");
+}
+
+fn write_plan(tag: &Tag, shard: u32, cost: u64, thresholds: &ThresholdList, out: &mut LineBuf)
+    requires { out.old ≡ [] }
+    ensures { out.new ≡ reply_line (reply.Plan tag.now shard cost thresholds.now) }
+{
+    out.put(b"plan ");
+    out.put(tag.bytes());
+    out.put(b" ");
+    out.put_number(u64::from(shard));
+    out.put(b" cost ");
+    out.put_number(cost);
+    write_thresholds(thresholds.entries(), out);
+    out.put(b"\n");
+}
+
+// Each threshold after a space.
+fn write_thresholds(thresholds: &[i32], out: &mut LineBuf)
+    requires few { length thresholds.now ≤ THRESHOLDS_MOST }
+    requires room { length out.old + 22 * THRESHOLDS_MOST ≤ LINE_MOST }
+    ensures value { out.new ≡ out.old ++ thresholds_text thresholds.now }
+    ensures longer { length out.new ≤ length out.old + 22 * THRESHOLDS_MOST }
+{
+    for threshold in thresholds {
+        write_threshold(*threshold, out);
+    }
+}
+
+fn write_threshold(threshold: i32, out: &mut LineBuf)
+    requires { length out.old + 22 ≤ LINE_MOST }
+    ensures value { out.new ≡ out.old ++ threshold_text threshold }
+    ensures longer { length out.new ≤ length out.old + 22 }
+{
+    out.put(b" ");
+    if threshold < 0 {
+        out.put(b"-");
+    }
+    out.put_number(u64::from(threshold.unsigned_abs()));
 }
 
 fn write_layout(shard: u32, text: &LayoutText, out: &mut LineBuf)

@@ -7,6 +7,8 @@ pub enum RequestWord {
     AddWord,
     RangeWord,
     NextWord,
+    CostWord,
+    PlanWord,
     LayoutWord,
     QuitWord,
 }
@@ -20,6 +22,10 @@ pub enum Request<const W: usize> {
     Range { tag: Tag, tau: u32, code: Code<W> },
     /// Asks for the next hits of a query, at most `count`.
     Next { tag: Tag, count: u32 },
+    /// Asks what a query has cost so far.
+    Cost { tag: Tag },
+    /// Asks for the thresholds of a query in a shard.
+    Plan { tag: Tag, shard: u32 },
     /// Asks for the present layout of a shard.
     Layout { shard: u32 },
     /// Ends the session.

@@ -1,5 +1,14 @@
-use Rattle.std.proofs.Common.{sym, rules}
+use Rattle.gph_session.proofs.HeldLemmas.{differs, free_more, free_all, stands_at}
 use Rattle.gph_session.proofs.open_query.place_of.Goals as goal
 
 pub returns-then-matches : goal.returns-then-matches
-returns-then-matches c = record { held = c.in-Some.query.now; is_there = sym c.in-Some.ensures; has_tag = search rules }
+returns-then-matches g c =
+    stands_at c.args.queries.now c.loop-place.place c.index-queries-place.result c.args.tag.now c.loop-place-test.true c.loop-place.invariant (c.matches.ensures.0 c.if-matches.true)
+
+pub loop-place-preserved : goal.loop-place-preserved
+loop-place-preserved g c =
+    free_more c.args.queries.now c.loop-place.place c.index-queries-place.result c.args.tag.now c.loop-place-test.true c.loop-place.invariant
+    (differs _ c.args.tag.now c.matches.result c.matches.ensures.1 c.if-matches.false)
+
+pub returns : goal.returns
+returns g c = free_all c.args.queries.now c.loop-place.place c.args.tag.now c.loop-place-test.false c.loop-place.invariant

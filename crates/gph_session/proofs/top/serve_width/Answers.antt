@@ -1,19 +1,28 @@
-use Rattle.std.proofs.Common.{sym, subst, rules}
-use Rattle.gph_session.specs.Meaning.{IsReady}
-use Rattle.gph_session.proofs.TopLemmas.{stands_new}
+use Rattle.std.proofs.Common.{◌≡◌, [], sym, subst, rules}
+use Rattle.std.specs.Arc.{arc_value}
+use Rattle.part_layout.specs.declared.config.Config.{Config}
+use Rattle.command_line.specs.CommandWords.{IsConfig}
+use Rattle.gph_codes.specs.Allowed.{IsAllowed}
+use Rattle.gph_session.specs.Meaning.{contents_of}
+use Rattle.gph_session.proofs.TopLemmas.{stands_new, is_ready}
 use Rattle.gph_session.proofs.top.serve_width.Goals as goal
 
 pub serve-requires : goal.serve-requires
-serve-requires g c = (
-  search rules,
-  (
-    search rules,
-    (
-      subst (λ config. IsReady g.row.W config c.in-Ok.session.layout) (sym c.in-Ok.ensures.config) (record { allowed = c.requires.allowed; laid = c.in-Ok.ensures.layout }),
+serve-requires g c =
+    let session = c.in-Ok.session in
+    let same = sym c.in-Ok.ensures.config in
+    let first = subst (λ (config : Config). (arc_value session.version).contents ≡ contents_of config []) same c.in-Ok.ensures.version in
+    let allowed = subst (λ (config : Config). IsAllowed g.row.W config.bits) same c.requires.allowed in
+    let is = subst IsConfig same c.requires.config in (
+      search rules,
       (
         search rules,
-        stands_new g.row.W c.in-Ok.session.config c.in-Ok.session.rows c.in-Ok.session.queries c.in-Ok.session.cutter.held c.in-Ok.ensures.rows c.in-Ok.ensures.queries c.in-Ok.ensures.cutter,
+        (
+          is_ready g.row.W session.config (arc_value session.version).contents allowed is first,
+          (
+            search rules,
+            stands_new g.row.W session.config (arc_value session.version).contents session.queries.items session.cutter.held first c.in-Ok.ensures.queries c.in-Ok.ensures.cutter,
+          ),
+        ),
       ),
-    ),
-  ),
-)
+    )

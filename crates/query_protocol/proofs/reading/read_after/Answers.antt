@@ -10,6 +10,12 @@ returns-in-Some-RangeWord g c = search (rules, c.read_range.ensures c.args.shard
 pub returns-in-Some-NextWord : goal.returns-in-Some-NextWord
 returns-in-Some-NextWord g c = search (rules, c.read_next.ensures c.args.bits c.args.shards)
 
+pub returns-in-Some-CostWord : goal.returns-in-Some-CostWord
+returns-in-Some-CostWord g c = search (rules, c.read_cost.ensures c.args.bits c.args.shards)
+
+pub returns-in-Some-PlanWord : goal.returns-in-Some-PlanWord
+returns-in-Some-PlanWord g c = search (rules, c.read_plan.ensures c.args.bits)
+
 pub returns-in-Some-LayoutWord : goal.returns-in-Some-LayoutWord
 returns-in-Some-LayoutWord g c = search (rules, c.read_layout.ensures c.args.bits)
 

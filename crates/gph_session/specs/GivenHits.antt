@@ -1,0 +1,64 @@
+-- What giving hits does to a source, to its query and to the sink. No public clause cites this module.
+use Rattle.std.specs.Prelude.{◌≡◌, ℕ, ◌+◌, ◌<◌, ◌≤◌, ◌⊎◌, min, nat_lt, true, if◌then◌else◌, List, length, take, drop, Option, Result, OnOk, IfOk}
+use Rattle.hit_source.specs.Sources.{Asked, Standing, IsLawful}
+use Rattle.line_io.specs.declared.source.Failed.{Failed}
+use Rattle.query_protocol.specs.Requests.{bad}
+use Rattle.query_protocol.specs.Replies.{text, reply_line}
+use Rattle.query_protocol.specs.declared.reply.Reply.TheVariants as reply
+use Rattle.gph_session.specs.declared.open_query.OpenQuery.{OpenQuery}
+use Rattle.gph_session.specs.declared.session.Turn.{Turn}
+use Rattle.gph_session.specs.QuerySteps.{next_replies, hit_replies}
+use Rattle.gph_session.specs.Held.{asked_of, standing_of, IsFree, Changes}
+use Rattle.gph_session.specs.Writing.{Writes}
+
+-- a source reads on, a step of the ledger a posting, and reads no more once it has ended
+pub record ReadsOn (a : Asked) (old new : Standing) (from to : ℕ) : Type 0 where
+  pub ledger : to + old.reads ≡ from + new.reads
+  pub rises : old.reads ≤ new.reads
+  pub stays_ended : old.ended ≡ true → (new.ended ≡ true) × (new.reads ≡ old.reads)
+  pub lawful : IsLawful a new
+
+-- a source has ended, or a hit waits
+abbrev pub IsFilled : Standing → Type 0
+IsFilled s = (s.ended ≡ true) ⊎ (0 < length s.waiting)
+
+-- a source with room for a hit is polled until it is filled
+pub record FillsUp (a : Asked) (old new : Standing) (from to : ℕ) : Type 0 where
+  pub reads : ReadsOn a old new from to
+  pub given : new.given ≡ old.given
+  pub filled : 1 ≤ a.room → IsFilled new
+
+-- the next hits of a source, at most so many, are given and written, and it is filled again
+pub record GivesHits (a : Asked) (tag : List ℕ) (count : ℕ) (old new : Standing) (before after : Option (List ℕ)) (from to : ℕ) (result : Result ℕ Failed) : Type 0 where
+  pub reads : ReadsOn a old new from to
+  pub filled : 1 ≤ a.room → OnOk result (IsFilled new)
+  pub written : 1 ≤ a.room → Writes before after result (text (hit_replies tag (take count (drop old.given a.hits))))
+  pub number : IfOk result (λ n. new.given ≡ old.given + n)
+  pub given : 1 ≤ a.room → OnOk result (new.given ≡ min (old.given + count) (length a.hits))
+
+-- the number given of a query is that of its source, which has room, and no answer has more hits than a shard may have rows
+pub record IsCounted {W : ℕ} (held : OpenQuery W) : Type 0 where
+  pub room : 1 ≤ (asked_of held).room
+  pub given : held.given ≡ (standing_of held).given
+  pub few : length (asked_of held).hits ≤ 1048576
+
+-- a query in memory after so many more hits were asked
+pub record IsGiven {W : ℕ} (count : ℕ) (before after : OpenQuery W) : Type 0 where
+  pub given : after.given ≡ min (before.given + count) (length (asked_of before).hits)
+  pub counted : after.given ≡ (standing_of after).given
+  pub done : after.done ≡ (if nat_lt (before.given + count) (length (asked_of before).hits) then before.done else true)
+  pub ended : after.done ≡ true → before.done ≡ true ⊎ ((standing_of after).ended ≡ true)
+
+-- the next hits of a query are given and written, with its end or that there are more
+pub record GivesQuery {W : ℕ} (tag : List ℕ) (count : ℕ) (before after : OpenQuery W) (held held' : Option (List ℕ)) (from to : ℕ) (result : Result Turn Failed) : Type 0 where
+  pub tag_same : after.tag ≡ before.tag
+  pub asked : asked_of after ≡ asked_of before
+  pub reads : ReadsOn (asked_of before) (standing_of before) (standing_of after) from to
+  pub wrote : IsCounted before → Writes held held' result (text (next_replies tag count before.given (asked_of before).hits))
+  pub given : IsCounted before → OnOk result (IsGiven count before after)
+
+-- what a request for hits gives: those of the tag's query, or that there is none
+abbrev pub GivesAs : {W : ℕ} → List (OpenQuery W) → List ℕ → ℕ → Option (List ℕ) → Option (List ℕ) → ℕ → ℕ → Result Turn Failed → List (OpenQuery W) → Type 0
+GivesAs {W} old tag count held held' from to result new =
+    (IsFree old tag × (new ≡ old) × (to ≡ from) × Writes held held' result (reply_line (reply.Bad (bad 8))))
+    ⊎ ((before : OpenQuery W) × (after : OpenQuery W) × Changes old new tag before after × GivesQuery tag count before after held held' from to result)

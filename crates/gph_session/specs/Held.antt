@@ -1,0 +1,48 @@
+-- Open queries in memory: what each is asked and where it stands, and which has a tag. No public clause cites this module.
+use Rattle.std.specs.Prelude.{◌≡◌, ℕ, ◌+◌, ◌<◌, false, List, [], ◌∷◌, ◌++◌, length, take, slice_index_or}
+use Rattle.std.specs.List.{AllByRecursion}
+use Rattle.std.specs.Str.{bytes_eq}
+use Rattle.hit_source.specs.Sources.{Asked, Standing}
+use denote.Param.{number}
+use Rattle.shard_query.specs.contracts.range_task.RangeTaskHitSource.TheImpl.{ghosts}
+use Rattle.gph_session.specs.declared.open_query.OpenQuery.{OpenQuery}
+
+-- what a query's source is asked
+abbrev pub asked_of : {W : ℕ} → OpenQuery W → Asked
+asked_of {W} held = (ghosts (number W)).asked held.task
+
+-- where a query's source stands
+abbrev pub standing_of : {W : ℕ} → OpenQuery W → Standing
+standing_of {W} held = (ghosts (number W)).standing held.task
+
+-- the postings that queries have read
+abbrev pub reads_of : {W : ℕ} → List (OpenQuery W) → ℕ
+reads_of [] = 0
+reads_of (held ∷ helds) = (standing_of held).reads + reads_of helds
+
+-- no query has the tag
+abbrev pub IsFree : {W : ℕ} → List (OpenQuery W) → List ℕ → Type 0
+IsFree helds tag = AllByRecursion (λ held. bytes_eq held.tag tag ≡ false) helds
+
+-- the first query of the tag stands at a place
+pub record StandsAt {W : ℕ} (helds : List (OpenQuery W)) (tag : List ℕ) (place : ℕ) : Type 0 where
+  pub within : place < length helds
+  pub is_first : IsFree (take place helds) tag
+  pub has_tag : (held : OpenQuery W) → (slice_index_or helds place held).tag ≡ tag
+
+-- the first query of the tag was changed, and no other
+pub record Changes {W : ℕ} (old new : List (OpenQuery W)) (tag : List ℕ) (before after : OpenQuery W) : Type 0 where
+  pub front : List (OpenQuery W)
+  pub back : List (OpenQuery W)
+  pub old_is : old ≡ front ++ before ∷ back
+  pub new_is : new ≡ front ++ after ∷ back
+  pub is_first : IsFree front tag
+  pub has_tag : before.tag ≡ tag
+
+-- a query has the fields of another, and its source is asked the same and stands as it did
+pub record IsSame {W : ℕ} (before after : OpenQuery W) : Type 0 where
+  pub tag : after.tag ≡ before.tag
+  pub given : after.given ≡ before.given
+  pub done : after.done ≡ before.done
+  pub asked : asked_of after ≡ asked_of before
+  pub standing : standing_of after ≡ standing_of before
