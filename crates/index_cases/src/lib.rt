@@ -22,3 +22,5 @@ mod scan;
 mod sources;
 #[cfg(test)]
 mod thresholds;
+#[cfg(test)]
+mod versions;

@@ -1,1 +1,6 @@
-pub mod CountLemmas
+mod PlaceLemmas
+mod SumLemmas
+mod PartLemmas
+mod HistoryLemmas
+mod KeptLemmas
+mod SeenLemmas

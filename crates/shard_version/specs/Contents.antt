@@ -1,5 +1,5 @@
 -- What a contract sees of a version: its shard, how much of the history it has taken in, its layout and its rows.
-use Rattle.std.specs.Prelude.{◌≡◌, ℕ, ◌+◌, ◌%◌, ◌==◌, ◌<◌, ◌≤◌, if◌then◌else◌, List, [], length, map, take, refl}
+use Rattle.std.specs.Prelude.{◌≡◌, ℕ, ◌+◌, ◌%◌, ◌==◌, ◌<◌, ◌≤◌, if◌then◌else◌, List, [], length, take, refl}
 use Rattle.std.specs.Coded.{Coded, code_by, coded×, coded_list, coded_ℕ}
 use Rattle.std.specs.List.{AllByRecursion}
 use Rattle.std.specs.List.Sorted.{IsStrictlySortedBy}
@@ -13,10 +13,11 @@ use Rattle.entry_log.specs.declared.entry.Entry.{Entry}
 use Rattle.entry_log.specs.declared.op.Op.{Op}
 use Rattle.entry_log.specs.declared.op.Op.TheVariants.{Add, Delete}
 use Rattle.part_layout.specs.Laid.{Laid, IsLaid, laid_code}
-use Rattle.posting_table.specs.Tables.{Table, table_code, empty_table}
+use Rattle.posting_table.specs.Tables.{Table, table_code}
+use Rattle.shard_version.specs.declared.version.TheConstants.{ENTRIES}
 
--- the shard of so many, the number of entries taken in, the layout, the rows: key and code, ascending by key, and the posting table of
--- each part
+-- the shard of so many, the number of entries taken in, the layout, the rows: key and code, ascending by key, and the posting table
+-- of each part, whose lists have an order of their own
 pub record Contents : Type 0 where
   pub shard : ℕ
   pub shards : ℕ
@@ -34,9 +35,17 @@ contents_code =
     (λ t. record { shard = t.0; shards = t.1.0; at = t.1.1.0; layout = t.1.1.1.0; rows = t.1.1.1.1.0; tables = t.1.1.1.1.1 })
     (λ _. refl)
 
--- no entry taken in, and no row
+-- the contents with these posting tables
+abbrev pub with_tables : Contents → List Table → Contents
+with_tables version tables = record version { tables = tables }
+
+-- the contents but for the posting tables
+abbrev pub without_tables : Contents → Contents
+without_tables version = with_tables version []
+
+-- no entry taken in, and no row; the posting tables are left out
 abbrev pub empty_of : ℕ → ℕ → Laid → Contents
-empty_of shard shards layout = record { shard = shard; shards = shards; at = 0; layout = layout; rows = []; tables = map (λ part. empty_table (length part)) layout.parts }
+empty_of shard shards layout = record { shard = shard; shards = shards; at = 0; layout = layout; rows = []; tables = [] }
 
 -- the operation of an entry in the definitions' words: its code is the first so many bits that the words keep
 abbrev pub operation_of : {W : ℕ} → ℕ → Op W → Operation
@@ -69,4 +78,4 @@ pub record IsVersion (version : Contents) : Type 0 where
   pub ascending : IsStrictlySortedBy nat_cmp (keys_of version.rows)
   pub own_keys : AllByRecursion (λ row. row.0 % version.shards ≡ version.shard) version.rows
   pub from_entries : length version.rows ≤ version.at
-  pub few_entries : version.at ≤ 1048576
+  pub few_entries : version.at ≤ ENTRIES

@@ -1,2 +1,4 @@
 pub mod Contents
+pub mod Kept
+pub mod Prefixes
 pub mod Tables

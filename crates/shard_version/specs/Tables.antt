@@ -13,11 +13,19 @@ use Rattle.shard_version.specs.Contents.{Contents}
 abbrev pub part_values : List (ℕ × List ℕ) → List ℕ → List ℕ
 part_values rows part = map (λ row. part_value row.1 part) rows
 
+-- the code of each entry stands for its first so many bits
+abbrev pub AreStored : ℕ → ℕ → List (ℕ × List ℕ) → Type 0
+AreStored words bits entries = AllByRecursion (λ entry. StandsFor words bits entry.1 (take bits entry.1)) entries
+
+-- the rows of least key, so many or all, as their words keep them
+abbrev pub AreFirst : ℕ → Contents → List (ℕ × List ℕ) → Type 0
+AreFirst n version entries = map (unpadded version.layout.bits) entries ≡ take n version.rows
+
 -- the posting lists of a part have each row of a version once, in the list of its value, with the words of its code
 pub record ArePostings (words : ℕ) (version : Contents) (part : ℕ) (table : Table) : Type 0 where
   pub width : table.width ≡ length (part_at version.layout part)
   pub lists : AreLists version.rows (part_at version.layout part) (λ value. map (unpadded version.layout.bits) (posting_list table value))
-  pub codes : (value : ℕ) → AllByRecursion (λ entry. StandsFor words version.layout.bits entry.1 (take version.layout.bits entry.1)) (posting_list table value)
+  pub codes : (value : ℕ) → AreStored words version.layout.bits (posting_list table value)
 
 -- the counts of a part: each value has as many copies as the version has rows with it
 abbrev pub counts_of : Contents → ℕ → CopyTable
@@ -27,7 +35,7 @@ counts_of version part = table_of (length (part_at version.layout part)) (part_v
 abbrev pub table_at : Contents → ℕ → Table
 table_at version part = slice_index_or version.tables part (record { width = 0; lists = [] })
 
--- codes of the version's layout fit so many words, and each part has its posting table
+-- codes of the layout fit so many words, and each part has the posting lists of the rows
 pub record HasTables (words : ℕ) (version : Contents) : Type 0 where
   pub room : version.layout.bits ≤ 64 * words
   pub each : (part : ℕ) → part < length version.layout.parts → ArePostings words version part (table_at version part)

@@ -3,7 +3,10 @@
 #![tactic(auto)]
 
 mod laws;
+mod part_table;
+mod places;
+mod tables;
 mod version;
 
-pub use laws::counts_are_of_the_rows;
-pub use version::Version;
+pub use laws::{counts_are_of_the_rows, versions_follow_the_history};
+pub use version::{ENTRIES, Version};

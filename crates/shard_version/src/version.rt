@@ -1,17 +1,23 @@
 //! The tables of one shard after the first entries of a history.
 
-ghost use Rattle.std.specs.Prelude.{◌≡◌, ◌*◌, ◌<◌, ◌≤◌, ℕ, length, is_some, IfOk};
+ghost use Rattle.std.specs.Prelude.{◌≡◌, ℕ, ◌+◌, ◌*◌, ◌%◌, ◌==◌, ◌<◌, ◌≤◌, length, min, take, true, None, is_some, IfOk, OnErr, OnOk};
 ghost use Rattle.std.specs.Arc.{arc_value};
+ghost use Rattle.hamming_model.specs.Codes.{StandsFor};
 ghost use Rattle.hamming_model.specs.History.{code_at};
 ghost use Rattle.entry_log.specs.Meaning.{MeansEntry};
-ghost use Rattle.shard_version.specs.Tables.{ArePostings, HasTables, counts_of, table_at};
-ghost use Rattle.shard_version.specs.Contents.{IsVersion, FitsShard, after_entry, empty_of, entry_of};
+ghost use Rattle.shard_version.specs.Contents.{IsVersion, FitsShard, after_entry, empty_of, entry_of, without_tables};
+ghost use Rattle.shard_version.specs.Kept.{next_with, with_added, with_deleted};
+ghost use Rattle.shard_version.specs.Tables.{AreFirst, AreStored, HasTables, counts_of, table_at};
 
-use count_table::Counts;
-use entry_log::Entry;
+use crate::part_table::PartTable;
+use crate::places::{place_of, stands_at};
+use crate::tables::{copies, empty_tables, insert_in_each, remove_from_each};
+use count_table::{Counts, changes_follow_a_list, counts_are_those_of_a_list};
+use entry_log::{Entry, Op};
+use gph_codes::Code;
 use part_layout::Layout;
 use posting_table::Postings;
-use read_meter::NoMemory;
+use read_meter::{NoMemory, Steps};
 use std::alloc::Global;
 use std::marker::Model;
 use std::sync::Arc;
@@ -27,23 +33,25 @@ pub struct Version<const W: usize> {
     shards: u32,
     at: u64,
     layout: Arc<Layout>,
-    never: Never,
+    alloc: Global,
+    // keys ascend
+    rows: Vec<(u64, Code<W>)>,
+    // one for each part of the layout
+    tables: Vec<PartTable<W>>,
 }
 
-#[derive(Drop)]
-enum Never {}
-
 impl<const W: usize> Model for Version<W> {
-    ghost use Rattle.std.specs.Prelude.{[]};
     ghost use Rattle.std.specs.Arc.{arc_value};
-    ghost use Rattle.shard_version.specs.Contents.{Contents, contents_code};
+    ghost use Rattle.shard_version.specs.Contents.{Contents, contents_code, with_tables};
+    ghost use Rattle.shard_version.specs.Kept.{IsKept, contents_of, postings_of};
 
     ghost Value = { Contents };
 
     ghost coded = { contents_code };
 
-    ghost view = { λ kept. record { shard = kept.shard; shards = kept.shards; at = kept.at; layout = arc_value kept.layout; rows = []; tables = [] } };
+    ghost view = { λ kept. with_tables (contents_of kept.shard kept.shards kept.at (arc_value kept.layout) kept.rows.items) (postings_of kept.tables.items) };
 
+    ghost invariant = { λ kept. IsKept {W = W} (contents_of kept.shard kept.shards kept.at (arc_value kept.layout) kept.rows.items) kept.rows.items kept.tables.items };
 }
 
 impl<const W: usize> Version<W> {
@@ -62,9 +70,20 @@ impl<const W: usize> Version<W> {
         requires room { (arc_value layout).bits ≤ 64 * W }
         requires own_shard { shard < shards }
         requires few_shards { shards ≤ 16 }
-        ensures { IfOk result (λ version. version ≡ empty_of shard shards (arc_value layout)) }
+        ensures { IfOk result (λ version. without_tables version ≡ empty_of shard shards (arc_value layout)) }
     {
-        Err(NoMemory)
+        changes_follow_a_list();
+        let parts = layout.parts();
+        let tables = empty_tables(alloc, &layout, parts)?;
+        Ok(Version {
+            shard,
+            shards,
+            at: 0,
+            layout,
+            alloc,
+            rows: Vec::new(alloc),
+            tables,
+        })
     }
 
     /// An equal version of its own: the tables are copied whole.
@@ -75,7 +94,22 @@ impl<const W: usize> Version<W> {
     pub fn copy(&self) -> Result<Version<W>, NoMemory>
         ensures { IfOk result (λ version. version ≡ self.now) }
     {
-        Err(NoMemory)
+        let tables = copies(self.alloc, &self.tables)?;
+        let Ok(rows) = Vec::from_slice(self.alloc, self.rows.as_slice()) else {
+            return Err(NoMemory);
+        };
+        let Ok(layout) = self.layout.clone() else {
+            return Err(NoMemory);
+        };
+        Ok(Version {
+            shard: self.shard,
+            shards: self.shards,
+            at: self.at,
+            layout,
+            alloc: self.alloc,
+            rows,
+            tables,
+        })
     }
 
     /// The version after one more entry: an entry of another shard changes no row. A refusal drops the
@@ -89,23 +123,77 @@ impl<const W: usize> Version<W> {
         requires room { self.at < ENTRIES }
         requires means { MeansEntry self.layout.bits entry.now (entry_of self.layout.bits entry.now) }
         requires fits { FitsShard self (entry_of self.layout.bits entry.now).operation }
-        ensures { IfOk result (λ version. version ≡ after_entry self.entry (entry_of self.entry.layout.bits entry.now)) }
+        ensures { IfOk result (λ version. without_tables version ≡ after_entry (without_tables self.entry) (entry_of self.entry.layout.bits entry.now)) }
     {
-        Err(NoMemory)
+        match entry.op {
+            Op::Add { key, code } if self.owns(key) => self.with_row(key, code),
+            Op::Delete { key } if self.owns(key) => self.without_row(key),
+            _ => Ok(self.passed()),
+        }
+    }
+
+    // Whether a key is of this shard.
+    fn owns(&self, key: u64) -> bool
+        ensures { result ≡ (key % self.now.shards == self.now.shard) }
+    {
+        key % u64::from(self.shards) == u64::from(self.shard)
+    }
+
+    // The version after an entry that changes no row.
+    fn passed(mut self) -> Version<W>
+        requires { self.at < ENTRIES }
+        ensures { without_tables result ≡ next_with (without_tables self.entry) self.entry.rows }
+    {
+        self.at += 1;
+        self
+    }
+
+    // The version after an entry that adds a row.
+    fn with_row(mut self, key: u64, code: Code<W>) -> Result<Version<W>, NoMemory>
+        requires room { self.at < ENTRIES }
+        requires own { key % self.shards ≡ self.shard }
+        requires code { StandsFor W self.layout.bits code (take self.layout.bits code) }
+        requires absent { code_at self.rows key ≡ None }
+        ensures { IfOk result (λ version. without_tables version ≡ with_added (without_tables self.entry) key code.entry) }
+    {
+        changes_follow_a_list();
+        counts_are_those_of_a_list();
+        let place = place_of(&self.rows, key);
+        insert_in_each(&mut self.tables, &self.layout, key, code)?;
+        let Ok(()) = self.rows.insert(place, (key, code)) else {
+            return Err(NoMemory);
+        };
+        self.at += 1;
+        Ok(self)
+    }
+
+    // The version after an entry that deletes a row.
+    fn without_row(mut self, key: u64) -> Result<Version<W>, NoMemory>
+        requires room { self.at < ENTRIES }
+        requires present { is_some (code_at self.rows key) ≡ true }
+        ensures { IfOk result (λ version. without_tables version ≡ with_deleted (without_tables self.entry) key) }
+    {
+        changes_follow_a_list();
+        let place = place_of(&self.rows, key);
+        let code = self.rows[place].1;
+        remove_from_each(&mut self.tables, &self.layout, key, &code)?;
+        self.rows.remove(place);
+        self.at += 1;
+        Ok(self)
     }
 
     /// The shard whose rows these are.
     pub fn shard(&self) -> u32
         ensures { result ≡ self.now.shard }
     {
-        match self.never {}
+        self.shard
     }
 
     /// The number of shards.
     pub fn shards(&self) -> u32
         ensures { result ≡ self.now.shards }
     {
-        match self.never {}
+        self.shards
     }
 
     /// How many entries of the history were taken in.
@@ -113,7 +201,7 @@ impl<const W: usize> Version<W> {
         ensures at { result ≡ self.now.at }
         ensures version { IsVersion self.now }
     {
-        match self.never {}
+        self.at
     }
 
     /// How many rows there are.
@@ -121,14 +209,14 @@ impl<const W: usize> Version<W> {
         ensures number { result ≡ length self.now.rows }
         ensures version { IsVersion self.now }
     {
-        match self.never {}
+        self.rows.len() as u64
     }
 
     /// Whether a key has a row.
     pub fn has_key(&self, key: u64) -> bool
         ensures { result ≡ is_some (code_at self.now.rows key) }
     {
-        match self.never {}
+        stands_at(&self.rows, place_of(&self.rows, key), key)
     }
 
     /// The layout, for whose parts there are tables.
@@ -137,16 +225,17 @@ impl<const W: usize> Version<W> {
         ensures version { IsVersion self.now }
         ensures tables { HasTables W self.now }
     {
-        match self.never {}
+        &self.layout
     }
 
-    /// The posting lists of a part: each row once, in the list of its code's value at the part.
+    /// The posting lists of a part: each row once, in the list of its code's value at the part. The same
+    /// version always gives the same lists.
     pub fn postings(&self, part: u32) -> &Postings<W>
         requires { part < length self.now.layout.parts }
         ensures table { result.now ≡ table_at self.now part }
-        ensures postings { ArePostings W self.now part result.now }
+        ensures tables { HasTables W self.now }
     {
-        match self.never {}
+        &self.tables[part as usize].postings
     }
 
     /// How many rows have each value of a part.
@@ -154,6 +243,35 @@ impl<const W: usize> Version<W> {
         requires { part < length self.now.layout.parts }
         ensures { result.now ≡ counts_of self.now part }
     {
-        match self.never {}
+        &self.tables[part as usize].counts
+    }
+
+    /// The rows of least key, so many, or all where there are fewer, in the order of their keys. Adds
+    /// one step for each.
+    ///
+    /// # Errors
+    ///
+    /// `NoMemory` where there is no memory for that many; no row is read then.
+    pub fn first_rows<M>(
+        &self,
+        n: u32,
+        steps: &mut Steps<M>,
+    ) -> Result<Vec<(u64, Code<W>)>, NoMemory>
+        ensures rows { IfOk result (λ rows. AreFirst n self.now rows.items) }
+        ensures codes { IfOk result (λ rows. AreStored W self.now.layout.bits rows.items) }
+        ensures steps { OnOk result (steps.new ≡ steps.old + min n (length self.now.rows)) }
+        ensures unread { OnErr result (steps.new ≡ steps.old) }
+    {
+        let number = self.rows.len().min(n as usize);
+        let Ok(mut first) = Vec::with_capacity(self.alloc, number) else {
+            return Err(NoMemory);
+        };
+        for i in 0..number {
+            steps.tick();
+            let Ok(()) = first.push(self.rows[i]) else {
+                unreachable!();
+            };
+        }
+        Ok(first)
     }
 }

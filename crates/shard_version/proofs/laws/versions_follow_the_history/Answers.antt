@@ -1,0 +1,12 @@
+-- The laws of versions along a history.
+use Rattle.shard_version.proofs.HistoryLemmas.{fits_shard, prefix_reached, rows_step}
+use Rattle.shard_version.proofs.laws.versions_follow_the_history.Goals as goal
+
+pub returns-clause-step : goal.returns-clause-step
+returns-clause-step c = rows_step
+
+pub returns-clause-prefix : goal.returns-clause-prefix
+returns-clause-prefix c = prefix_reached
+
+pub returns-clause-fits : goal.returns-clause-fits
+returns-clause-fits c = fits_shard
