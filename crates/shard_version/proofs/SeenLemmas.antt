@@ -1,5 +1,5 @@
 -- What is seen of a version with its posting tables.
-use Rattle.std.proofs.Common.{◌≡◌, ℕ, ◌<◌, List, length, map, get_or, [], sym, subst, arith}
+use Rattle.std.proofs.Common.{◌≡◌, ℕ, ◌<◌, List, length, get_or, [], sym, subst, arith}
 use Rattle.std.proofs.lemmas.List.{get_or-map}
 use Rattle.posting_table.specs.Tables.{Table}
 use Rattle.shard_version.specs.Contents.{Contents, IsVersion, with_tables}

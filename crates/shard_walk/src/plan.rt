@@ -157,7 +157,9 @@ impl<const W: usize> Plan<W> {
         ensures stored { IsStored W self.now result.1 }
         ensures step { steps.new ≡ steps.old + 1 }
     {
-        self.version.postings(part as u32).entry(value, place, steps)
+        self.version
+            .postings(part as u32)
+            .entry(value, place, steps)
     }
 
     // The hit of a row, if it is within the radius and the part is the first that finds it.
