@@ -125,11 +125,9 @@ impl<const W: usize> Plan<W> {
         ensures in_width { All (λ value. value < 2 ^ length (part_of self.now part)) result }
         ensures plan { IsPlan W self.now }
     {
-        Ball::new(
-            self.values[part],
-            self.version.layout().width(part as u32),
-            self.thresholds.entries()[part],
-        )
+        let width = self.version.layout().width(part as u32);
+        let radius = self.thresholds.entries()[part];
+        Ball::new(self.values[part], width, radius)
     }
 
     // How long the posting list of a part's value is.
