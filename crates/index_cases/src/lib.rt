@@ -19,6 +19,8 @@ mod plain;
 #[cfg(test)]
 mod postings;
 #[cfg(test)]
+mod range_tasks;
+#[cfg(test)]
 mod scan;
 #[cfg(test)]
 mod sources;

@@ -19,7 +19,7 @@ use std::test::Fail;
 struct Reads;
 
 // The version of a shard before any entry.
-fn empty<const W: usize, R: Abort>(
+pub(crate) fn empty<const W: usize, R: Abort>(
     rt: &R,
     alloc: Global,
     shard: u32,
@@ -37,7 +37,12 @@ fn empty<const W: usize, R: Abort>(
 }
 
 // The version after an entry that adds a row, where its key has none.
-fn add<const W: usize, R: Abort>(rt: &R, version: Version<W>, key: u64, text: &[u8]) -> Version<W>
+pub(crate) fn add<const W: usize, R: Abort>(
+    rt: &R,
+    version: Version<W>,
+    key: u64,
+    text: &[u8],
+) -> Version<W>
     requires few_words { W ≤ 8 }
 {
     stored_rows_search_alike();
