@@ -37,13 +37,7 @@ pub(crate) fn compare<R: Abort + Env>(
     let mut source = MemorySource::new(input.to_vec(alloc)?, piece, [read].to_vec(alloc)?);
     let mut sink = MemorySink::new(alloc, [write].to_vec(alloc)?);
     let mut meters: Meters<Postings> = Meters::new(rt, alloc)?;
-    let ended = run(
-        alloc,
-        words.as_slice(),
-        &mut source,
-        &mut sink,
-        &mut meters,
-    );
+    let ended = run(alloc, words.as_slice(), &mut source, &mut sink, &mut meters);
     assert_eq!(rt;
         ended,
         outcome,
