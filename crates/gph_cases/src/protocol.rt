@@ -4,12 +4,12 @@ ghost use Rattle.std.specs.Prelude.{◌≤◌, length};
 
 use line_io::LineBuf;
 use part_layout::LayoutText;
-use query_protocol::{Bad, Reply, Request, Tag, read_line, write_hit};
+use query_protocol::{Bad, Reply, Request, Tag, ThresholdList, read_line, write_hit};
 use std::test::Fail;
 
 // A line, and what it is read as where codes have 8 bits and there is one shard: the word of the request, its tag, its number
 // and its code. A line without words is nothing.
-static REQUESTS: [(&[u8], &[u8], &[u8], u64, u64); 17] = [
+static REQUESTS: [(&[u8], &[u8], &[u8], u64, u64); 20] = [
     (b"", b"", b"", 0, 0),
     (b"   ", b"", b"", 0, 0),
     (b"add 1 00", b"add", b"", 1, 0x00),
@@ -29,6 +29,9 @@ static REQUESTS: [(&[u8], &[u8], &[u8], u64, u64); 17] = [
     (b"next a 1", b"next", b"a", 1, 0),
     (b"next 9 00002", b"next", b"9", 2, 0),
     (b"next a 65536", b"next", b"a", 65536, 0),
+    (b"cost a", b"cost", b"a", 0, 0),
+    (b"plan a 0", b"plan", b"a", 0, 0),
+    (b" plan  Zz09  00", b"plan", b"Zz09", 0, 0),
     (b"layout 0", b"layout", b"", 0, 0),
     (b" layout  00 ", b"layout", b"", 0, 0),
     (b"quit", b"quit", b"", 0, 0),
@@ -36,7 +39,7 @@ static REQUESTS: [(&[u8], &[u8], &[u8], u64, u64); 17] = [
 ];
 
 // A line that is no request there, the number of its first fault, and the place of the word at fault.
-static FAULTS: [(&[u8], u8, u8); 35] = [
+static FAULTS: [(&[u8], u8, u8); 43] = [
     (b"add\t1 00", 2, 0),
     (b"\x1f", 2, 0),
     (b"jump \x7f", 2, 0),
@@ -54,6 +57,10 @@ static FAULTS: [(&[u8], u8, u8); 35] = [
     (b"range a 1 00 00", 4, 0),
     (b"next a", 4, 0),
     (b"next a 1 1", 4, 0),
+    (b"cost", 4, 0),
+    (b"cost a b", 4, 0),
+    (b"plan a", 4, 0),
+    (b"plan a 0 0", 4, 0),
     (b"layout", 4, 0),
     (b"layout 1 x", 4, 0),
     (b"quit now", 4, 0),
@@ -68,8 +75,12 @@ static FAULTS: [(&[u8], u8, u8); 35] = [
     (b"range a 1 0", 5, 4),
     (b"next a 0", 5, 3),
     (b"next a 65537", 5, 3),
+    (b"cost a_b", 5, 2),
+    (b"plan a_b x", 5, 2),
+    (b"plan a x", 5, 3),
     (b"layout x", 5, 2),
     (b"layout 000", 5, 2),
+    (b"plan a 1", 6, 0),
     (b"layout 1", 6, 0),
     (b"layout 99", 6, 0),
 ];
@@ -83,6 +94,8 @@ fn told(read: &Option<Request<1>>) -> (&[u8], &[u8], u64, u64) {
             (b"range", tag.bytes(), u64::from(*tau), code.words()[0])
         }
         Some(Request::Next { tag, count }) => (b"next", tag.bytes(), u64::from(*count), 0),
+        Some(Request::Cost { tag }) => (b"cost", tag.bytes(), 0, 0),
+        Some(Request::Plan { tag, shard }) => (b"plan", tag.bytes(), u64::from(*shard), 0),
         Some(Request::Layout { shard }) => (b"layout", b"", u64::from(*shard), 0),
         Some(Request::Quit) => (b"quit", b"", 0, 0),
     }
@@ -190,6 +203,30 @@ fn each_reply_is_its_line(rt: HostRuntime) -> Result<(), Fail> {
             Reply::Taken { key: 0, at: 10 },
             &mut line,
             b"taken 0 at 10\n"
+        )
+    );
+    assert!(rt; is_line(Reply::Full { at: 1048576 }, &mut line, b"full at 1048576\n"));
+    assert!(rt;
+        is_line(
+            Reply::Cost {
+                tag,
+                reads: 3,
+                bound: 20
+            },
+            &mut line,
+            b"cost q16 reads 3 bound 20\n"
+        )
+    );
+    assert!(rt;
+        is_line(
+            Reply::Plan {
+                tag,
+                shard: 0,
+                cost: 4,
+                thresholds: ThresholdList::new(&[-1, 0, 12])
+            },
+            &mut line,
+            b"plan q16 0 cost 4 -1 0 12\n"
         )
     );
     assert!(rt; is_line(Reply::Open { tag, at: 0 }, &mut line, b"open q16 at 0\n"));

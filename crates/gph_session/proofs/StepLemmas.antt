@@ -146,7 +146,7 @@ module _ (W : ℕ) (config : Config) (history : List JournalEntry) (s : State) (
     at_now : version.at ≡ length history
     at_now = ap (λ (v : Contents). v.at) means.version_is
 
-    added_step : (added at : ℕ) (version' : Contents) (result : Result Turn Failed) → AddsAs W version config.entries key stored (reply.Added added at) version'
+    added_step : (added at : ℕ) (version' : Contents) (result : Result Turn Failed) → AddsAs version config.entries key stored (reply.Added added at) version'
         → Writes before after result (text (reply.Added added at ∷ [])) → OneStep {A = Turn} W config history s line before after result version' queries
     added_step added at version' result adds wrote =
         let kept = kept_add W asked_now key stored read in
@@ -208,7 +208,7 @@ module _ (W : ℕ) (config : Config) (history : List JournalEntry) (s : State) (
       position = refl;
     }
 
-    add_step : (this : Reply) (version' : Contents) (result : Result Turn Failed) → AddsAs W version config.entries key stored this version'
+    add_step : (this : Reply) (version' : Contents) (result : Result Turn Failed) → AddsAs version config.entries key stored this version'
         → Writes before after result (text (this ∷ [])) → OneStep {A = Turn} W config history s line before after result version' queries
     add_step (reply.Added added at) version' result adds wrote = added_step added at version' result adds wrote
     add_step (reply.Taken taken at) version' result adds wrote =
@@ -242,7 +242,7 @@ module _ (W : ℕ) (config : Config) (history : List JournalEntry) (s : State) (
     add_step (reply.Layout shard text) version' result adds wrote = absurd adds
     add_step (reply.Bad fault) version' result adds wrote = absurd adds
 
-    pub add_turn : (this : Reply) (version' : Contents) (result : Result Turn Failed) → AddsAs W version config.entries key stored this version' → IfOk result (λ turn. turn ≡ Goes)
+    pub add_turn : (this : Reply) (version' : Contents) (result : Result Turn Failed) → AddsAs version config.entries key stored this version' → IfOk result (λ turn. turn ≡ Goes)
         → Writes before after result (reply_line this) → TurnIs result W config history s line before after version' queries
     add_turn this version' result adds goes wrote =
         turn_is result W config history s line before after version' queries goes (add_step this version' result adds (writes_one before after result this wrote))

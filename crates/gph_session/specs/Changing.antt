@@ -1,5 +1,6 @@
 -- What `add` and `range` answer, and the version and the queries that they leave. No public clause cites this module.
 use Rattle.std.specs.Prelude.{◌≡◌, ℕ, ◌<◌, ◌≤◌, ◌⊎◌, true, false, List, [], ◌∷◌, ◌++◌, length, take, None, is_some}
+use Rattle.hamming_model.specs.Codes.{StandsFor}
 use Rattle.hamming_model.specs.History.{JournalEntry, code_at}
 use Rattle.hamming_model.specs.History as journal
 use Rattle.hit_source.specs.Sources.{IsLawful}
@@ -20,15 +21,23 @@ own_code bits stored = take bits stored
 abbrev pub added_entry : ℕ → ℕ → List ℕ → JournalEntry
 added_entry bits key stored = record { who = 0; operation = journal.Add key (own_code bits stored) }
 
+-- what words keep stands for a code of a version's bits
+abbrev pub StandsIn : ℕ → Contents → List ℕ → Type 0
+StandsIn W version stored = StandsFor W version.layout.bits stored (own_code version.layout.bits stored)
+
+-- a version with one row more
+abbrev pub with_row : Contents → ℕ → List ℕ → Contents
+with_row version key stored = after_entry version (added_entry version.layout.bits key stored)
+
 -- the reply to an add where at most so many entries may stand, and the version that it leaves
-abbrev pub AddsAs : ℕ → Contents → ℕ → ℕ → List ℕ → Reply → Contents → Type 0
-AddsAs W old limit key stored (reply.Added added at) new =
-    (added ≡ key) × (code_at old.rows key ≡ None) × (old.at < limit) × (new ≡ after_entry old (added_entry old.layout.bits key stored)) × (at ≡ new.at)
-AddsAs W old limit key stored (reply.Taken taken at) new =
+abbrev pub AddsAs : Contents → ℕ → ℕ → List ℕ → Reply → Contents → Type 0
+AddsAs old limit key stored (reply.Added added at) new =
+    (added ≡ key) × (code_at old.rows key ≡ None) × (old.at < limit) × (new ≡ with_row old key stored) × (at ≡ new.at)
+AddsAs old limit key stored (reply.Taken taken at) new =
     (taken ≡ key) × (is_some (code_at old.rows key) ≡ true) × (new ≡ old) × (at ≡ old.at)
-AddsAs W old limit key stored (reply.Full at) new = (code_at old.rows key ≡ None) × (limit ≤ old.at) × (new ≡ old) × (at ≡ old.at)
-AddsAs W old limit key stored reply.NoMemory new = new ≡ old
-AddsAs W old limit key stored other new = ⊥
+AddsAs old limit key stored (reply.Full at) new = (code_at old.rows key ≡ None) × (limit ≤ old.at) × (new ≡ old) × (at ≡ old.at)
+AddsAs old limit key stored reply.NoMemory new = new ≡ old
+AddsAs old limit key stored other new = ⊥
 
 -- a query of a tag that asks for all rows of a version within a radius, of which nothing was read or given
 pub record BeginsQuery {W : ℕ} (version : Contents) (room : ℕ) (tag : List ℕ) (tau : ℕ) (stored : List ℕ) (held : OpenQuery W) : Type 0 where

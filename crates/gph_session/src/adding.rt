@@ -2,11 +2,9 @@
 
 ghost use Rattle.std.specs.Prelude.{◌≡◌, ◌*◌, ◌<◌, ◌≤◌, ℕ, IfOk, None};
 ghost use Rattle.std.specs.Arc.{arc_value};
-ghost use Rattle.hamming_model.specs.Codes.{StandsFor};
 ghost use Rattle.hamming_model.specs.History.{code_at};
-ghost use Rattle.shard_version.specs.Contents.{after_entry};
 ghost use Rattle.shard_version.specs.declared.version.TheConstants.{ENTRIES};
-ghost use Rattle.gph_session.specs.Changing.{AddsAs, added_entry, own_code};
+ghost use Rattle.gph_session.specs.Changing.{AddsAs, StandsIn, with_row};
 
 use entry_log::{Decision, Entry, Op, decide};
 use gph_codes::Code;
@@ -28,8 +26,8 @@ pub(crate) fn add<const W: usize>(
     requires few_words { W ≤ 8 }
     requires few_entries { limit ≤ ENTRIES }
     requires one_shard { (arc_value version.old).contents.shards ≡ 1 }
-    requires code { StandsFor W (arc_value version.old).contents.layout.bits code (own_code (arc_value version.old).contents.layout.bits code) }
-    ensures { AddsAs W (arc_value version.old).contents limit key code.entry result (arc_value version.new).contents }
+    requires code { StandsIn W (arc_value version.old).contents code }
+    ensures { AddsAs (arc_value version.old).contents limit key code.entry result (arc_value version.new).contents }
 {
     let op = Op::Add { key, code };
     match decide(&op, version.has_key(key), version.at(), limit) {
@@ -60,9 +58,9 @@ fn added_to<const W: usize>(
 ) -> Result<Arc<Version<W>>, NoMemory>
     requires few_words { W ≤ 8 }
     requires room { version.now.contents.at < ENTRIES }
-    requires code { StandsFor W version.now.contents.layout.bits code (own_code version.now.contents.layout.bits code) }
+    requires code { StandsIn W version.now.contents code }
     requires absent { code_at version.now.contents.rows key ≡ None }
-    ensures { IfOk result (λ next. (arc_value next).contents ≡ after_entry version.now.contents (added_entry version.now.contents.layout.bits key code.entry)) }
+    ensures { IfOk result (λ next. (arc_value next).contents ≡ with_row version.now.contents key code.entry) }
 {
     let entry = Entry {
         who: 0,

@@ -2,8 +2,7 @@
 
 ghost use Rattle.std.specs.Prelude.{◌≡◌, ◌*◌, ◌++◌, ◌≤◌, [], ◌∷◌, ℕ, OnErr, OnOk};
 ghost use Rattle.std.specs.Arc.{arc_value};
-ghost use Rattle.hamming_model.specs.Codes.{StandsFor};
-ghost use Rattle.gph_session.specs.Changing.{OpensAs, own_code};
+ghost use Rattle.gph_session.specs.Changing.{OpensAs, StandsIn};
 
 use crate::open_query::{MOST_OPEN, OpenQuery, place_of};
 use gph_codes::Code;
@@ -25,7 +24,7 @@ pub(crate) fn open<const W: usize>(
     code: Code<W>,
 ) -> Reply
     requires few_words { W ≤ 8 }
-    requires code { StandsFor W (arc_value version.now).contents.layout.bits code (own_code (arc_value version.now).contents.layout.bits code) }
+    requires code { StandsIn W (arc_value version.now).contents code }
     requires near { tau ≤ (arc_value version.now).contents.layout.bits }
     requires some_room { 1 ≤ room }
     requires small_room { room ≤ 256 }

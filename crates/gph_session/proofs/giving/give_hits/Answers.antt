@@ -10,7 +10,8 @@ returns-in-Err-clause-gives g c =
     let standing = g.H.HitSource.standing in
     let held = g.K.Sink.held in
     let i = c.loop-given.invariant in
-    let lawful = subst (λ a. IsLawful a (standing c.pop.new.self)) (c.pop.ensures.asked ∙ i.asked) c.pop.ensures.lawful in
+    let same : asked c.pop.new.self ≡ asked c.args.source.now = c.pop.ensures.asked ∙ i.asked in
+    let lawful = subst (λ a. IsLawful a (standing c.pop.new.self)) same c.pop.ensures.lawful in
     gave_part (asked c.args.source.now) c.args.tag.now c.args.count (standing c.args.source.now) (standing c.loop-given.source) (held c.args.sink.now) (held c.loop-given.sink)
     c.args.steps.now c.loop-given.steps c.loop-given.given i.reads i.number i.few i.filled i.given
     (standing c.pop.new.self) c.pop.result c.in-Some.hit c.pop.ensures.pops lawful c.in-Some.is (omega arith)
