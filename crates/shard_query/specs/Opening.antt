@@ -1,5 +1,5 @@
 -- What a range query on a version asks, and where it stands when it is opened.
-use Rattle.std.specs.Prelude.{◌≡◌, ℕ, ◌+◌, ◌*◌, ◌^◌, ◌≤◌, false, List, [], length, take, Option, None, sum_by}
+use Rattle.std.specs.Prelude.{◌≡◌, ℕ, ◌+◌, ◌*◌, ◌^◌, ◌≤◌, true, false, List, [], length, take, Option, None, sum_by}
 use Rattle.hamming_model.specs.Scan.{scan}
 use Rattle.threshold_model.specs.Vectors.{IsChoice, IsLeast, row_counts}
 use Rattle.shard_version.specs.Contents.{Contents}
@@ -29,10 +29,12 @@ pub record AsksRange (version : Contents) (query : List ℕ) (tau room : ℕ) (a
 abbrev pub values_of_parts : List (List ℕ) → ℕ
 values_of_parts parts = sum_by (λ part. 2 ^ length part) parts
 
--- a range query that has read and given nothing: its units are at most the values of all parts, twice its bound and one
+-- a range query that has read and given nothing: its units are at most the values of all parts, twice its bound and one, and where its
+-- bound is 0 it has ended
 pub record BeginsRange (version : Contents) (a : Asked) (s : Standing) : Type 0 where
   pub given : s.given ≡ 0
   pub waiting : s.waiting ≡ []
   pub reads : s.reads ≡ 0
   pub begun : s.begun ≡ None
   pub units : s.units ≤ values_of_parts version.layout.parts + 2 * a.bound None + 1
+  pub ended : a.bound None ≡ 0 → s.ended ≡ true
