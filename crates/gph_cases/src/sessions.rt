@@ -5,7 +5,7 @@ use gph_session::Outcome;
 use std::test::Fail;
 
 // What a session is about, its words, its input and its output. Rows 1 to 4 of most are at 0, 4, 8 and 1 bits from 00.
-static SESSIONS: [(&str, &str, &[u8], &[u8]); 38] = [
+static SESSIONS: [(&str, &str, &[u8], &[u8]); 43] = [
     ("an empty input gives nothing", "run --bits 8", b"", b""),
     (
         "a taken key",
@@ -262,6 +262,39 @@ static SESSIONS: [(&str, &str, &[u8], &[u8]); 38] = [
         b"jump 1\x7f\nlayout 1\x7f\njump 1 0g\nlayout x x\nadd x\nadd x 0g\nrange - 9 0\nrange a 9 0\n\
           next - 0\nlayout 100\nlayout 1\n",
         b"bad 2\nbad 2\nbad 3\nbad 4\nbad 4\nbad 5 2\nbad 5 2\nbad 5 3\nbad 5 2\nbad 5 2\nbad 6\n",
+    ),
+    (
+        "the plan and the cost of a query of radius one",
+        "run --bits 8 --parts 2",
+        b"add 1 00\nadd 2 0f\nadd 3 ff\nadd 4 01\nrange a 1 00\nnext a 10\nplan a 0\ncost a\n",
+        b"added 1 at 1\nadded 2 at 2\nadded 3 at 3\nadded 4 at 4\nopen a at 4\nhit a 0 1\n\
+          hit a 1 4\ndone a 2\nplan a 0 cost 2 -1 1\ncost a reads 2 bound 2\n",
+    ),
+    (
+        "more parts than a radius of none allows distances",
+        "run --bits 8 --parts 2",
+        b"add 1 00\nadd 2 0f\nadd 3 ff\nadd 4 01\nrange a 0 00\nnext a 5\nplan a 0\n",
+        b"added 1 at 1\nadded 2 at 2\nadded 3 at 3\nadded 4 at 4\nopen a at 4\nhit a 0 1\n\
+          done a 1\nplan a 0 cost 1 -1 0\n",
+    ),
+    (
+        "a threshold over the width of its part",
+        "run --bits 8 --parts 2",
+        b"add 1 00\nadd 2 0f\nadd 3 ff\nadd 4 01\nrange a 8 00\nnext a 9\nplan a 0\n",
+        b"added 1 at 1\nadded 2 at 2\nadded 3 at 3\nadded 4 at 4\nopen a at 4\nhit a 0 1\n\
+          hit a 1 4\nhit a 4 2\nhit a 8 3\ndone a 4\nplan a 0 cost 4 -1 8\n",
+    ),
+    (
+        "all vectors tie over no rows",
+        "run --bits 8 --parts 2",
+        b"range a 8 00\nnext a 1\nplan a 0\ncost a\n",
+        b"open a at 0\ndone a 0\nplan a 0 cost 0 -1 8\ncost a reads 0 bound 0\n",
+    ),
+    (
+        "refusals of cost and plan",
+        "run --bits 8 --parts 2",
+        b"cost\ncost a b\ncost a_\ncost a\nplan a\nplan a_ 0\nplan a 100\nplan a 1\nplan b 0\n",
+        b"bad 4\nbad 4\nbad 5 2\nbad 8\nbad 4\nbad 5 2\nbad 5 3\nbad 6\nbad 8\n",
     ),
 ];
 

@@ -1,15 +1,15 @@
 -- A range query stays one with each step of its search and each hit that is given.
-use Rattle.std.proofs.Common.{◌≡◌, ◌≢◌, ℕ, ◌+◌, ◌-◌, ◌<◌, ◌≤◌, List, [], ◌∷◌, ◌++◌, length, refl, sym, ap, ◌∙◌, subst, arith, append_assoc}
+use Rattle.std.proofs.Common.{◌≡◌, ◌≢◌, ℕ, ◌+◌, ◌<◌, ◌≤◌, List, [], ◌++◌, length, refl, sym, ap, ◌∙◌, arith, append_assoc}
 use Rattle.std.specs.Prelude.{Option, Some, None}
 use Rattle.std.specs.Option.{option_to_list}
 use Rattle.std.proofs.lemmas.List.{nil_from_length, append-nil, length-append}
 use Rattle.hamming_model.specs.declared.hit.Hit.{Hit}
 use Rattle.hamming_model.specs.Scan.{in_order}
 use Rattle.search_model.proofs.HitLemmas.{order_size}
-use Rattle.hit_source.specs.Windows.{Window, IsWindow, window_of, put_in_order, with_moved}
+use Rattle.hit_source.specs.Windows.{Window, window_of, put_in_order}
 use Rattle.shard_walk.specs.Planned.{Planned}
 use Rattle.shard_walk.specs.Walks.{Place, IsPlace, hits_left, reads_left}
-use Rattle.shard_query.specs.Tasks.{IsTask, IsSearch, scan_of, with_kept}
+use Rattle.shard_query.specs.Tasks.{IsTask, scan_of, with_kept}
 
 kept_few : (kept : Option Hit) → length (option_to_list kept) ≤ 1
 kept_few None = omega arith
@@ -36,7 +36,10 @@ module _ (p : Planned) (old new : Place) (hits : Window) (reads : ℕ) (is : IsT
         let left = search.left in
         record {
           window = record { behind = behind; among = omega arith; fits = is.window.fits };
-          some_room = is.some_room; reserved = is.reserved; few = found_more; bounded = omega arith;
+          some_room = is.some_room;
+          reserved = is.reserved;
+          few = found_more;
+          bounded = omega arith;
           search = λ again. record { place = place; left = omega arith; answer = answer_kept; none_moved = none };
           found_all = λ all. absurd (others all);
         }
@@ -54,7 +57,10 @@ module _ (p : Planned) (old new : Place) (hits : Window) (reads : ℕ) (is : IsT
         let fewer = found_more in
         record {
           window = record { behind = behind; among = omega arith; fits = is.window.fits };
-          some_room = is.some_room; reserved = is.reserved; few = omega arith; bounded = omega arith;
+          some_room = is.some_room;
+          reserved = is.reserved;
+          few = omega arith;
+          bounded = omega arith;
           search = λ again. absurd (omega arith);
           found_all = λ all. sym (ap (λ xs. in_order (found ++ xs)) nothing ∙ ap in_order (append-nil found)) ∙ answer_kept;
         }
@@ -65,7 +71,11 @@ module _ (p : Planned) (old new : Place) (hits : Window) (reads : ℕ) (is : IsT
       let search = is.search more in
       let left = search.left in
       record {
-        window = is.window; some_room = is.some_room; reserved = is.reserved; few = is.few; bounded = is.bounded;
+        window = is.window;
+        some_room = is.some_room;
+        reserved = is.reserved;
+        few = is.few;
+        bounded = is.bounded;
         search = λ again. record { place = place; left = omega arith; answer = ap (λ xs. in_order (hits.found ++ xs)) of_hits ∙ search.answer; none_moved = search.none_moved };
         found_all = λ all. absurd (omega arith);
       }

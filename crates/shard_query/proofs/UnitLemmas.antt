@@ -1,18 +1,17 @@
 -- What the units of work and a pop do to where a range query stands.
-use Rattle.std.proofs.Common.{◌≡◌, ℕ, ◌+◌, ◌-◌, ◌<◌, ◌≤◌, ◌==◌, ◌&&◌, Bool, true, false, cond, List, [], ◌∷◌, length, take, drop, refl, sym, ap, ◌∙◌, subst, arith, eq-eqb}
+use Rattle.std.proofs.Common.{◌≡◌, ℕ, ◌+◌, ◌-◌, ◌<◌, ◌≤◌, ◌==◌, ◌&&◌, Bool, true, false, cond, length, take, refl, sym, ap, ◌∙◌, subst, arith}
 use Rattle.std.specs.Prelude.{Option, Some, None}
 use Rattle.std.proofs.lemmas.Bool.{ne_eqb, eqb-true}
 use Rattle.std.proofs.lemmas.List.{length-take, drop-drop}
 use Rattle.hamming_model.specs.Scan.{hits_within}
 use Rattle.hamming_model.proofs.OrderLemmas.{Ascends, ascends_in_order}
-use Rattle.hit_source.specs.Sources.{Standing}
 use Rattle.hit_source.specs.Moves.{NotBelow, Pops, first_of}
-use Rattle.hit_source.specs.Windows.{Window, IsWindow, left_of, waiting_of, first_distance, with_moved, with_given}
+use Rattle.hit_source.specs.Windows.{Window, left_of, waiting_of, first_distance, with_moved, with_given}
 use Rattle.hit_source.specs.WindowLaws.{ascends_drop, floor_rises, rest_waits, waits, not_below_itself}
 use Rattle.hit_source.specs.Work.{Works}
 use Rattle.shard_walk.specs.Planned.{Planned, query_of}
 use Rattle.shard_walk.specs.Walks.{Place, values_left}
-use Rattle.shard_query.specs.Tasks.{IsTask, asked_of, scan_of, standing_at, standing_of, units_left}
+use Rattle.shard_query.specs.Tasks.{IsTask, asked_of, standing_at, standing_of}
 
 above_zero : (floor : Option ℕ) → NotBelow (Some 0) floor
 above_zero None = tt
@@ -65,7 +64,10 @@ module _ (p : Planned) (w : Place) (hits : Window) (reads : ℕ) (is : IsTask p 
   pub give_on : reads ≡ p.least → hits.moved < length hits.found → hits.moved < hits.given + hits.room → IsTask p w (with_moved hits) reads
   give_on all next space = record {
     window = record { behind = omega (arith, is.window.behind); among = omega arith; fits = omega arith };
-    some_room = is.some_room; reserved = is.reserved; few = is.few; bounded = is.bounded;
+    some_room = is.some_room;
+    reserved = is.reserved;
+    few = is.few;
+    bounded = is.bounded;
     search = λ more. absurd (omega arith);
     found_all = is.found_all;
   }

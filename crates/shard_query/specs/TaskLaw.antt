@@ -1,18 +1,17 @@
 -- A range query is a lawful source of hits at every moment.
-use Rattle.std.proofs.Common.{◌≡◌, ℕ, ◌+◌, ◌-◌, ◌<◌, ◌≤◌, [], ◌∷◌, length, drop, take, refl, sym, ap, ◌∙◌, subst, ⊎_elim, arith, Bool, true, false, cond}
-use Rattle.std.specs.Prelude.{◌==◌, ◌&&◌, Some, None, All}
+use Rattle.std.proofs.Common.{◌≡◌, ℕ, ◌+◌, ◌<◌, ◌≤◌, length, drop, take, sym, ap, ◌∙◌, subst, ⊎_elim, arith, true, false}
+use Rattle.std.specs.Prelude.{◌==◌}
 use Rattle.std.proofs.lemmas.List.{nil_from_length}
 use Rattle.std.proofs.lemmas.Bool.{cases_lt, eqb-true, eq-eqb, ne_eqb}
-use Rattle.hamming_model.specs.declared.hit.Hit.{Hit}
-use Rattle.hamming_model.specs.Scan.{hits_within, in_order}
+use Rattle.hamming_model.specs.Scan.{hits_within}
 use Rattle.hamming_model.proofs.OrderLemmas.{Ascends, ascends_in_order}
-use Rattle.hit_source.specs.Sources.{Asked, Standing, IsLawful, IsFloor, IsEnd, reached}
-use Rattle.hit_source.specs.Windows.{Window, IsWindow, left_of, waiting_of, first_distance}
+use Rattle.hit_source.specs.Sources.{IsLawful}
+use Rattle.hit_source.specs.Windows.{Window, waiting_of}
 use Rattle.hit_source.specs.WindowLaws.{waits, window_prefix}
 use Rattle.hit_source.specs.ListedLaw.{window_floor}
 use Rattle.shard_walk.specs.Planned.{Planned, query_of}
 use Rattle.shard_walk.specs.Walks.{Place}
-use Rattle.shard_query.specs.Tasks.{IsTask, IsSearch, scan_of, asked_of, standing_at, standing_of, units_left}
+use Rattle.shard_query.specs.Tasks.{IsTask, scan_of, asked_of, standing_at, standing_of, units_left}
 
 module _ (p : Planned) (w : Place) (hits : Window) (reads : ℕ) (is : IsTask p w hits reads) where
   given_or_waiting : hits.given + length (waiting_of hits) ≡ hits.moved

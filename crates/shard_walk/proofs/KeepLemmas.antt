@@ -1,15 +1,14 @@
 -- Which part keeps a row.
-use Rattle.std.proofs.Common.{◌≡◌, ◌≢◌, ℕ, suc, ◌+◌, ◌<◌, ◌≤◌, ◌==◌, ◌&&◌, nat_lt, Bool, true, false, cond, ℤ, pos, negsuc, List, [], ◌∷◌, length, map, drop, get_or, refl, sym, ap, ◌∙◌, arith, eq-eqb}
-use Rattle.std.specs.Prelude.{nat_le, Option, Some, None}
+use Rattle.std.proofs.Common.{◌≡◌, ◌≢◌, ℕ, ◌+◌, ◌<◌, ◌≤◌, ◌==◌, ◌&&◌, nat_lt, Bool, true, false, cond, negsuc, List, [], ◌∷◌, length, map, drop, get_or, refl, sym, ap, ◌∙◌, arith, eq-eqb}
+use Rattle.std.specs.Prelude.{nat_le, Some, None}
 use Rattle.std.proofs.lemmas.Bool.{ne_eqb}
 use Rattle.std.proofs.lemmas.Bool.Decides.{nat_tests}
 use Rattle.std.proofs.lemmas.List.{drop_more, drop_all, get_or-map, length-map}
-use Rattle.hamming_model.specs.declared.hit.Hit.{Hit}
 use Rattle.hamming_model.specs.Codes.{distance}
 use Rattle.hamming_model.specs.Layouts.{part_distance}
 use Rattle.threshold_model.specs.Vectors.{units_of}
 use Rattle.threshold_model.specs.Finding.{first_part, part_distances, threshold_at}
-use Rattle.shard_walk.specs.Planned.{Planned, parts_of, part_of, query_of, is_found, part_found, kept_hit}
+use Rattle.shard_walk.specs.Planned.{Planned, parts_of, query_of, is_found, part_found, kept_hit}
 
 first_cut : (us ds : List ℕ) (i u d : ℕ) (later_us later_ds : List ℕ) → drop i us ≡ u ∷ later_us → drop i ds ≡ d ∷ later_ds
     → first_part (drop i us) (drop i ds) ≡ cond (nat_lt d u) 0 (first_part later_us later_ds + 1)

@@ -1,11 +1,11 @@
 -- The values that a plan keeps are those of its query.
-use Rattle.std.proofs.Common.{◌≡◌, ℕ, ◌+◌, ◌^◌, ◌<◌, ◌≤◌, nat_lt, Bool, ℤ, pos, ◌≤ℤ◌, List, [], length, take, get_or, refl, sym, ap, ◌∙◌, subst, arith}
+use Rattle.std.proofs.Common.{◌≡◌, ℕ, ◌+◌, ◌^◌, ◌<◌, ◌≤◌, nat_lt, ℤ, pos, ◌≤ℤ◌, List, [], length, take, get_or, sym, ap, ◌∙◌, subst, arith}
 use Rattle.std.specs.Global.{Vec}
 use Rattle.std.specs.List.{All}
 use Rattle.std.proofs.lemmas.List.{get_or_read}
 use Rattle.hamming_model.specs.Codes.{IsCode, StandsFor}
 use Rattle.hamming_model.specs.Layouts.{bits_at, part_value, part_distance}
-use Rattle.part_layout.specs.Laid.{Laid, IsValue, part_at}
+use Rattle.part_layout.specs.Laid.{Laid, IsValue}
 use Rattle.ball_walk.specs.Balls.{value_distance}
 use Rattle.ball_walk.proofs.DigitLemmas.{distance_codes}
 use Rattle.threshold_model.specs.Vectors.{units_of, row_counts, IsVector, IsChoice, IsLeast}
@@ -58,7 +58,13 @@ plan_kept words version stored values tau least parts thresholds table most rows
     let of_least = least_agrees most (count_in table tau) count tau (length version.contents.layout.parts) agree least (subst (λ n. IsLeast (count_in table tau) tau n least) number is_least) in
     record {
       plan = record {
-        few_words = few_words; version = is_version; tables = tables; query = query; near = near; choice = of_choice; least = of_least;
+        few_words = few_words;
+        version = is_version;
+        tables = tables;
+        query = query;
+        near = near;
+        choice = of_choice;
+        least = of_least;
         few = rows_most version.contents.rows version.contents.layout.parts (take version.contents.layout.bits stored) tau least is_version.laid.layout.some_part of_least;
       };
       values_are = are_values;

@@ -1,13 +1,13 @@
 -- What a walk that has read nothing will read and keep.
-use Rattle.std.proofs.Common.{◌≡◌, ℕ, zero, suc, ◌+◌, ◌^◌, ◌<◌, ◌≤◌, ℤ, List, [], ◌∷◌, length, drop, sum_by, refl, sym, ap, ◌∙◌, arith}
+use Rattle.std.proofs.Common.{◌≡◌, ℕ, ◌^◌, ◌≤◌, ℤ, List, [], ◌∷◌, length, sum_by, sym, ◌∙◌, arith}
 use Rattle.std.specs.List.{range_with_len}
 use Rattle.std.proofs.lemmas.List.FromFn.{length-range_with_len}
 use Rattle.std.proofs.lemmas.List.Sums.{sum_by-cons, length-filter, count_by-le-length}
 use Rattle.hamming_model.specs.Layouts.{part_value}
 use Rattle.ball_walk.specs.Balls.{ball, values, values_near, is_near}
-use Rattle.threshold_model.specs.Vectors.{units_of, cost, row_counts}
+use Rattle.threshold_model.specs.Vectors.{units_of, cost}
 use Rattle.search_model.proofs.SameLemmas.{sum_ones}
-use Rattle.shard_walk.specs.Planned.{Planned, IsPlan, parts_of, query_of, counts_round}
+use Rattle.shard_walk.specs.Planned.{Planned, IsPlan, counts_round}
 use Rattle.shard_walk.specs.Walks.{values_of, all_values}
 
 near_few : (value width units : ℕ) → length (values_near value width units) ≤ 2 ^ width

@@ -1,5 +1,5 @@
 -- Tables of counts, row by row.
-use Rattle.std.proofs.Common.{◌≡◌, ℕ, ◌+◌, ◌<◌, ◌≤◌, min, List, [], ◌∷◌, ◌++◌, length, map, get_or, refl, sym, ap, ◌∙◌, subst, ⊎_elim, arith}
+use Rattle.std.proofs.Common.{◌≡◌, ℕ, ◌+◌, ◌<◌, ◌≤◌, min, List, [], ◌∷◌, ◌++◌, length, get_or, sym, ap, ◌∙◌, subst, ⊎_elim, arith}
 use Rattle.std.proofs.lemmas.Bool.{cases_lt}
 use Rattle.std.proofs.lemmas.List.{get_or-map, get_or_append_left, get_or_push, map_push, length-map, length_push}
 use Rattle.std.specs.Global.{Vec}
@@ -63,7 +63,8 @@ pub rows_more : (old new : List (Vec ℕ)) (row : Vec ℕ) (tau part : ℕ) (cou
     → length row.items ≡ tau + 2 → ((units : ℕ) → units ≤ tau + 1 → get_or row.items units 0 ≡ count part units)
     → (length new ≡ part + 1) × AreWide new tau × HasCounts new tau count
 rows_more old new row tau part count is_new size wide counts row_size of_row =
-    let new_size = ap length is_new ∙ length_push old row in
-    (omega arith,
-    subst (λ table. AreWide table tau) (sym is_new) (wide_more old row tau wide row_size),
-    subst (λ table. HasCounts table tau count) (sym is_new) (counts_more old row tau count counts (λ units few. of_row units few ∙ ap (λ n. count n units) (sym size))))
+    let new_size = ap length is_new ∙ length_push old row in (
+      omega arith,
+      subst (λ table. AreWide table tau) (sym is_new) (wide_more old row tau wide row_size),
+      subst (λ table. HasCounts table tau count) (sym is_new) (counts_more old row tau count counts (λ units few. of_row units few ∙ ap (λ n. count n units) (sym size))),
+    )

@@ -1,17 +1,16 @@
 -- The steps of a walk: what is left to read, to keep and to go over.
-use Rattle.std.proofs.Common.{◌≡◌, ℕ, zero, suc, ◌+◌, ◌^◌, ◌<◌, ◌≤◌, Bool, true, false, cond, ℤ, negsuc, List, [], ◌∷◌, ◌++◌, length, map, filter, take, drop, get_or, All, refl, sym, ap, ◌∙◌, subst, ⊎_elim, arith}
+use Rattle.std.proofs.Common.{◌≡◌, ℕ, ◌+◌, ◌^◌, ◌<◌, ◌≤◌, Bool, true, false, cond, negsuc, List, [], ◌∷◌, ◌++◌, length, map, filter, take, drop, get_or, All, refl, sym, ap, ◌∙◌, ⊎_elim, arith}
 use Rattle.std.proofs.lemmas.Bool.{cases_lt}
-use Rattle.std.specs.Prelude.{Option, Some, None}
+use Rattle.std.specs.Prelude.{Some, None}
 use Rattle.std.specs.Option.{option_to_list}
 use Rattle.std.specs.List.{flat_map}
-use Rattle.std.proofs.lemmas.List.{drop_more, drop_all, take_all, get_or-take, length-take-le, length-take}
-use Rattle.hamming_model.specs.declared.hit.Hit.{Hit}
+use Rattle.std.proofs.lemmas.List.{drop_more, drop_all, take_all, get_or-take, length-take-le}
 use Rattle.hamming_model.specs.Scan.{hit_of}
 use Rattle.threshold_model.specs.Finding.{threshold_at}
 use Rattle.search_model.specs.Reading.{parts_read, number_read}
-use Rattle.search_model.specs.Keeping.{is_kept, hits_kept, hits_of_parts}
+use Rattle.search_model.specs.Keeping.{is_kept, hits_of_parts}
 use Rattle.shard_walk.specs.Planned.{Planned, parts_of, part_of, query_of, list_of, kept_hit}
-use Rattle.shard_walk.specs.Walks.{Place, IsPlace, BeginsValue, PassesPart, ball_of, part_begun, value_begun, after_posting, rest_of_list, rows_left, reads_left, hits_left, values_of, values_left}
+use Rattle.shard_walk.specs.Walks.{Place, IsPlace, BeginsValue, PassesPart, part_begun, value_begun, after_posting, rest_of_list, rows_left, reads_left, hits_left, values_of, values_left}
 
 kept_or_passed : {X Y : Type 0} (b : Bool) (h : X → Y) (x : X) (xs : List X) (rest : List Y)
     → map h (cond b (x ∷ xs) xs) ++ rest ≡ option_to_list (cond b (Some (h x)) None) ++ (map h xs ++ rest)

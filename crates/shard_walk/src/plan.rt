@@ -125,11 +125,9 @@ impl<const W: usize> Plan<W> {
         ensures in_width { All (λ value. value < 2 ^ length (part_of self.now part)) result }
         ensures plan { IsPlan W self.now }
     {
-        Ball::new(
-            self.values[part],
-            self.version.layout().width(part as u32),
-            self.thresholds.entries()[part],
-        )
+        let width = self.version.layout().width(part as u32);
+        let radius = self.thresholds.entries()[part];
+        Ball::new(self.values[part], width, radius)
     }
 
     // How long the posting list of a part's value is.
@@ -157,7 +155,9 @@ impl<const W: usize> Plan<W> {
         ensures stored { IsStored W self.now result.1 }
         ensures step { steps.new ≡ steps.old + 1 }
     {
-        self.version.postings(part as u32).entry(value, place, steps)
+        self.version
+            .postings(part as u32)
+            .entry(value, place, steps)
     }
 
     // The hit of a row, if it is within the radius and the part is the first that finds it.

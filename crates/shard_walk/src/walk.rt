@@ -57,11 +57,7 @@ impl Walk {
     }
 
     /// Reads the next posting of its posting list, for one step, and gives its hit if its part keeps it.
-    pub fn read<const W: usize, L>(
-        &mut self,
-        plan: &Plan<W>,
-        steps: &mut Steps<L>,
-    ) -> Option<Hit>
+    pub fn read<const W: usize, L>(&mut self, plan: &Plan<W>, steps: &mut Steps<L>) -> Option<Hit>
         requires place { IsPlace plan.now self.old }
         requires posting { self.old.next < self.old.size }
         ensures place { IsPlace plan.now self.new }

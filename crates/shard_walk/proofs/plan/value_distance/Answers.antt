@@ -1,4 +1,4 @@
-use Rattle.std.proofs.Common.{refl, ◌<◌, ◌^◌, arith}
+use Rattle.std.proofs.Common.{refl}
 use Rattle.std.proofs.lemmas.Nat.{ones-le, xor_lt}
 use Rattle.std.specs.Int.RustNames.{bit_xor}
 use Rattle.ball_walk.specs.Balls.{value_distance}

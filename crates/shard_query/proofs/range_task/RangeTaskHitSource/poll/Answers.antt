@@ -1,8 +1,6 @@
 -- A poll is units of work, which stop before the budget only where none can be done; and the query is lawful.
-use Rattle.std.proofs.Common.{◌≡◌, ℕ, ◌+◌, ◌∙◌, refl, ap, arith, inl, inr}
+use Rattle.std.proofs.Common.{◌+◌, ◌∙◌, refl, arith, inl, inr}
 use Rattle.hit_source.proofs.WorkLemmas.{works_again, polls_by_work}
-use Rattle.shard_walk.specs.Planned.{Planned}
-use Rattle.shard_query.specs.Tasks.{asked_of}
 use Rattle.shard_query.specs.TaskLaw.{task_lawful}
 use Rattle.shard_query.proofs.UnitLemmas.{asked_alike}
 use Rattle.shard_query.proofs.range_task.RangeTaskHitSource.poll.Goals as goal

@@ -1,11 +1,10 @@
-use Rattle.std.proofs.Common.{◌≡◌, ◌+◌, length, take, get_or, refl, sym, ap, ◌∙◌, subst, arith, rules}
+use Rattle.std.proofs.Common.{◌≡◌, ◌+◌, length, take, get_or, refl, ap, ◌∙◌, arith}
 use Rattle.std.specs.Vec.{with_items, vec_len}
 use Rattle.std.proofs.lemmas.List.{with_items_is}
 use Rattle.part_layout.specs.Laid.{Laid, part_at}
 use Rattle.count_table.specs.Copies.{CopyTable, count_near}
 use Rattle.shard_version.specs.Tables.{part_values, counts_of}
 use Rattle.threshold_model.specs.Vectors.{row_counts}
-use Rattle.shard_walk.specs.Counted.{AreWide, HasCounts}
 use Rattle.shard_walk.proofs.PlanLemmas.{value_small}
 use Rattle.shard_walk.proofs.TableLemmas.{rows_more, table_lawful}
 use Rattle.shard_walk.proofs.part_table.PartTable.of.Goals as goal
@@ -14,8 +13,10 @@ pub levels-requires : goal.levels-requires
 levels-requires g c =
     let number = c.parts-parts.ensures.number ∙ ap (λ (l : Laid). length l.parts) (c.deref.ensures ∙ c.layout.ensures.layout) in
     let width = ap (λ (t : CopyTable). t.width) c.counts.ensures ∙ c.changes_follow_a_list.ensures.width (length (part_at c.args.version.now.contents.layout c.loop-part.part)) (part_values c.args.version.now.contents.rows (part_at c.args.version.now.contents.layout c.loop-part.part)) in
-    record { in_width = value_small c.args.version.now.contents.layout.bits c.args.version.now.contents.layout.parts (take c.args.version.now.contents.layout.bits c.args.query.now) c.args.values.now c.loop-part.part
-        (get_or c.args.values.now c.loop-part.part 0) c.counts.result.now.width c.requires.query.is_code c.requires.values (omega arith) refl width }
+    record {
+      in_width = value_small c.args.version.now.contents.layout.bits c.args.version.now.contents.layout.parts (take c.args.version.now.contents.layout.bits c.args.query.now) c.args.values.now c.loop-part.part
+          (get_or c.args.values.now c.loop-part.part 0) c.counts.result.now.width c.requires.query.is_code c.requires.values (omega arith) refl width;
+    }
 
 pub loop-part-preserved : goal.loop-part-preserved
 loop-part-preserved g c =
@@ -35,7 +36,9 @@ loop-part-preserved g c =
 
 pub invariant_of-result : goal.invariant_of-result
 invariant_of-result g c =
-    record { counts = table_lawful c.loop-part.rows.items c.args.tau
-        (row_counts c.args.version.now.contents.rows c.args.version.now.contents.layout.parts (take c.args.version.now.contents.layout.bits c.args.query.now)) c.loop-part.invariant.1 c.loop-part.invariant.2
-        (c.counts_of_rows_are_lawful.ensures.starts c.args.version.now.contents.rows c.args.version.now.contents.layout.parts (take c.args.version.now.contents.layout.bits c.args.query.now))
-        (c.counts_of_rows_are_lawful.ensures.rises c.args.version.now.contents.rows c.args.version.now.contents.layout.parts (take c.args.version.now.contents.layout.bits c.args.query.now)) }
+    record {
+      counts = table_lawful c.loop-part.rows.items c.args.tau
+          (row_counts c.args.version.now.contents.rows c.args.version.now.contents.layout.parts (take c.args.version.now.contents.layout.bits c.args.query.now)) c.loop-part.invariant.1 c.loop-part.invariant.2
+          (c.counts_of_rows_are_lawful.ensures.starts c.args.version.now.contents.rows c.args.version.now.contents.layout.parts (take c.args.version.now.contents.layout.bits c.args.query.now))
+          (c.counts_of_rows_are_lawful.ensures.rises c.args.version.now.contents.rows c.args.version.now.contents.layout.parts (take c.args.version.now.contents.layout.bits c.args.query.now));
+    }

@@ -1,4 +1,4 @@
-use Rattle.std.proofs.Common.{◌≡◌, ◌+◌, ◌≤◌, length, take}
+use Rattle.std.proofs.Common.{◌≡◌, length, take}
 use Rattle.threshold_model.specs.Vectors.{row_counts}
 use Rattle.shard_walk.specs.Counted.{AreWide, HasCounts}
 use Rattle.shard_walk.proofs.part_table.PartTable.of.Given as goal

@@ -1,4 +1,4 @@
-use Rattle.std.proofs.Common.{◌≡◌, ◌+◌, length, sym, subst, ◌∙◌, arith, rules}
+use Rattle.std.proofs.Common.{sym, subst, ◌∙◌, arith}
 use Rattle.shard_walk.specs.Planned.{code_of}
 use Rattle.shard_walk.specs.Inside.{IsKept}
 use Rattle.shard_walk.proofs.KeepLemmas.{found_here, found_later}

@@ -1,4 +1,4 @@
-use Rattle.std.proofs.Common.{◌≡◌, ◌+◌, sym, ap, ◌∙◌, subst, arith, rules}
+use Rattle.std.proofs.Common.{sym, ap, ◌∙◌, subst, arith}
 use Rattle.hamming_model.specs.Codes.{distance}
 use Rattle.shard_walk.specs.Planned.{code_of, query_of}
 use Rattle.shard_walk.specs.Inside.{IsKept}

@@ -1,4 +1,4 @@
-use Rattle.std.proofs.Common.{◌≡◌, ◌+◌, ◌<◌, ◌≤◌, refl, length, take, sym, ap, ◌∙◌, subst, arith, rules}
+use Rattle.std.proofs.Common.{length, take, ap, ◌∙◌, subst, arith, rules}
 use Rattle.std.specs.Arc.{arc_value}
 use Rattle.shard_version.specs.Contents.{IsVersion}
 use Rattle.shard_version.specs.Tables.{Tabled, HasTables}
@@ -13,7 +13,7 @@ of-requires g c =
     let is_version : IsVersion (arc_value c.args.version).contents = subst (λ (one : Tabled). IsVersion one.contents) c.deref.ensures c.in_ok-values.ensures.version in
     let few = is_version.laid.allowed.few in
     let values : AreValues (arc_value c.args.version).contents.layout.parts (take (arc_value c.args.version).contents.layout.bits c.args.query) c.in_ok-values.values.items =
-        subst (λ v. AreValues v.contents.layout.parts (take v.contents.layout.bits c.args.query) c.in_ok-values.values.items) c.deref.ensures c.in_ok-values.ensures.values in
+    subst (λ v. AreValues v.contents.layout.parts (take v.contents.layout.bits c.args.query) c.in_ok-values.values.items) c.deref.ensures c.in_ok-values.ensures.values in
     rw (c.deref-2.ensures, c.as_slice.ensures.value) (omega arith, (search rules, (omega arith, (c.requires.query, values))))
 
 pub reserve-requires-clause-some : goal.reserve-requires-clause-some
@@ -35,7 +35,7 @@ invariant_of-result g c =
     let is_version : IsVersion (arc_value c.args.version).contents = subst (λ (one : Tabled). IsVersion one.contents) c.deref.ensures c.in_ok-values.ensures.version in
     let tables : HasTables g.row.W (arc_value c.args.version) = subst (HasTables g.row.W) c.deref.ensures c.in_ok-values.ensures.tables in
     let values : AreValues (arc_value c.args.version).contents.layout.parts (take (arc_value c.args.version).contents.layout.bits c.args.query) c.in_ok-values.values.items =
-        subst (λ v. AreValues v.contents.layout.parts (take v.contents.layout.bits c.args.query) c.in_ok-values.values.items) c.deref.ensures c.in_ok-values.ensures.values in
+    subst (λ v. AreValues v.contents.layout.parts (take v.contents.layout.bits c.args.query) c.in_ok-values.values.items) c.deref.ensures c.in_ok-values.ensures.values in
     let number = values.number in
     let counts = subst (λ v. HasCounts c.in_ok-counts.counts.rows.items c.args.tau (row_counts v.contents.rows v.contents.layout.parts (take v.contents.layout.bits c.args.query))) c.deref-2.ensures c.in_ok-counts.ensures.counts in
     let choice = subst (λ tau. IsChoice (count_in c.in_ok-counts.counts.rows.items tau) c.args.tau c.len-parts.result c.allocate-least.new.out.entries) c.in_ok-counts.ensures.tau c.allocate-least.ensures.choice in

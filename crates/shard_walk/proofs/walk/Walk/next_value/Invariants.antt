@@ -1,4 +1,4 @@
-use Rattle.std.proofs.Common.{◌≡◌, ◌-◌, ◌<◌, length}
+use Rattle.std.proofs.Common.{◌≡◌, ◌-◌, length}
 use Rattle.shard_walk.specs.Planned.{parts_of}
 use Rattle.shard_walk.specs.Walks.{IsPlace, hits_left, reads_left, values_left}
 use Rattle.shard_walk.proofs.walk.Walk.next_value.Given as goal

@@ -1,7 +1,5 @@
-use Rattle.std.proofs.Common.{◌≡◌, ◌+◌, ◌<◌, ◌≤◌, length, sym, ap, ◌∙◌, subst, ⊎_elim, arith, rules}
-use Rattle.std.proofs.lemmas.Bool.{cases_lt}
-use Rattle.shard_walk.specs.Planned.{parts_of}
-use Rattle.shard_walk.specs.Walks.{Place, IsPlace, PassesPart, part_begun, hits_left, reads_left, values_left}
+use Rattle.std.proofs.Common.{◌+◌, sym, ap, ◌∙◌, subst, arith, rules}
+use Rattle.shard_walk.specs.Walks.{Place, IsPlace, PassesPart, part_begun}
 use Rattle.shard_walk.proofs.WalkLemmas.{more_parts, passes}
 use Rattle.shard_walk.proofs.walk.Walk.pass_part.Goals as goal
 

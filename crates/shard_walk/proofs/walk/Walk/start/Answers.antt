@@ -1,9 +1,9 @@
-use Rattle.std.proofs.Common.{◌≡◌, ◌+◌, ◌≤◌, drop, refl, sym, ap, ◌∙◌, subst, arith, rules}
+use Rattle.std.proofs.Common.{sym, ap, ◌∙◌, arith}
 use Rattle.hamming_model.specs.Scan.{in_order}
 use Rattle.search_model.specs.Reading.{number_read, parts_read}
 use Rattle.search_model.specs.Keeping.{hits_of_parts}
 use Rattle.shard_walk.specs.Planned.{parts_of, query_of, list_of}
-use Rattle.shard_walk.specs.Walks.{part_begun, hits_left, reads_left, values_left, all_values}
+use Rattle.shard_walk.specs.Walks.{hits_left, reads_left, values_left}
 use Rattle.shard_walk.proofs.WalkLemmas.{begun_rows, begun_values}
 use Rattle.shard_walk.proofs.StartLemmas.{values_few, least_is_cost}
 use Rattle.shard_walk.proofs.walk.Walk.start.Goals as goal
