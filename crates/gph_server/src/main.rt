@@ -1,4 +1,4 @@
-//! `gph`: main. It hands the words after the program's name, standard input and standard output to the top call, and tells by
+//! `gph`: main. It hands the words after the program's name, standard input and output and ledgers to the top call, and tells by
 //! the status and one line on standard error how that ended.
 #![tactic(auto)]
 
