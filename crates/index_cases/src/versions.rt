@@ -100,9 +100,9 @@ fn compare_value<const W: usize, R: Abort>(
     rows: &[(u64, Code<W>)],
 )
     requires few_words { W ≤ 8 }
-    requires part { part < length version.now.layout.parts }
-    requires value { value < 2 ^ length (part_at version.now.layout part) }
-    requires room { version.now.layout.bits ≤ 64 * W }
+    requires part { part < length version.now.contents.layout.parts }
+    requires value { value < 2 ^ length (part_at version.now.contents.layout part) }
+    requires room { version.now.contents.layout.bits ≤ 64 * W }
 {
     changes_follow_a_list();
     let list = version.postings(part).len(value) as usize;
