@@ -22,8 +22,7 @@ fn insert_new<const W: usize, R: Abort>(
     ensures { table.new.width ≡ table.old.width }
 {
     let had = table.remove(value, key).expect(rt, "memory to look");
-    assert!(rt; !had);
-    assert!(rt; table.len(value) < 1_048_576);
+    assert!(rt; !had && table.len(value) < 1_048_576);
     table
         .insert(value, key, code)
         .expect(rt, "memory to insert");

@@ -98,6 +98,21 @@ fn compare<R: Abort>(
 // How many hits the room has, and a budget.
 static ROOMS: [(usize, u32); 5] = [(1, 1), (1, 1000), (2, 3), (256, 1), (256, 1000)];
 
+// Compares the plan of a query on the worked rows.
+fn compare_plan<R: Abort>(
+    rt: &R,
+    alloc: Global,
+    version: &Arc<Version<1>>,
+    tau: u32,
+    vector: &[i32],
+    least: u64,
+) -> Result<(), NoMemory> {
+    let mut task = open(rt, alloc, version, 0, tau, 1)?;
+    let is_planned = task.plan(None) == least && task.thresholds() == vector && !task.near();
+    assert!(rt; is_planned, "tau {tau}");
+    Ok(())
+}
+
 // Compares the plan, the reads and the hits of a query on the worked rows, in small and large steps.
 fn follow<R: Abort>(
     rt: &R,
@@ -105,13 +120,11 @@ fn follow<R: Abort>(
     version: &Arc<Version<1>>,
     tau: u32,
     steps: &mut Steps<Reads>,
-    vector: [i32; 2],
+    vector: &[i32],
     least: u64,
     want: &[Hit],
 ) -> Result<(), NoMemory> {
-    let mut task = open(rt, alloc, version, 0, tau, 1)?;
-    let is_planned = task.plan(None) == least && task.thresholds() == vector.as_slice();
-    assert!(rt; is_planned && !task.near(), "tau {tau}");
+    compare_plan(rt, alloc, version, tau, vector, least)?;
     for &(room, budget) in &ROOMS {
         let reads = compare(rt, alloc, version, 0, tau, room, budget, steps, want)?;
         assert!(rt; reads == least, "tau {tau} room {room} budget {budget}");
@@ -130,11 +143,11 @@ fn the_worked_rows_are_answered_by_the_cheapest_vector(rt: HostRuntime) -> Resul
         Hit { dist: 4, key: 2 },
         Hit { dist: 8, key: 3 },
     ];
-    follow(&rt, alloc, &version, 0, &mut steps, [-1, 0], 1, &all[..1])?;
-    follow(&rt, alloc, &version, 1, &mut steps, [-1, 1], 2, &all[..2])?;
-    follow(&rt, alloc, &version, 8, &mut steps, [-1, 8], 4, &all)?;
+    follow(&rt, alloc, &version, 0, &mut steps, &[-1, 0], 1, &all[..1])?;
+    follow(&rt, alloc, &version, 1, &mut steps, &[-1, 1], 2, &all[..2])?;
+    follow(&rt, alloc, &version, 8, &mut steps, &[-1, 8], 4, &all)?;
     let none = version_of(&rt, alloc, 2, &[])?;
-    follow(&rt, alloc, &none, 8, &mut steps, [-1, 8], 0, &[])?;
+    follow(&rt, alloc, &none, 8, &mut steps, &[-1, 8], 0, &[])?;
     Ok(())
 }
 

@@ -199,6 +199,28 @@ fn a_list_has_one_plan(rt: HostRuntime) -> Result<(), Fail> {
     Ok(())
 }
 
+// Compares what draining hits at these distances takes with the hits in their order.
+fn compare_drained<R: Abort>(
+    rt: &R,
+    alloc: Global,
+    steps: &mut Steps<Reads>,
+    room: usize,
+    budget: u32,
+    distances: &[u32],
+) -> Result<(), Fail>
+    requires some_room { 1 ≤ room }
+    requires small_room { room ≤ 256 }
+    requires budget { 1 ≤ budget }
+{
+    let want = hits_at(alloc, distances)?;
+    let mut source = ListedHits::new(hits_at(alloc, distances)?, room);
+    let mut out = Vec::new(alloc);
+    drain(&mut source, budget, steps, &mut out)?;
+    let is_drained = out == want && source.floor().is_none();
+    assert!(rt; is_drained, "a room of {room} and a budget of {budget}");
+    Ok(())
+}
+
 static ROOMS: [usize; 5] = [1, 2, 3, 7, 256];
 
 static BUDGETS: [u32; 4] = [1, 2, 5, 64];
@@ -214,12 +236,7 @@ fn draining_takes_each_hit_in_order(rt: HostRuntime) -> Result<(), Fail> {
                 seed = after(seed);
                 distances[place] = (seed >> 61) as u32;
             }
-            let want = hits_at(rt.alloc(), &distances)?;
-            let mut source = ListedHits::new(hits_at(rt.alloc(), &distances)?, room);
-            let mut out = Vec::new(rt.alloc());
-            drain(&mut source, budget, &mut steps, &mut out)?;
-            assert!(rt; out == want, "a room of {room} and a budget of {budget}");
-            assert!(rt; source.floor().is_none());
+            compare_drained(&rt, rt.alloc(), &mut steps, room, budget, &distances)?;
         }
     }
     Ok(())
