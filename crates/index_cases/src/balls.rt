@@ -44,36 +44,42 @@ fn compare<R: Abort>(
     let want = sorted_scan(alloc, value, width, radius)?;
     let mut ball = Ball::new(value, width, radius);
     for pair in &want {
-        assert_eq!(rt; ball.next(), Some(pair.1), "{value} {width} {radius}");
+        let is_next = ball.next() == Some(pair.1);
+        assert!(rt; is_next, "{value} {width} {radius}");
     }
-    assert_eq!(rt; ball.next(), None, "{value} {width} {radius}");
-    assert_eq!(rt; ball.next(), None, "{value} {width} {radius}");
+    let has_ended = ball.next().is_none() && ball.next().is_none();
+    assert!(rt; has_ended, "{value} {width} {radius}");
     Ok(())
+}
+
+// Whether the ball round 10 with two bits has these values in this order.
+fn is_ball(radius: i32, want: &[u16]) -> bool
+    requires radius { negsuc 0 ≤ℤ radius }
+{
+    let mut ball = Ball::new(0b10, 2, radius);
+    for value in want {
+        if ball.next() != Some(*value) {
+            return false;
+        }
+    }
+    ball.next().is_none()
 }
 
 #[test]
 fn a_ball_comes_by_distance_and_then_by_value(rt: HostRuntime) {
-    let rows: [(i32, &[u16]); 5] = [
-        (-1, &[]),
-        (0, &[2]),
-        (1, &[2, 0, 3]),
-        (2, &[2, 0, 3, 1]),
-        (9, &[2, 0, 3, 1]),
-    ];
-    for (radius, want) in rows {
-        assert!(rt; radius >= -1);
-        let mut ball = Ball::new(0b10, 2, radius);
-        for value in want {
-            assert_eq!(rt; ball.next(), Some(*value), "radius {radius}");
-        }
-        assert_eq!(rt; ball.next(), None, "radius {radius}");
-    }
+    assert!(rt; is_ball(-1, &[]));
+    assert!(rt; is_ball(0, &[2]));
+    assert!(rt; is_ball(1, &[2, 0, 3]));
+    assert!(rt; is_ball(2, &[2, 0, 3, 1]));
+    assert!(rt; is_ball(9, &[2, 0, 3, 1]));
 }
+
+static PATTERNS: [u16; 4] = [0, 1, 0b1010_0101_1010, 0b1111_1111_1111];
 
 #[test]
 fn a_ball_has_what_a_scan_of_all_values_has(rt: HostRuntime) -> Result<(), Fail> {
     for width in 1..13u32 {
-        for pattern in [0u16, 1, 0b1010_0101_1010, 0b1111_1111_1111] {
+        for &pattern in &PATTERNS {
             let value = pattern % (1 << width);
             for units in 0..16u32 {
                 compare(&rt, rt.alloc(), value, width, units as i32 - 1)?;

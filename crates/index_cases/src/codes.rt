@@ -5,15 +5,13 @@ use gph_codes::{Code, CodeFault, dist, for_width};
 use std::process::Abort;
 
 // The numbers of bits that are tried: of one to four words, whole words and others.
-const SIZES: [u32; 12] = [8, 16, 56, 64, 72, 120, 128, 136, 192, 200, 248, 256];
+static SIZES: [u32; 12] = [8, 16, 56, 64, 72, 120, 128, 136, 192, 200, 248, 256];
 
 // The value of a hexadecimal digit of either case.
-fn digit_value(digit: u8) -> u8 {
-    match digit {
-        b'0'..=b'9' => digit - b'0',
-        b'a'..=b'f' => digit - b'a' + 10,
-        b'A'..=b'F' => digit - b'A' + 10,
-        _ => 255,
+fn digit_value(digit: u8) -> u32 {
+    match (digit as char).to_digit(16) {
+        Some(value) => value,
+        None => 255,
     }
 }
 
@@ -42,21 +40,26 @@ fn read_both<const W: usize, R: Abort>(rt: &R, bits: u32, text: &[u8], other: &[
     let code: Code<W> = Code::from_hex(bits, text).expect(rt, "a code");
     let second: Code<W> = Code::from_hex(bits, other).expect(rt, "a second code");
     for position in 0..bits {
-        let bit = plain_bit(text, position);
-        assert_eq!(rt; code.bit(position), bit, "{bits} bits, position {position}");
+        let is_bit = code.bit(position) == plain_bit(text, position);
+        assert!(rt; is_bit, "{bits} bits, position {position}");
     }
     let apart = (0..bits)
         .filter(|position| plain_bit(text, *position) != plain_bit(other, *position))
         .count();
-    assert_eq!(rt; dist(&code, &second) as usize, apart, "{bits} bits");
-    assert_eq!(rt; dist(&code, &code), 0, "{bits} bits");
+    let is_apart = dist(&code, &second) as usize == apart && dist(&code, &code) == 0;
+    assert!(rt; is_apart, "{bits} bits");
     let mut out = [0; 128];
     let room = &mut out[..bits as usize / 4];
     code.to_hex(bits, room);
-    for (place, digit) in room.iter().enumerate() {
-        let want = text.get(place).map(|one| one.to_ascii_lowercase());
-        assert_eq!(rt; Some(*digit), want, "{bits} bits, place {place}");
+    for place in 0..room.len() {
+        let is_digit = place < text.len() && room[place] == text[place].to_ascii_lowercase();
+        assert!(rt; is_digit, "{bits} bits, place {place}");
     }
+}
+
+// The same at the number of words that so many bits take.
+fn read_pair<R: Abort>(rt: &R, bits: u32, text: &[u8], other: &[u8]) {
+    for_width!(bits, read_both<_>, rt, bits, text, other)
 }
 
 // What reading a text answers.
@@ -68,10 +71,15 @@ fn fault<const W: usize, R: Abort>(rt: &R, bits: u32, text: &[u8]) -> Option<Cod
     code.err()
 }
 
+// The same at the number of words that so many bits take.
+fn fault_of<R: Abort>(rt: &R, bits: u32, text: &[u8]) -> Option<CodeFault> {
+    for_width!(bits, fault<_>, rt, bits, text)
+}
+
 #[test]
 fn a_code_has_the_bits_of_its_digits(rt: HostRuntime) {
     let mut seed = 7;
-    for bits in SIZES {
+    for &bits in &SIZES {
         let number = bits as usize / 4;
         for _round in 0..8u32 {
             let mut one = [0; 64];
@@ -81,14 +89,14 @@ fn a_code_has_the_bits_of_its_digits(rt: HostRuntime) {
             seed = after(seed).rotate_left(29);
             assert!(rt; number <= 64);
             let text = &one[..number];
-            for_width!(bits, read_both<_>, &rt, bits, text, &other[..number]);
+            read_pair(&rt, bits, text, &other[..number]);
         }
     }
 }
 
 #[test]
 fn position_0_is_the_top_bit_and_the_last_bit_counts(rt: HostRuntime) {
-    for bits in SIZES {
+    for &bits in &SIZES {
         let number = bits as usize / 4;
         assert!(rt; 1 < number && number <= 64);
         let zeros = [b'0'; 64];
@@ -96,8 +104,8 @@ fn position_0_is_the_top_bit_and_the_last_bit_counts(rt: HostRuntime) {
         first[0] = b'8';
         let mut last = [b'0'; 64];
         last[number - 1] = b'1';
-        for_width!(bits, read_both<_>, &rt, bits, &first[..number], &last[..number]);
-        for_width!(bits, read_both<_>, &rt, bits, &zeros[..number], &last[..number]);
+        read_pair(&rt, bits, &first[..number], &last[..number]);
+        read_pair(&rt, bits, &zeros[..number], &last[..number]);
     }
 }
 
@@ -105,46 +113,47 @@ fn position_0_is_the_top_bit_and_the_last_bit_counts(rt: HostRuntime) {
 fn words_keep_the_bits_from_the_top(rt: HostRuntime) -> Result<(), CodeFault> {
     let one: Code<1> = Code::from_hex(8, b"81")?;
     let two: Code<2> = Code::from_hex(72, b"80000000000000010f")?;
-    assert_eq!(rt; one.words(), [0x8100_0000_0000_0000]);
-    assert_eq!(rt; two.words(), [0x8000_0000_0000_0001, 0x0f00_0000_0000_0000]);
+    assert!(rt; one.words() == [0x8100_0000_0000_0000]);
+    assert!(rt; two.words() == [0x8000_0000_0000_0001, 0x0f00_0000_0000_0000]);
     Ok(())
 }
 
 #[test]
 fn a_text_of_another_length_is_refused_before_its_digits(rt: HostRuntime) {
-    for bits in SIZES {
+    for &bits in &SIZES {
         let number = bits as usize / 4;
         assert!(rt; 1 < number && number <= 64);
         let mut text = [b'A'; 66];
-        for length in [0, 1, number - 1, number + 1, number + 2] {
-            let found = for_width!(bits, fault<_>, &rt, bits, &text[..length]);
+        for length in 0..number + 3 {
+            let found = fault_of(&rt, bits, &text[..length]);
             let want = if length == number {
                 None
             } else {
                 Some(CodeFault::Length)
             };
-            assert_eq!(rt; found, want, "{bits} bits, {length} digits");
+            assert!(rt; found == want, "{bits} bits, {length} digits");
         }
         text[0] = b'g';
-        let found = for_width!(bits, fault<_>, &rt, bits, &text[..number - 1]);
-        assert_eq!(rt; found, Some(CodeFault::Length), "{bits} bits");
+        let found = fault_of(&rt, bits, &text[..number - 1]);
+        assert!(rt; found == Some(CodeFault::Length), "{bits} bits");
     }
 }
 
+static NO_DIGITS: &[u8] = b"gG /:@`\0\xff";
+
 #[test]
 fn the_first_byte_that_is_no_digit_is_told(rt: HostRuntime) {
-    for bits in SIZES {
+    for &bits in &SIZES {
         let number = bits as usize / 4;
         assert!(rt; 1 < number && number <= 64);
         for at in 0..number {
-            for byte in [b'g', b'G', b' ', b'/', b':', b'@', b'`', 0, 255] {
+            for &byte in NO_DIGITS {
                 let mut text = [b'f'; 64];
                 text[at] = byte;
                 text[number - 1] = byte;
-                let found = for_width!(bits, fault<_>, &rt, bits, &text[..number]);
-                assert_eq!(rt;
-                    found,
-                    Some(CodeFault::Digit { at }),
+                let found = fault_of(&rt, bits, &text[..number]);
+                assert!(rt;
+                    found == Some(CodeFault::Digit { at }),
                     "{bits} bits, place {at}"
                 );
             }

@@ -1,13 +1,15 @@
+ghost use Rattle.std.specs.Prelude.{◌≤◌};
 ghost use Rattle.part_layout.specs.Laid.{IsAllowed};
 
+use crate::rows::{field, number};
 use gph_codes::Code;
 use part_layout::{Layout, LayoutFault};
 use std::alloc::Global;
 use std::process::Abort;
 
 // Each of the positions 0 to 63 in a part of its own.
-const SINGLES: &[u8] =
-    b"0/1/2/3/4/5/6/7/8/9/10/11/12/13/14/15/16/17/18/19/20/21/22/23/24/25/26/27/28/29/30/31/32/33/34/35/36/37/38/39/40/41/42/43/44/45/46/47/48/49/50/51/52/53/54/55/56/57/58/59/60/61/62/63";
+static SINGLES: &str =
+    "0/1/2/3/4/5/6/7/8/9/10/11/12/13/14/15/16/17/18/19/20/21/22/23/24/25/26/27/28/29/30/31/32/33/34/35/36/37/38/39/40/41/42/43/44/45/46/47/48/49/50/51/52/53/54/55/56/57/58/59/60/61/62/63";
 
 // Stops a test that asks for a number of bits that no layout has.
 fn check_bits<R: Abort>(rt: &R, bits: u32)
@@ -16,308 +18,287 @@ fn check_bits<R: Abort>(rt: &R, bits: u32)
     assert!(rt; bits % 8 == 0 && 8 <= bits && bits <= 256);
 }
 
-// Compares what cutting so many bits into so many parts answers with the text of a layout.
-fn compare_cut<R: Abort>(rt: &R, alloc: Global, bits: u32, parts: u32, want: &[u8]) {
-    check_bits(rt, bits);
-    let layout = Layout::contiguous(alloc, bits, parts).expect(rt, "a layout");
-    assert!(rt;
-        Layout::can_be_cut(bits, parts),
-        "{bits} bits, {parts} parts"
-    );
-    assert_eq!(rt; layout.bits(), bits);
-    assert_eq!(rt; layout.parts(), parts);
-    assert!(rt; layout.text().bytes() == want, "{bits} bits, {parts} parts");
+// Whether cutting so many bits into so many parts gives the layout of a text.
+fn is_cut_as(alloc: Global, bits: u32, parts: u32, text: &str) -> bool
+    requires { IsAllowed bits }
+{
+    match Layout::contiguous(alloc, bits, parts) {
+        Ok(layout) => {
+            Layout::can_be_cut(bits, parts)
+                && layout.bits() == bits
+                && layout.parts() == parts
+                && layout.text().bytes() == text.as_bytes()
+        }
+        Err(_) => false,
+    }
 }
 
-// The fault of cutting so many bits into so many parts.
-fn cut_fault<R: Abort>(rt: &R, alloc: Global, bits: u32, parts: u32) -> Option<LayoutFault> {
-    check_bits(rt, bits);
-    let fault = Layout::contiguous(alloc, bits, parts).err();
-    assert_eq!(rt; Layout::can_be_cut(bits, parts), fault.is_none());
-    fault
+// Whether a fault has this name and this number; where there is none, they are none and 0.
+fn is_fault(fault: Option<LayoutFault>, name: &str, number: u32) -> bool {
+    let (told, at) = match fault {
+        None => ("none", 0),
+        Some(LayoutFault::Syntax { at }) => ("syntax", at as u64),
+        Some(LayoutFault::Range { position }) => ("range", u64::from(position)),
+        Some(LayoutFault::Twice { position }) => ("twice", u64::from(position)),
+        Some(LayoutFault::Missing { position }) => ("missing", u64::from(position)),
+        Some(LayoutFault::Width { part }) => ("width", u64::from(part)),
+        Some(LayoutFault::Parts { count }) => ("parts", u64::from(count)),
+        Some(LayoutFault::NoMemory) => ("memory", 0),
+    };
+    told == name && at == u64::from(number)
 }
 
-// The fault of reading a text.
-fn text_fault<R: Abort>(rt: &R, alloc: Global, bits: u32, text: &[u8]) -> Option<LayoutFault> {
+// The fault of reading a text that has this beginning.
+fn text_fault<R: Abort>(
+    rt: &R,
+    alloc: Global,
+    bits: u32,
+    beginning: &str,
+    text: &str,
+) -> Option<LayoutFault> {
     check_bits(rt, bits);
-    Layout::parse(alloc, bits, text).err()
-}
-
-// The fault of reading a text that begins with the positions 0 to 63, each in a part of its own.
-fn singles_fault<R: Abort>(rt: &R, alloc: Global, bits: u32, after: &[u8]) -> Option<LayoutFault> {
-    let mut text = Vec::from_slice(alloc, SINGLES).expect(rt, "memory for a text");
-    text.extend_from_slice(after)
+    let mut whole = beginning
+        .as_bytes()
+        .to_vec(alloc)
         .expect(rt, "memory for a text");
-    text_fault(rt, alloc, bits, &text)
+    whole
+        .extend_from_slice(text.as_bytes())
+        .expect(rt, "memory for a text");
+    Layout::parse(alloc, bits, &whole).err()
 }
+
+// Compares the fault of each text with its row: bits, the text after a beginning, the fault and its number.
+fn compare_faults<R: Abort>(rt: &R, alloc: Global, beginning: &str, table: &str) {
+    for line in table.lines() {
+        let mut row = line.split('|');
+        let bits = number(rt, &mut row);
+        let fault = text_fault(rt, alloc, bits, beginning, field(rt, &mut row));
+        let name = field(rt, &mut row);
+        assert!(rt; is_fault(fault, name, number(rt, &mut row)), "{line}");
+    }
+}
+
+// Bits, parts and the layout.
+static CUTS: &str = "\
+8|1|0,1,2,3,4,5,6,7
+8|8|0/1/2/3/4/5/6/7
+8|3|0,1,2/3,4,5/6,7
+16|2|0,1,2,3,4,5,6,7/8,9,10,11,12,13,14,15
+16|3|0,1,2,3,4,5/6,7,8,9,10/11,12,13,14,15
+24|2|0,1,2,3,4,5,6,7,8,9,10,11/12,13,14,15,16,17,18,19,20,21,22,23";
 
 #[test]
 fn bits_are_cut_into_parts_as_equal_as_can_be(rt: HostRuntime) {
-    let alloc = rt.alloc();
-    let rows = [
-        (8, 1, b"0,1,2,3,4,5,6,7".as_slice()),
-        (8, 8, b"0/1/2/3/4/5/6/7".as_slice()),
-        (8, 3, b"0,1,2/3,4,5/6,7".as_slice()),
-        (16, 2, b"0,1,2,3,4,5,6,7/8,9,10,11,12,13,14,15".as_slice()),
-        (16, 3, b"0,1,2,3,4,5/6,7,8,9,10/11,12,13,14,15".as_slice()),
-        (
-            24,
-            2,
-            b"0,1,2,3,4,5,6,7,8,9,10,11/12,13,14,15,16,17,18,19,20,21,22,23".as_slice(),
-        ),
-        (64, 64, SINGLES),
-    ];
-    for (bits, parts, want) in rows {
-        compare_cut(&rt, alloc, bits, parts, want);
+    for line in CUTS.lines() {
+        let mut row = line.split('|');
+        let bits = number(&rt, &mut row);
+        check_bits(&rt, bits);
+        let parts = number(&rt, &mut row);
+        assert!(rt;
+            is_cut_as(rt.alloc(), bits, parts, field(&rt, &mut row)),
+            "{line}"
+        );
     }
+    assert!(rt; is_cut_as(rt.alloc(), 64, 64, SINGLES));
+}
+
+// Whether a part has so many positions, and this one at a place.
+fn is_part(layout: &Layout, part: u32, width: u32, place: u32, position: u32) -> bool {
+    part < layout.parts()
+        && layout.width(part) == width
+        && place < width
+        && layout.position(part, place) == position
 }
 
 #[test]
 fn the_fewest_parts_of_256_bits_are_22(rt: HostRuntime) {
     let layout = Layout::contiguous(rt.alloc(), 256, 22).expect(&rt, "a layout");
-    let rows = [(0, 12), (13, 12), (14, 11), (21, 11)];
-    for (part, width) in rows {
-        assert!(rt; part < layout.parts());
-        assert_eq!(rt; layout.width(part), width, "part {part}");
-    }
-    assert!(rt; 21 < layout.parts() && 10 < layout.width(21));
-    assert_eq!(rt; layout.position(21, 10), 255);
+    assert!(rt; is_part(&layout, 0, 12, 0, 0));
+    assert!(rt; is_part(&layout, 13, 12, 11, 167));
+    assert!(rt; is_part(&layout, 14, 11, 0, 168));
+    assert!(rt; is_part(&layout, 21, 11, 10, 255));
 }
+
+// Bits, parts, the fault and its number.
+static NUMBERS: &str = "\
+8|0|parts|0
+8|8|none|0
+8|9|parts|9
+8|65|parts|65
+16|1|width|0
+24|1|width|0
+24|2|none|0
+72|64|none|0
+72|65|parts|65
+256|0|parts|0
+256|1|width|0
+256|21|width|0
+256|22|none|0
+256|64|none|0
+256|65|parts|65
+256|4294967295|parts|4294967295";
 
 #[test]
 fn a_number_of_parts_that_can_not_be_had_is_a_fault(rt: HostRuntime) {
-    let alloc = rt.alloc();
-    let rows = [
-        (8, 0, Some(LayoutFault::Parts { count: 0 })),
-        (8, 8, None),
-        (8, 9, Some(LayoutFault::Parts { count: 9 })),
-        (8, 65, Some(LayoutFault::Parts { count: 65 })),
-        (16, 1, Some(LayoutFault::Width { part: 0 })),
-        (24, 1, Some(LayoutFault::Width { part: 0 })),
-        (24, 2, None),
-        (72, 64, None),
-        (72, 65, Some(LayoutFault::Parts { count: 65 })),
-        (256, 0, Some(LayoutFault::Parts { count: 0 })),
-        (256, 1, Some(LayoutFault::Width { part: 0 })),
-        (256, 21, Some(LayoutFault::Width { part: 0 })),
-        (256, 22, None),
-        (256, 64, None),
-        (256, 65, Some(LayoutFault::Parts { count: 65 })),
-        (
-            256,
-            4_294_967_295,
-            Some(LayoutFault::Parts {
-                count: 4_294_967_295,
-            }),
-        ),
-    ];
-    for (bits, parts, want) in rows {
-        assert_eq!(rt;
-            cut_fault(&rt, alloc, bits, parts),
-            want,
-            "{bits} bits, {parts} parts"
+    for line in NUMBERS.lines() {
+        let mut row = line.split('|');
+        let bits = number(&rt, &mut row);
+        check_bits(&rt, bits);
+        let parts = number(&rt, &mut row);
+        let fault = Layout::contiguous(rt.alloc(), bits, parts).err();
+        assert!(rt;
+            Layout::can_be_cut(bits, parts) == fault.is_none(),
+            "{line}"
         );
+        let name = field(&rt, &mut row);
+        assert!(rt; is_fault(fault, name, number(&rt, &mut row)), "{line}");
     }
 }
+
+static BYTES: &str = "\
+8||syntax|0
+8|/|syntax|0
+8|,0|syntax|0
+8| 0|syntax|0
+8|0,1,,2|syntax|4
+8|0,/1|syntax|2
+8|0//1|syntax|2
+8|0,1 |syntax|3
+8|0x1|syntax|1
+8|-1|syntax|0
+8|0000|syntax|3
+8|0,1234/x|syntax|5
+8|0,|syntax|2
+8|0,1/|syntax|4
+8|0,1,2,3,4,5,6,7/|syntax|16";
 
 #[test]
 fn a_text_that_is_none_goes_wrong_at_its_first_bad_byte(rt: HostRuntime) {
-    let alloc = rt.alloc();
-    let rows = [
-        (b"".as_slice(), 0),
-        (b"/".as_slice(), 0),
-        (b",0".as_slice(), 0),
-        (b" 0".as_slice(), 0),
-        (b"0,1,,2".as_slice(), 4),
-        (b"0,/1".as_slice(), 2),
-        (b"0//1".as_slice(), 2),
-        (b"0,1 ".as_slice(), 3),
-        (b"0x1".as_slice(), 1),
-        (b"-1".as_slice(), 0),
-        (b"0000".as_slice(), 3),
-        (b"0,1234/x".as_slice(), 5),
-        (b"0,".as_slice(), 2),
-        (b"0,1/".as_slice(), 4),
-        (b"0,1,2,3,4,5,6,7/".as_slice(), 16),
-    ];
-    for (text, at) in rows {
-        assert_eq!(rt;
-            text_fault(&rt, alloc, 8, text),
-            Some(LayoutFault::Syntax { at })
-        );
-    }
+    compare_faults(&rt, rt.alloc(), "", BYTES);
 }
+
+static FIRST: &str = "\
+8|0,1,2,3/4,5,6|missing|7
+8|0,0/1,2,3,4,5,6,7|twice|0
+8|0,1,2,3/4,5,6,8|range|8
+16|0,1,2,3,4,5,6,7,8,9,10,11,12/13,14,15|width|0
+16|13,14,15/0,1,2,3,4,5,6,7,8,9,10,11,12|width|1";
+
+// A later byte is told before a number.
+static BYTE_FIRST: &str = "\
+8|8,x|syntax|2
+8|0,0,|syntax|4
+16|0,1,2,3,4,5,6,7,8,9,10,11,12;|syntax|28";
+
+// A later number out of range is told before any other.
+static RANGE_FIRST: &str = "\
+8|0,0,9,8|range|9
+8|999|range|999
+16|0,1,2,3,4,5,6,7,8,9,10,11,12,016|range|16
+256|256|range|256";
+
+// The first number that stood before is told, not the first that stands again.
+static TWICE_FIRST: &str = "\
+8|0,1/1,0|twice|1
+8|7,007|twice|7
+16|0,1,2,3,4,5,6,7,8,9,10,11,12,12|twice|12";
+
+// The least position that is missing.
+static LEAST_MISSING: &str = "\
+8|7/5|missing|0
+8|0/2/1/7|missing|3
+16|0,1,2,3,4,5,6,7,8,9,10,11,12|missing|13";
 
 #[test]
 fn the_first_fault_that_applies_is_told(rt: HostRuntime) {
-    let alloc = rt.alloc();
-    let rows = [
-        (
-            8,
-            b"0,1,2,3/4,5,6".as_slice(),
-            LayoutFault::Missing { position: 7 },
-        ),
-        (
-            8,
-            b"0,0/1,2,3,4,5,6,7".as_slice(),
-            LayoutFault::Twice { position: 0 },
-        ),
-        (
-            8,
-            b"0,1,2,3/4,5,6,8".as_slice(),
-            LayoutFault::Range { position: 8 },
-        ),
-        (
-            16,
-            b"0,1,2,3,4,5,6,7,8,9,10,11,12/13,14,15".as_slice(),
-            LayoutFault::Width { part: 0 },
-        ),
-        (
-            16,
-            b"13,14,15/0,1,2,3,4,5,6,7,8,9,10,11,12".as_slice(),
-            LayoutFault::Width { part: 1 },
-        ),
-        // A later byte is told before a number.
-        (8, b"8,x".as_slice(), LayoutFault::Syntax { at: 2 }),
-        (8, b"0,0,".as_slice(), LayoutFault::Syntax { at: 4 }),
-        (
-            16,
-            b"0,1,2,3,4,5,6,7,8,9,10,11,12;".as_slice(),
-            LayoutFault::Syntax { at: 28 },
-        ),
-        // A later number out of range is told before any other.
-        (8, b"0,0,9,8".as_slice(), LayoutFault::Range { position: 9 }),
-        (8, b"999".as_slice(), LayoutFault::Range { position: 999 }),
-        (
-            16,
-            b"0,1,2,3,4,5,6,7,8,9,10,11,12,016".as_slice(),
-            LayoutFault::Range { position: 16 },
-        ),
-        (256, b"256".as_slice(), LayoutFault::Range { position: 256 }),
-        // The first number that stood before is told, not the first that stands again.
-        (8, b"0,1/1,0".as_slice(), LayoutFault::Twice { position: 1 }),
-        (8, b"7,007".as_slice(), LayoutFault::Twice { position: 7 }),
-        (
-            16,
-            b"0,1,2,3,4,5,6,7,8,9,10,11,12,12".as_slice(),
-            LayoutFault::Twice { position: 12 },
-        ),
-        // The least position that is missing.
-        (8, b"7/5".as_slice(), LayoutFault::Missing { position: 0 }),
-        (
-            8,
-            b"0/2/1/7".as_slice(),
-            LayoutFault::Missing { position: 3 },
-        ),
-        (
-            16,
-            b"0,1,2,3,4,5,6,7,8,9,10,11,12".as_slice(),
-            LayoutFault::Missing { position: 13 },
-        ),
-    ];
-    for (bits, text, fault) in rows {
-        assert_eq!(rt; text_fault(&rt, alloc, bits, text), Some(fault));
-    }
+    compare_faults(&rt, rt.alloc(), "", FIRST);
+    compare_faults(&rt, rt.alloc(), "", BYTE_FIRST);
+    compare_faults(&rt, rt.alloc(), "", RANGE_FIRST);
+    compare_faults(&rt, rt.alloc(), "", TWICE_FIRST);
+    compare_faults(&rt, rt.alloc(), "", LEAST_MISSING);
 }
+
+// The texts begin with the positions 0 to 63, each in a part of its own.
+static MANY: &str = "\
+72|/64,65,66,67,68,69,70,71|parts|65
+72|/64/65/66/67/68/69/70/71|parts|72
+80|/64,65,66,67,68,69,70,71,72,73,74,75,76,77,78,79|width|64
+72|/64|missing|65
+72|/0|twice|0
+72|/72|range|72
+72|/|syntax|182
+64||none|0
+72|,64,65,66,67,68,69,70,71|none|0";
 
 #[test]
 fn over_64_parts_are_told_last(rt: HostRuntime) {
-    let alloc = rt.alloc();
-    let rows = [
-        (
-            72,
-            b"/64,65,66,67,68,69,70,71".as_slice(),
-            LayoutFault::Parts { count: 65 },
-        ),
-        (
-            72,
-            b"/64/65/66/67/68/69/70/71".as_slice(),
-            LayoutFault::Parts { count: 72 },
-        ),
-        (
-            80,
-            b"/64,65,66,67,68,69,70,71,72,73,74,75,76,77,78,79".as_slice(),
-            LayoutFault::Width { part: 64 },
-        ),
-        (72, b"/64".as_slice(), LayoutFault::Missing { position: 65 }),
-        (72, b"/0".as_slice(), LayoutFault::Twice { position: 0 }),
-        (72, b"/72".as_slice(), LayoutFault::Range { position: 72 }),
-        (72, b"/".as_slice(), LayoutFault::Syntax { at: 182 }),
-    ];
-    for (bits, after, fault) in rows {
-        assert_eq!(rt; singles_fault(&rt, alloc, bits, after), Some(fault));
-    }
-    assert_eq!(rt; text_fault(&rt, alloc, 64, SINGLES), None);
-    assert_eq!(rt;
-        singles_fault(&rt, alloc, 72, b",64,65,66,67,68,69,70,71"),
-        None
-    );
+    compare_faults(&rt, rt.alloc(), SINGLES, MANY);
 }
 
-// Reads a text, compares what the layout prints, and reads that again.
-fn compare_text<R: Abort>(rt: &R, alloc: Global, bits: u32, text: &[u8], want: &[u8]) {
-    check_bits(rt, bits);
-    let layout = Layout::parse(alloc, bits, text).expect(rt, "a layout");
-    assert_eq!(rt; layout.bits(), bits);
+// Whether a text is read as a layout that prints a text, and that text again as the same layout.
+fn is_printed_as(alloc: Global, bits: u32, text: &str, want: &str) -> bool
+    requires { IsAllowed bits }
+{
+    let Ok(layout) = Layout::parse(alloc, bits, text.as_bytes()) else {
+        return false;
+    };
     let printed = layout.text();
-    assert!(rt; printed.bytes() == want, "{bits} bits");
-    let again = Layout::parse(alloc, bits, printed.bytes()).expect(rt, "the same layout");
-    assert_eq!(rt; again.parts(), layout.parts());
+    let Ok(again) = Layout::parse(alloc, bits, printed.bytes()) else {
+        return false;
+    };
     let mut out = [0; 2048];
     let length = again.write(&mut out);
-    assert!(rt; &out[..length] == want, "{bits} bits");
+    layout.bits() == bits
+        && again.parts() == layout.parts()
+        && printed.bytes() == want.as_bytes()
+        && &out[..length] == want.as_bytes()
 }
+
+// Bits, a text, and what its layout prints.
+static PRINTED: &str = "\
+8|0,1,2,3,4,5,6,7|0,1,2,3,4,5,6,7
+8|7,0/3,1,2/4,5,6|7,0/3,1,2/4,5,6
+8|007,00/03,1,2/004/5/006|7,0/3,1,2/4/5/6
+16|15/0,1,2,3,4,5,6,7,8,9,10,11/014,12,13|15/0,1,2,3,4,5,6,7,8,9,10,11/14,12,13";
 
 #[test]
 fn a_layout_prints_its_parts_and_is_read_again(rt: HostRuntime) {
-    let alloc = rt.alloc();
-    let rows = [
-        (
-            8,
-            b"0,1,2,3,4,5,6,7".as_slice(),
-            b"0,1,2,3,4,5,6,7".as_slice(),
-        ),
-        (
-            8,
-            b"7,0/3,1,2/4,5,6".as_slice(),
-            b"7,0/3,1,2/4,5,6".as_slice(),
-        ),
-        (
-            8,
-            b"007,00/03,1,2/004/5/006".as_slice(),
-            b"7,0/3,1,2/4/5/6".as_slice(),
-        ),
-        (
-            16,
-            b"15/0,1,2,3,4,5,6,7,8,9,10,11/014,12,13".as_slice(),
-            b"15/0,1,2,3,4,5,6,7,8,9,10,11/14,12,13".as_slice(),
-        ),
-        (64, SINGLES, SINGLES),
-    ];
-    for (bits, text, want) in rows {
-        compare_text(&rt, alloc, bits, text, want);
+    for line in PRINTED.lines() {
+        let mut row = line.split('|');
+        let bits = number(&rt, &mut row);
+        check_bits(&rt, bits);
+        let text = field(&rt, &mut row);
+        assert!(rt;
+            is_printed_as(rt.alloc(), bits, text, field(&rt, &mut row)),
+            "{line}"
+        );
     }
+    assert!(rt; is_printed_as(rt.alloc(), 64, SINGLES, SINGLES));
+}
+
+// Whether a part of a code has a value.
+fn is_value<const W: usize>(layout: &Layout, code: &Code<W>, part: u32, value: u16) -> bool
+    requires { W ≤ 8 }
+{
+    part < layout.parts() && layout.bits() as usize <= 64 * W && layout.value(code, part) == value
 }
 
 #[test]
 fn a_part_has_its_positions_in_their_order(rt: HostRuntime) {
     let layout = Layout::parse(rt.alloc(), 8, b"7,0/3,1,2/4,5,6").expect(&rt, "a layout");
-    let code: Code<1> = Code::from_hex(8, b"a5").expect(&rt, "a code");
+    assert!(rt; is_part(&layout, 0, 2, 0, 7));
+    assert!(rt; is_part(&layout, 0, 2, 1, 0));
+    assert!(rt; is_part(&layout, 1, 3, 0, 3));
+    assert!(rt; is_part(&layout, 1, 3, 1, 1));
+    assert!(rt; is_part(&layout, 1, 3, 2, 2));
+    assert!(rt; is_part(&layout, 2, 3, 0, 4));
+    assert!(rt; is_part(&layout, 2, 3, 1, 5));
+    assert!(rt; is_part(&layout, 2, 3, 2, 6));
     // The code is 1010 0101.
-    let rows: [(u32, &[u32], u16); 3] = [(0, &[7, 0], 3), (1, &[3, 1, 2], 1), (2, &[4, 5, 6], 2)];
-    for (part, positions, value) in rows {
-        assert!(rt; part < layout.parts() && layout.bits() <= 64);
-        assert_eq!(rt; layout.width(part) as usize, positions.len(), "part {part}");
-        for (place, position) in positions.iter().enumerate() {
-            assert!(rt; place < 12 && (place as u32) < layout.width(part));
-            assert_eq!(rt;
-                layout.position(part, place as u32),
-                *position,
-                "part {part}"
-            );
-        }
-        assert_eq!(rt; layout.value(&code, part), value, "part {part}");
-    }
+    let code: Code<1> = Code::from_hex(8, b"a5").expect(&rt, "a code");
+    assert!(rt; is_value(&layout, &code, 0, 3));
+    assert!(rt; is_value(&layout, &code, 1, 1));
+    assert!(rt; is_value(&layout, &code, 2, 2));
 }
 
 #[test]
@@ -325,9 +306,9 @@ fn parts_of_eight_positions_have_the_bytes_as_values(rt: HostRuntime) {
     let layout = Layout::contiguous(rt.alloc(), 128, 16).expect(&rt, "a layout");
     let text = b"0123456789abcdeffedcba9876543210";
     let code: Code<2> = Code::from_hex(128, text).expect(&rt, "a code");
-    let rows = [(0, 0x01), (1, 0x23), (7, 0xef), (8, 0xfe), (15, 0x10)];
-    for (part, value) in rows {
-        assert!(rt; part < layout.parts() && layout.bits() <= 128);
-        assert_eq!(rt; layout.value(&code, part), value, "part {part}");
-    }
+    assert!(rt; is_value(&layout, &code, 0, 0x01));
+    assert!(rt; is_value(&layout, &code, 1, 0x23));
+    assert!(rt; is_value(&layout, &code, 7, 0xef));
+    assert!(rt; is_value(&layout, &code, 8, 0xfe));
+    assert!(rt; is_value(&layout, &code, 15, 0x10));
 }

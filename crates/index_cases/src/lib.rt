@@ -21,6 +21,8 @@ mod postings;
 #[cfg(test)]
 mod range_tasks;
 #[cfg(test)]
+mod rows;
+#[cfg(test)]
 mod scan;
 #[cfg(test)]
 mod sources;

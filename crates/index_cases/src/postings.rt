@@ -22,8 +22,7 @@ fn insert_new<const W: usize, R: Abort>(
     ensures { table.new.width ≡ table.old.width }
 {
     let had = table.remove(value, key).expect(rt, "memory to look");
-    assert!(rt; !had);
-    assert!(rt; table.len(value) < 1_048_576);
+    assert!(rt; !had && table.len(value) < 1_048_576);
     table
         .insert(value, key, code)
         .expect(rt, "memory to insert");
@@ -41,7 +40,7 @@ fn remove<const W: usize, R: Abort>(
     ensures { table.new.width ≡ table.old.width }
 {
     let had = table.remove(value, key).expect(rt, "memory to remove");
-    assert_eq!(rt; had, want, "value {value} key {key}");
+    assert!(rt; had == want, "value {value} key {key}");
 }
 
 // Compares the list of a value, in its order, with keys that all have one code.
@@ -55,11 +54,11 @@ fn compare<const W: usize, R: Abort>(
 )
     requires { value < 2 ^ table.now.width }
 {
-    assert_eq!(rt; table.len(value) as usize, keys.len(), "value {value}");
-    for (place, key) in keys.iter().enumerate() {
-        assert!(rt; place < table.len(value) as usize);
+    assert!(rt; table.len(value) as usize == keys.len(), "value {value}");
+    for place in 0..keys.len() {
         let entry = table.entry(value, place as u32, steps);
-        assert_eq!(rt; entry, (*key, *code), "value {value} place {place}");
+        let is_entry = entry.0 == keys[place] && entry.1 == *code;
+        assert!(rt; is_entry, "value {value} place {place}");
     }
 }
 

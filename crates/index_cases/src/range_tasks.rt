@@ -86,15 +86,31 @@ fn compare<R: Abort>(
     let mut task = open(rt, alloc, version, byte, tau, room)?;
     let mut out = Vec::new(alloc);
     drain(&mut task, budget, steps, &mut out)?;
-    assert_eq!(rt;
-        out.as_slice(),
-        want,
+    let is_done = task.floor().is_none() && task.head().is_none();
+    let reads = task.reads();
+    assert!(rt;
+        out.as_slice() == want && is_done && reads == task.bound(None),
         "tau {tau} room {room} budget {budget}"
     );
-    assert_eq!(rt; task.floor(), None);
-    assert_eq!(rt; task.head(), None);
-    assert_eq!(rt; task.reads(), task.bound(None));
-    Ok(task.reads())
+    Ok(reads)
+}
+
+// How many hits the room has, and a budget.
+static ROOMS: [(usize, u32); 5] = [(1, 1), (1, 1000), (2, 3), (256, 1), (256, 1000)];
+
+// Compares the plan of a query on the worked rows.
+fn compare_plan<R: Abort>(
+    rt: &R,
+    alloc: Global,
+    version: &Arc<Version<1>>,
+    tau: u32,
+    vector: &[i32],
+    least: u64,
+) -> Result<(), NoMemory> {
+    let mut task = open(rt, alloc, version, 0, tau, 1)?;
+    let is_planned = task.plan(None) == least && task.thresholds() == vector && !task.near();
+    assert!(rt; is_planned, "tau {tau}");
+    Ok(())
 }
 
 // Compares the plan, the reads and the hits of a query on the worked rows, in small and large steps.
@@ -104,17 +120,14 @@ fn follow<R: Abort>(
     version: &Arc<Version<1>>,
     tau: u32,
     steps: &mut Steps<Reads>,
-    vector: [i32; 2],
+    vector: &[i32],
     least: u64,
     want: &[Hit],
 ) -> Result<(), NoMemory> {
-    let mut task = open(rt, alloc, version, 0, tau, 1)?;
-    assert_eq!(rt; task.plan(None), least);
-    assert_eq!(rt; task.thresholds(), vector.as_slice());
-    assert!(rt; !task.near());
-    for (room, budget) in [(1usize, 1u32), (1, 1000), (2, 3), (256, 1), (256, 1000)] {
+    compare_plan(rt, alloc, version, tau, vector, least)?;
+    for &(room, budget) in &ROOMS {
         let reads = compare(rt, alloc, version, 0, tau, room, budget, steps, want)?;
-        assert_eq!(rt; reads, least);
+        assert!(rt; reads == least, "tau {tau} room {room} budget {budget}");
     }
     Ok(())
 }
@@ -130,16 +143,16 @@ fn the_worked_rows_are_answered_by_the_cheapest_vector(rt: HostRuntime) -> Resul
         Hit { dist: 4, key: 2 },
         Hit { dist: 8, key: 3 },
     ];
-    follow(&rt, alloc, &version, 0, &mut steps, [-1, 0], 1, &all[..1])?;
-    follow(&rt, alloc, &version, 1, &mut steps, [-1, 1], 2, &all[..2])?;
-    follow(&rt, alloc, &version, 8, &mut steps, [-1, 8], 4, &all)?;
+    follow(&rt, alloc, &version, 0, &mut steps, &[-1, 0], 1, &all[..1])?;
+    follow(&rt, alloc, &version, 1, &mut steps, &[-1, 1], 2, &all[..2])?;
+    follow(&rt, alloc, &version, 8, &mut steps, &[-1, 8], 4, &all)?;
     let none = version_of(&rt, alloc, 2, &[])?;
-    follow(&rt, alloc, &none, 8, &mut steps, [-1, 8], 0, &[])?;
+    follow(&rt, alloc, &none, 8, &mut steps, &[-1, 8], 0, &[])?;
     Ok(())
 }
 
 // A row with the eight bits of a byte, the top one first.
-fn plain_row(alloc: Global, key: u64, byte: u8) -> Result<Row, AllocError> {
+pub(crate) fn plain_row(alloc: Global, key: u64, byte: u8) -> Result<Row, AllocError> {
     let mut code = Vec::new(alloc);
     for place in 0..8u32 {
         code.push((byte >> (7 - place)) % 2)?;
@@ -164,39 +177,10 @@ fn a_range_is_the_plain_scan_whatever_the_parts_and_the_steps(rt: HostRuntime) -
         let version = version_of(&rt, alloc, parts, rows.as_slice())?;
         for tau in 0..9u32 {
             let want = plain_scan(alloc, plain.as_slice(), &[0, 0, 1, 1, 0, 1, 0, 1], tau)?;
-            compare(
-                &rt,
-                alloc,
-                &version,
-                0x35,
-                tau,
-                1,
-                1,
-                &mut steps,
-                want.as_slice(),
-            )?;
-            compare(
-                &rt,
-                alloc,
-                &version,
-                0x35,
-                tau,
-                7,
-                5,
-                &mut steps,
-                want.as_slice(),
-            )?;
-            compare(
-                &rt,
-                alloc,
-                &version,
-                0x35,
-                tau,
-                256,
-                9999,
-                &mut steps,
-                want.as_slice(),
-            )?;
+            let hits = want.as_slice();
+            compare(&rt, alloc, &version, 0x35, tau, 1, 1, &mut steps, hits)?;
+            compare(&rt, alloc, &version, 0x35, tau, 7, 5, &mut steps, hits)?;
+            compare(&rt, alloc, &version, 0x35, tau, 256, 9999, &mut steps, hits)?;
         }
     }
     Ok(())

@@ -2,5 +2,5 @@
 use Rattle.std.proofs.Common.{◌≡◌, []}
 use Rattle.index_cases.proofs.sources.follow.Given as goal
 
-abbrev pub invariant-loop-place : goal.invariant-loop-place
-invariant-loop-place g l = (g.S.HitSource.standing l.source).waiting ≡ []
+abbrev pub invariant-loop-line : goal.invariant-loop-line
+invariant-loop-line g l = (g.S.HitSource.standing l.source).waiting ≡ []
