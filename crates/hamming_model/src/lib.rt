@@ -15,7 +15,8 @@ mod shard_laws;
 pub use history_laws::{decisions_keep_a_history_legal, legal_histories_grow};
 pub use hit::Hit;
 pub use limits::{
-    BITS_MOST, ENTRIES_MOST, PART_WIDTH_MOST, PARTS_MOST, ROOM_MOST, SHARDS_MOST, WORDS_MOST,
+    BITS_MOST, ENTRIES_MOST, PART_WIDTH_MOST, PARTS_MOST, ROOM_MOST, SESSIONS_MOST, SHARDS_MOST,
+    WORDS_MOST,
 };
 pub use plain::plain_scan;
 pub use recoded_laws::{
