@@ -1,16 +1,12 @@
 -- What a line that changes nothing is told, and what becomes of an operation.
 use Rattle.std.specs.Prelude.{◌≡◌, ℕ, ◌-◌, ◌<◌, ◌≤◌, List, [], ◌∷◌, length, take, slice_get, Some}
 use Rattle.hamming_model.specs.History.{JournalEntry, Operation, Decision, Added, Taken, Full}
-use Rattle.hamming_model.specs.History.{decide, rows_of}
+use Rattle.hamming_model.specs.History.{decision_on}
 use Rattle.hamming_model.specs.History as journal
 use Rattle.part_layout.specs.declared.config.Config.{Config}
 use Rattle.query_protocol.specs.declared.reply.Reply.{Reply}
 use Rattle.query_protocol.specs.declared.reply.Reply.TheVariants as reply
 use Rattle.session_model.specs.State.{State}
-
--- the decision on an operation after a history, where so many entries may stand
-abbrev pub decision_on : List JournalEntry → ℕ → Operation → Decision
-decision_on history limit operation = decide (rows_of history) (length history) limit operation
 
 -- a line, its replies, the position that they print or carry on, the layout of each shard as the line
 -- saw it, and how many entries the session had seen before it

@@ -61,7 +61,7 @@ abbrev pub next_replies : List ℕ → ℕ → ℕ → List Hit → List Reply
 next_replies tag count given hits =
     hit_replies tag (take count (drop given hits))
     ++ (if nat_lt (given + count) (length hits) then reply.More tag
-        else reply.Done tag (length hits)) ∷ []
+    else reply.Done tag (length hits)) ∷ []
 
 -- what a query has read on each shard after it read on: no less, and no more where it was done
 pub record ReadsOn (query : Query) (reads : List ℕ) : Type 0 where

@@ -17,7 +17,7 @@ use Rattle.session_model.specs.QuerySteps.{OpensUnlessUsed, Gives, Costs, Plans,
 
 -- what a line asks of a session
 abbrev pub asked_by : Config → List ℕ → Result (Option LineRequest) Bad
-asked_by config line = reading config.bits config.shards line
+asked_by config line = reading config line
 
 -- what is answered to what a line asks; `quit` isn't answered
 abbrev pub Answers
