@@ -3,17 +3,17 @@ ghost use Rattle.std.specs.Prelude.{◌≡◌, ℕ, None};
 use crate::gathered::Gathered;
 use crate::sink::Sink;
 use crate::source::{Failed, fault};
-use std::io::Write;
+use crate::write_end::WriteEnd;
 use std::marker::Model;
 
 /// A sink that gathers what it takes, and fails once a giving-out has failed.
 #[derive(Drop)]
-pub struct GatheredWriter<'g, W: Write + Drop> {
+pub struct GatheredWriter<'g, W: WriteEnd + Drop> {
     gathered: &'g Gathered<W>,
     faults: u64,
 }
 
-impl<'g, W: Write + Drop> Model for GatheredWriter<'g, W> {
+impl<'g, W: WriteEnd + Drop> Model for GatheredWriter<'g, W> {
     ghost use Rattle.std.specs.Prelude.{ℕ};
 
     ghost Value = { ℕ };
@@ -21,7 +21,7 @@ impl<'g, W: Write + Drop> Model for GatheredWriter<'g, W> {
     ghost view = { λ s. s.faults };
 }
 
-impl<'g, W: Write + Drop> GatheredWriter<'g, W> {
+impl<'g, W: WriteEnd + Drop> GatheredWriter<'g, W> {
     /// A sink into `gathered` that has met no fault.
     pub fn new(gathered: &'g Gathered<W>) -> GatheredWriter<'g, W>
         ensures { result ≡ 0 }
@@ -33,15 +33,15 @@ impl<'g, W: Write + Drop> GatheredWriter<'g, W> {
     }
 }
 
-impl<'g, W: Write + Drop> Sink for GatheredWriter<'g, W> {
+impl<'g, W: WriteEnd + Drop> Sink for GatheredWriter<'g, W> {
     ghost held = { λ _. None };
 
     ghost faults = { λ s. s };
 
     fn write(&mut self, piece: &[u8]) -> Result<usize, Failed> {
         match self.gathered.add(piece) {
-            Some(taken) => Ok(taken),
-            None => Err(fault(&mut self.faults)),
+            Ok(added) => Ok(added.count()),
+            Err(_) => Err(fault(&mut self.faults)),
         }
     }
 }
