@@ -1,7 +1,7 @@
 -- How gathered bytes go out to a writer. No public clause cites this module.
 use Rattle.std.specs.Prelude.{ℕ, Bool, true, false, ◌⊎◌, List}
 
--- the bytes were written whole and then flushed, or one of the two failed, and this is whether both succeeded
+-- the bytes were written whole and then flushed, or one of the two failed; whether both succeeded
 abbrev pub GoesOut : {T : Type 0} → (T → T → List ℕ → Bool → Type 0) → (T → T → Bool → Type 0)
     → T → T → List ℕ → Bool → Type 0
 GoesOut {T} writes flushes before after bytes true =

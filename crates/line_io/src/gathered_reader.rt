@@ -22,13 +22,13 @@ impl<'g, R: ReadEnd, W: WriteEnd + Drop> Model for GatheredReader<'g, R, W> {
 
     ghost Value = { Counted R };
 
-    ghost view = { λ s. record { inner = s.reader; faults = s.faults } };
+    ghost view = { λ s. record { end = s.reader; faults = s.faults } };
 }
 
 impl<'g, R: ReadEnd, W: WriteEnd + Drop> GatheredReader<'g, R, W> {
     /// A source over `reader` that has met no fault.
     pub fn new(reader: R, gathered: &'g Gathered<W>) -> GatheredReader<'g, R, W>
-        ensures reader { result.inner ≡ reader }
+        ensures reader { result.end ≡ reader }
         ensures faults { result.faults ≡ 0 }
     {
         GatheredReader {
@@ -40,20 +40,20 @@ impl<'g, R: ReadEnd, W: WriteEnd + Drop> GatheredReader<'g, R, W> {
 }
 
 impl<'g, R: ReadEnd, W: WriteEnd + Drop> Source for GatheredReader<'g, R, W> {
-    ghost left = { λ s. R.left s.inner };
+    ghost left = { λ s. R.left s.end };
 
     ghost faults = { λ s. s.faults };
 
     fn read(&mut self, room: &mut [u8]) -> Result<usize, Failed>
         // What every source promises.
         ensures bound { ReadsAtMost result room.new }
-        ensures bytes { ReadConsumes (R.left self.old.inner) (R.left self.new.inner) result room.new }
-        ensures told { StaysTold (R.left self.old.inner) (R.left self.new.inner) }
+        ensures bytes { ReadConsumes (R.left self.old.end) (R.left self.new.end) result room.new }
+        ensures told { StaysTold (R.left self.old.end) (R.left self.new.end) }
         ensures cause { HasCause self.old.faults self.new.faults result }
         ensures steady { IsSteady self.old.faults self.new.faults result }
 
         // It is one read, and each error counts once.
-        ensures call { R.one_read self.old.inner self.new.inner room.new result }
+        ensures call { R.one_read self.old.end self.new.end room.new result }
         ensures count { OnErr result (self.new.faults ≡ counted self.old.faults) }
     {
         // A giving-out that fails is told by the next write.

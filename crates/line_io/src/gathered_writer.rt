@@ -1,6 +1,8 @@
-ghost use Rattle.std.specs.Prelude.{◌≡◌, ℕ, None};
+ghost use Rattle.std.specs.Prelude.{◌≡◌, ℕ, length, None, Ok, IsErr, IfOk, OnErr};
+ghost use Rattle.line_io.specs.Faults.{HasCause, counted};
 
 use crate::gathered::Gathered;
+use crate::gathering::{Added, Refused};
 use crate::sink::Sink;
 use crate::source::{Failed, fault};
 use crate::write_end::WriteEnd;
@@ -39,9 +41,19 @@ impl<'g, W: WriteEnd + Drop> Sink for GatheredWriter<'g, W> {
     ghost faults = { λ s. s };
 
     fn write(&mut self, piece: &[u8]) -> Result<usize, Failed> {
-        match self.gathered.add(piece) {
-            Ok(added) => Ok(added.count()),
-            Err(_) => Err(fault(&mut self.faults)),
-        }
+        answer_of(self.gathered.add(piece), &mut self.faults)
+    }
+}
+
+// What a sink answers where these bytes were added, or none, and what that counts.
+fn answer_of(added: Result<Added<'_>, Refused>, faults: &mut u64) -> Result<usize, Failed>
+    ensures added { IfOk added.entry (λ bytes.
+        (result ≡ Ok (length bytes)) × (faults.new ≡ faults.old)) }
+    ensures refused { OnErr added.entry (IsErr result × (faults.new ≡ counted faults.old)) }
+    ensures cause { HasCause faults.old faults.new result }
+{
+    match added {
+        Ok(added) => Ok(added.count()),
+        Err(_) => Err(fault(faults)),
     }
 }

@@ -1,4 +1,5 @@
-ghost use Rattle.std.specs.Prelude.{◌≡◌, ◌↔◌, ℕ, ◌<◌, ◌≤◌, List, [], ◌++◌, length, take, false, not, IsTrue, IsFalse, IsOk, IsErr, IfOk};
+ghost use Rattle.std.specs.Prelude.{◌≡◌, ◌↔◌, ℕ, ◌<◌, ◌≤◌, List, [], ◌++◌, length, take, false};
+ghost use Rattle.std.specs.Prelude.{not, IsTrue, IsFalse, IsOk, IsErr, IfOk};
 ghost use Rattle.std.specs.Io.KnownBytes.{Keeps, Appends};
 ghost use Rattle.line_io.specs.declared.cutter.TheConstants.{LINE_MOST};
 ghost use Rattle.line_io.specs.Objects.{told_and_pending};
@@ -119,7 +120,7 @@ impl<W: WriteEnd> Gathering<W> {
             self.new ≡ record self.old { pending = self.old.pending ++ added }) }
         ensures out { length self.old.pending ≡ LINE_MOST → IsFalse self.old.failed →
             GoesOut W.whole_write W.one_flush
-                self.old.writer self.new.writer self.old.pending (not self.new.failed) }
+            self.old.writer self.new.writer self.old.pending (not self.new.failed) }
         ensures next { length self.old.pending ≡ LINE_MOST → IfOk result (λ added.
             self.new.pending ≡ added) }
         ensures stopped { IsTrue self.old.failed →

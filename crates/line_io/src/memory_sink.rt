@@ -1,4 +1,5 @@
-ghost use Rattle.std.specs.Prelude.{◌≡◌, ◌++◌, ℕ, List, [], length, Some, IsErr, IfOk, MatchResult, Contains};
+ghost use Rattle.std.specs.Prelude.{◌≡◌, ◌++◌, ℕ, List, [], length, Some, IsErr, IfOk, MatchResult};
+ghost use Rattle.std.specs.Prelude.{Contains};
 ghost use Rattle.std.specs.Io.{WritesAtMost};
 ghost use Rattle.std.specs.Io.KnownBytes.{WriteAppends};
 ghost use Rattle.line_io.specs.Faults.{HasCause, IsSteady, TakesSome, counted};

@@ -20,13 +20,13 @@ impl<K: WriteEnd> Model for ToWriter<K> {
 
     ghost Value = { Counted K };
 
-    ghost view = { λ s. record { inner = s.writer; faults = s.faults } };
+    ghost view = { λ s. record { end = s.writer; faults = s.faults } };
 }
 
 impl<K: WriteEnd> ToWriter<K> {
     /// A sink over `writer` that has met no fault.
     pub fn new(writer: K) -> ToWriter<K>
-        ensures writer { result.inner ≡ writer }
+        ensures writer { result.end ≡ writer }
         ensures faults { result.faults ≡ 0 }
     {
         ToWriter { writer, faults: 0 }
@@ -34,20 +34,20 @@ impl<K: WriteEnd> ToWriter<K> {
 }
 
 impl<K: WriteEnd> Sink for ToWriter<K> {
-    ghost held = { λ s. K.held s.inner };
+    ghost held = { λ s. K.held s.end };
 
     ghost faults = { λ s. s.faults };
 
     fn write(&mut self, piece: &[u8]) -> Result<usize, Failed>
         // What every sink promises.
         ensures bound { WritesAtMost result piece.now }
-        ensures bytes { WriteAppends (K.held self.old.inner) (K.held self.new.inner) result piece.now }
+        ensures bytes { WriteAppends (K.held self.old.end) (K.held self.new.end) result piece.now }
         ensures takes { TakesSome result piece.now }
         ensures cause { HasCause self.old.faults self.new.faults result }
         ensures steady { IsSteady self.old.faults self.new.faults result }
 
         // It is one write, and one that failed or took nothing counts once.
-        ensures call { TellsWrite (K.one_write self.old.inner self.new.inner piece.now) piece.now result }
+        ensures call { TellsWrite (K.one_write self.old.end self.new.end) piece.now result }
         ensures count { OnErr result (self.new.faults ≡ counted self.old.faults) }
     {
         match self.writer.write_once(piece) {
