@@ -1,7 +1,7 @@
 ghost use Rattle.std.specs.Prelude.{◌≡◌, ℕ, ◌<◌, length, take, IfOk};
 
 use crate::buffer::LineBuf;
-use crate::gathering::{Added, Gathering, Given, Refused};
+use crate::gathering::{Added, Flushed, Gathering, NotFlushed};
 use crate::write_end::WriteEnd;
 use read_meter::NoMemory;
 use std::alloc::Global;
@@ -24,13 +24,13 @@ impl<W: WriteEnd + Drop> Gathered<W> {
     }
 
     /// Gives out what is gathered. No clause can say what a cell holds, so the answer is a value
-    /// that only a giving-out makes: `Given` where each went well so far, else `Refused`.
-    pub fn give_out(&self) -> Result<Given, Refused> {
+    /// that only a giving-out makes: `Flushed` where each went well so far, else `NotFlushed`.
+    pub fn give_out(&self) -> Result<Flushed, NotFlushed> {
         self.cell.try_borrow_mut()?.give_out()
     }
 
     /// Takes the front of a piece, or nothing where a giving-out has failed.
-    pub(crate) fn add<'p>(&self, piece: &'p [u8]) -> Result<Added<'p>, Refused>
+    pub(crate) fn add<'p>(&self, piece: &'p [u8]) -> Result<Added<'p>, NotFlushed>
         ensures front { IfOk result (λ added. added ≡ take (length added) piece.now) }
         ensures takes { IfOk result (λ added. 0 < length piece.now → 0 < length added) }
     {

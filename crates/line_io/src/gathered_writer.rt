@@ -2,7 +2,7 @@ ghost use Rattle.std.specs.Prelude.{◌≡◌, ℕ, length, None, Ok, IsErr, IfO
 ghost use Rattle.line_io.specs.Faults.{HasCause, counted};
 
 use crate::gathered::Gathered;
-use crate::gathering::{Added, Refused};
+use crate::gathering::{Added, NotFlushed};
 use crate::sink::Sink;
 use crate::source::{Failed, fault};
 use crate::write_end::WriteEnd;
@@ -46,7 +46,7 @@ impl<'g, W: WriteEnd + Drop> Sink for GatheredWriter<'g, W> {
 }
 
 // What a sink answers where these bytes were added, or none, and what that counts.
-fn answer_of(added: Result<Added<'_>, Refused>, faults: &mut u64) -> Result<usize, Failed>
+fn answer_of(added: Result<Added<'_>, NotFlushed>, faults: &mut u64) -> Result<usize, Failed>
     ensures added { IfOk added.entry (λ bytes.
         (result ≡ Ok (length bytes)) × (faults.new ≡ faults.old)) }
     ensures refused { OnErr added.entry (IsErr result × (faults.new ≡ counted faults.old)) }

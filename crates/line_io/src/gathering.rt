@@ -13,19 +13,19 @@ use std::marker::Model;
 
 /// That what was gathered has been given out. Only a giving-out that succeeded makes one.
 #[derive(Drop)]
-pub struct Given {
+pub struct Flushed {
     _made_here: (),
 }
 
 /// That a giving-out has failed, or that the buffer is in use. Nothing else makes one.
 #[derive(Drop)]
-pub struct Refused {
+pub struct NotFlushed {
     _made_here: (),
 }
 
-impl From<BorrowMutError> for Refused {
-    fn from(_busy: BorrowMutError) -> Refused {
-        Refused { _made_here: () }
+impl From<BorrowMutError> for NotFlushed {
+    fn from(_busy: BorrowMutError) -> NotFlushed {
+        NotFlushed { _made_here: () }
     }
 }
 
@@ -82,7 +82,7 @@ impl<W: WriteEnd> Gathering<W> {
     }
 
     /// Gives the writer all that is gathered, unless that has failed before.
-    pub(crate) fn give_out(&mut self) -> Result<Given, Refused>
+    pub(crate) fn give_out(&mut self) -> Result<Flushed, NotFlushed>
         // What goes out, and that a failure stays.
         ensures out { IsFalse self.old.failed → GoesOut W.whole_write W.one_flush
             self.old.writer self.new.writer self.old.pending (not self.new.failed) }
@@ -100,13 +100,13 @@ impl<W: WriteEnd> Gathering<W> {
         }
         self.buffer.clear();
         if self.failed {
-            return Err(Refused { _made_here: () });
+            return Err(NotFlushed { _made_here: () });
         }
-        Ok(Given { _made_here: () })
+        Ok(Flushed { _made_here: () })
     }
 
     /// Takes the front of a piece. What is gathered is given out first where it fills the buffer.
-    pub(crate) fn add<'p>(&mut self, piece: &'p [u8]) -> Result<Added<'p>, Refused>
+    pub(crate) fn add<'p>(&mut self, piece: &'p [u8]) -> Result<Added<'p>, NotFlushed>
         // The answer tells what was added.
         ensures front { IfOk result (λ added. added ≡ take (length added) piece.now) }
         ensures takes { IfOk result (λ added. 0 < length piece.now → 0 < length added) }
@@ -130,7 +130,7 @@ impl<W: WriteEnd> Gathering<W> {
             self.give_out()?;
         }
         if self.failed {
-            return Err(Refused { _made_here: () });
+            return Err(NotFlushed { _made_here: () });
         }
         let taken = piece.len().min(LINE_MOST - self.buffer.bytes().len());
         let bytes = &piece[..taken];

@@ -27,7 +27,7 @@ pub use from_reader::FromReader;
 pub use gathered::Gathered;
 pub use gathered_reader::GatheredReader;
 pub use gathered_writer::GatheredWriter;
-pub use gathering::{Given, Refused};
+pub use gathering::{Flushed, NotFlushed};
 pub use laws::{dropped_return, line_pieces, lines_in_pieces};
 pub use memory_sink::MemorySink;
 pub use memory_source::MemorySource;
