@@ -14,6 +14,10 @@ pub record HasCause {E : Type 0} (before after : ℕ) (result : Result ℕ E) : 
   pub never_falls : before ≤ after
   pub failed : OnErr result (Rose before after)
 
+-- an answer that the call succeeded comes only where the count of faults is as before
+abbrev pub IsSteady : {E : Type 0} → ℕ → ℕ → Result ℕ E → Type 0
+IsSteady before after result = IfOk result (λ _. after ≡ before)
+
 -- a piece that isn't empty is taken by one byte or more
 abbrev pub TakesSome : {E : Type 0} → Result ℕ E → List ℕ → Type 0
 TakesSome result piece = IfOk result (λ taken. 0 < length piece → 0 < taken)

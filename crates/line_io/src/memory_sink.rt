@@ -1,7 +1,7 @@
 ghost use Rattle.std.specs.Prelude.{◌≡◌, ◌++◌, ℕ, List, [], length, Some, IsErr, IfOk, MatchResult, Contains};
 ghost use Rattle.std.specs.Io.{WritesAtMost};
 ghost use Rattle.std.specs.Io.KnownBytes.{WriteAppends};
-ghost use Rattle.line_io.specs.Faults.{HasCause, TakesSome, counted};
+ghost use Rattle.line_io.specs.Faults.{HasCause, IsSteady, TakesSome, counted};
 ghost use Rattle.line_io.specs.Objects.{MemoryOutput};
 
 use crate::sink::Sink;
@@ -62,6 +62,7 @@ impl Sink for MemorySink {
         ensures bytes { WriteAppends (Some self.old.held) (Some self.new.held) result piece.now }
         ensures takes { TakesSome result piece.now }
         ensures cause { HasCause self.old.faults self.new.faults result }
+        ensures steady { IsSteady self.old.faults self.new.faults result }
 
         // Which calls fail, and how much the others take.
         ensures fails { Contains self.old.failing (counted self.old.calls) → IsErr result }

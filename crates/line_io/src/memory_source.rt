@@ -1,7 +1,7 @@
 ghost use Rattle.std.specs.Prelude.{◌≡◌, ◌↔◌, ℕ, ◌≤◌, ◌-◌, List, length, min, take, drop, Some, IsErr, IfOk, MatchResult, Contains};
 ghost use Rattle.std.specs.Io.{ReadsAtMost};
 ghost use Rattle.std.specs.Io.KnownBytes.{ReadConsumes};
-ghost use Rattle.line_io.specs.Faults.{HasCause, StaysTold, counted};
+ghost use Rattle.line_io.specs.Faults.{HasCause, IsSteady, StaysTold, counted};
 ghost use Rattle.line_io.specs.Objects.{MemoryInput};
 
 use crate::pieces::give;
@@ -65,6 +65,7 @@ impl Source for MemorySource {
         ensures bytes { ReadConsumes (Some self.old.left) (Some self.new.left) result room.new }
         ensures told { StaysTold (Some self.old.left) (Some self.new.left) }
         ensures cause { HasCause self.old.faults self.new.faults result }
+        ensures steady { IsSteady self.old.faults self.new.faults result }
 
         // Which calls fail, and how much the others give.
         ensures fails { IsErr result ↔ Contains self.old.failing (counted self.old.calls) }

@@ -1,7 +1,7 @@
 ghost use Rattle.std.specs.Prelude.{◌≡◌, ℕ, length, None, IsOk, IfOk};
 ghost use Rattle.std.specs.Io.{WritesAtMost};
 ghost use Rattle.std.specs.Io.KnownBytes.{WriteAppends};
-ghost use Rattle.line_io.specs.Faults.{HasCause, TakesSome};
+ghost use Rattle.line_io.specs.Faults.{HasCause, IsSteady, TakesSome};
 
 use crate::sink::Sink;
 use crate::source::Failed;
@@ -28,6 +28,7 @@ impl Sink for SteadySink {
         ensures bytes { WriteAppends None None result piece.now }
         ensures takes { TakesSome result piece.now }
         ensures cause { HasCause 0 0 result }
+        ensures steady { IsSteady 0 0 result }
 
         // It never fails, and takes all.
         ensures succeeds { IsOk result }

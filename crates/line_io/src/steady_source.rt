@@ -1,7 +1,7 @@
 ghost use Rattle.std.specs.Prelude.{◌≡◌, ℕ, ◌≤◌, length, min, drop, Some, IsOk, IfOk};
 ghost use Rattle.std.specs.Io.{ReadsAtMost};
 ghost use Rattle.std.specs.Io.KnownBytes.{ReadConsumes};
-ghost use Rattle.line_io.specs.Faults.{HasCause, StaysTold};
+ghost use Rattle.line_io.specs.Faults.{HasCause, IsSteady, StaysTold};
 ghost use Rattle.line_io.specs.Objects.{SteadyInput};
 
 use crate::pieces::give;
@@ -50,6 +50,7 @@ impl Source for SteadySource {
         ensures bytes { ReadConsumes (Some self.old.left) (Some self.new.left) result room.new }
         ensures told { StaysTold (Some self.old.left) (Some self.new.left) }
         ensures cause { HasCause 0 0 result }
+        ensures steady { IsSteady 0 0 result }
 
         // It never fails, and gives what it can.
         ensures succeeds { IsOk result }
