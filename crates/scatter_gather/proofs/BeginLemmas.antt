@@ -14,8 +14,11 @@ use Rattle.hamming_model.proofs.OrderLemmas.{in_order_permutation}
 use Rattle.hit_source.specs.declared.polled.Polled.{Polled}
 use Rattle.hit_source.specs.Sources.{Asked, Standing, HasOneRadius, HasAllRadii, IsAsked, IsLawful}
 use Rattle.hit_source.specs.Moves.{NotBelow, BeginsWithin, Polls, first_of}
-use Rattle.scatter_gather.specs.Gathering.{Source, source_of, sources_of, Gathering, Gathered, gathered, seen, answer_left, hits_left, least_floor, is_least, is_empty, may_have_next, some_due, any_may_have_next, asked_of, IsUpTo, IsGathering, AreLawful}
-use Rattle.scatter_gather.specs.GatherMoves.{PollsOnce, PollsAll, BeginsUpTo, distance_of, Waited, Gives, GivesOne, BegunWithin}
+use Rattle.scatter_gather.specs.Gathering.{Source, source_of, sources_of, Gathering, Gathered, gathered, seen, answer_left, hits_left, asked_of}
+use Rattle.scatter_gather.specs.Due.{floor_at, least_floor, is_least, is_empty, may_have_next, some_due, any_may_have_next}
+use Rattle.scatter_gather.specs.Kept.{IsUpTo, IsGathering, AreLawful}
+use Rattle.scatter_gather.specs.Polling.{PollsOnce, PollsAll}
+use Rattle.scatter_gather.specs.Moves.{BeginsUpTo, distance_of, Waited, Gives, GivesOne, BegunWithin}
 use Rattle.scatter_gather.proofs.KeepLemmas.{last_within}
 use Rattle.scatter_gather.proofs.FloorLemmas.{least_below}
 use Rattle.scatter_gather.proofs.GiveLemmas.{all_append, left_of_answer}
@@ -51,7 +54,7 @@ first_far m (suc n) (other ∷ hits) hit all e = let same : other ≡ hit = cc i
 -- the next hit of the answer is no nearer than the least floor
 pub least_at_most : (g : Gathering) (m : ℕ) (hit : Hit) → IsGathering g → AreLawful g.sources → least_floor g.sources ≡ Some m → first_of (answer_left g) ≡ Some hit → m ≤ hit.dist
 least_at_most g m hit is law least next =
-    let above : AllByRecursion (λ s. NotBelow (Some m) s.standing.floor) g.sources = rw least at (least_below g.sources) in
+    let above : AllByRecursion (λ s. NotBelow (Some m) s.standing.floor) g.sources = rw least at (least_below floor_at g.sources) in
     let far = all_far m g.sources law above in
     let ordered = recursion_from_All _ _ (All-permutation (λ (hit : Hit). m ≤ hit.dist) (hits_left g.sources) (in_order (hits_left g.sources)) (in_order_permutation (hits_left g.sources)) (All-from_recursion _ _ far)) in
     first_far m (g.limit - g.given) (in_order (hits_left g.sources)) hit ordered (sym (ap first_of (left_of_answer g is.within ∙ ap (take (g.limit - g.given)) is.merge)) ∙ next)

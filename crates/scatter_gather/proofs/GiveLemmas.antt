@@ -12,11 +12,14 @@ use Rattle.std.proofs.lemmas.List.Folds.{list_any_at}
 use Rattle.std.proofs.lemmas.List.Elements.{recursion_from_All, All-from_recursion}
 use Rattle.hamming_model.specs.declared.hit.Hit.{Hit}
 use Rattle.hamming_model.specs.Scan.{hit_cmp, in_order}
-use Rattle.hamming_model.proofs.OrderLemmas.{hit_order, IsFirst, Ascends, ascends_from_sorted}
+use Rattle.hamming_model.proofs.OrderLemmas.{hit_order, first_before, IsFirst, Ascends, ascends_from_sorted}
 use Rattle.hit_source.specs.Sources.{Asked, Standing, IsLawful}
 use Rattle.hit_source.specs.Moves.{NotBelow, first_of}
 use Rattle.hit_source.specs.WindowLaws.{nearer, ascends_drop}
-use Rattle.scatter_gather.specs.Gathering.{Source, Gathering, asked_of, merged, hits_left, answer_left, least_floor, is_least, is_empty, may_have_next, any_may_have_next, IsGathering, AreLawful, HeadNotBefore, IsBest}
+use Rattle.scatter_gather.specs.Gathering.{Source, Gathering, asked_of, merged, hits_left, answer_left}
+use Rattle.scatter_gather.specs.Due.{floor_at, least_floor, is_least, is_empty, may_have_next, any_may_have_next}
+use Rattle.scatter_gather.specs.Heads.{HeadNotBefore, IsBest}
+use Rattle.scatter_gather.specs.Kept.{IsGathering, AreLawful}
 use Rattle.scatter_gather.proofs.MergeLemmas.{order_of_permutation, order_from_first, first_permuted, left_permutation}
 use Rattle.scatter_gather.proofs.FloorLemmas.{least_below, least_is_one}
 
@@ -28,10 +31,6 @@ by_distance Greater p x y rank l = absurd (omega (arith, rank))
 -- a nearer hit isn't after another
 pub farther : (a b : Hit) → a.dist < b.dist → is_gt (hit_cmp a b) ≡ false
 farther a b l = by_distance (nat_cmp a.dist b.dist) (nat_cmp a.key b.key) a.dist b.dist (ranked a.dist b.dist (nat_cmp a.dist b.dist) refl) l
-
-first_through : (a b : Hit) (hits : List Hit) → is_gt (hit_cmp a b) ≡ false → IsFirst b hits → IsFirst a hits
-first_through a b [] h all = tt
-first_through a b (hit ∷ hits) h all = (upto hit_order a b hit h all.0, first_through a b hits h all.1)
 
 first_by_distance : (hit : Hit) (floor : ℕ) (hits : List Hit) → hit.dist < floor → AllByRecursion (λ other. floor ≤ other.dist) hits → IsFirst hit hits
 first_by_distance hit floor [] l all = tt
@@ -48,7 +47,7 @@ first_of_window head hit rest (other ∷ hits) zero e h up = cc
 first_of_window head hit rest (other ∷ hits) (suc n) e h up =
     let same : head ≡ other = cc in
     let first : is_gt (hit_cmp hit other) ≡ false = subst (λ x. is_gt (hit_cmp hit x) ≡ false) same h in
-    (first, first_through hit other hits first up.0)
+    (first, first_before hit other hits first up.0)
 
 -- of a source that can't have the next hit, none is before the best head
 one_first : (hit : Hit) (m : ℕ) (s : Source) → HeadNotBefore hit s → IsLawful s.asked s.standing → may_have_next (Some m) s ≡ false → hit.dist ≤ m → IsFirst hit (drop s.standing.given s.asked.hits)
@@ -98,9 +97,9 @@ any_at p xs i d l none = go (p (get_or xs i d)) refl
     go true e = absurd (both_ways _ none (list_any_at p xs i d l e))
     go false e = refl
 
-has_head : (hits : List Hit) (hit : Hit) → first_of hits ≡ Some hit → (rest : List Hit) × (hits ≡ hit ∷ rest)
-has_head [] hit e = cc
-has_head (head ∷ rest) hit e = (rest, (let same : head ≡ hit = cc in ap (λ x. x ∷ rest) same))
+pub has_first : (hits : List Hit) (hit : Hit) → first_of hits ≡ Some hit → (rest : List Hit) × (hits ≡ hit ∷ rest)
+has_first [] hit e = cc
+has_first (head ∷ rest) hit e = (rest, (let same : head ≡ hit = cc in ap (λ x. x ∷ rest) same))
 
 -- where no source may have the next hit, no hit that is left is before the best head
 pub best_is_first : (sources : List Source) (shard : ℕ) (hit : Hit) (d : Source) → AreLawful sources → any_may_have_next sources ≡ false → IsBest sources (length sources) shard hit → IsFirst hit (hits_left sources)
@@ -114,16 +113,16 @@ best_is_first sources shard hit d law held best = by_least (least_floor sources)
 
     floor : s.standing.floor ≡ Some hit.dist
     floor =
-        let is = has_head s.standing.waiting hit (best.waits d) in
+        let is = has_first s.standing.waiting hit (best.waits d) in
         (All-from_recursion _ sources law shard d best.within).floor.of_head hit is.0 is.1
 
     by_least : (least : Option ℕ) → least_floor sources ≡ least → IsFirst hit (hits_left sources)
     by_least None none =
-        let below = All-from_recursion _ sources (least_below sources) shard d best.within in
+        let below = All-from_recursion _ sources (least_below floor_at sources) shard d best.within in
         let no_floor : NotBelow None (Some hit.dist) = rw floor at (rw none at below) in
         absurd no_floor
     by_least (Some m) some =
-        let is = least_is_one sources m some in
+        let is = least_is_one floor_at sources m some in
         let none : list_any (may_have_next (Some m)) sources ≡ false = rw some at held in
         let l : hit.dist ≤ m = least_head hit m (get_or sources is.0 d) (All-from_recursion _ sources law is.0 d is.1) (All-from_recursion _ sources heads is.0 d is.1) (any_at _ sources is.0 d is.1 none) (is.2 d) in
         all_first hit m sources heads law none l
@@ -139,7 +138,7 @@ best_split : (g : Gathering) (shard : ℕ) (hit : Hit) (d s : Source) → AreLaw
     → drop (get_or g.sources shard d).standing.given (get_or g.sources shard d).asked.hits ≡ hit ∷ drop s.standing.given s.asked.hits
 best_split g shard hit d s law best asked given =
     let before : Source = get_or g.sources shard d in
-    let waits = has_head before.standing.waiting hit (best.waits d) in
+    let waits = has_first before.standing.waiting hit (best.waits d) in
     let window = (All-from_recursion _ g.sources law shard d best.within).window in
     head_first hit (length before.standing.waiting) (drop before.standing.given before.asked.hits) waits.0 (sym waits.1 ∙ window)
     ∙ ap (λ hits. hit ∷ hits) (drop-drop 1 before.standing.given before.asked.hits ∙ ap (λ n. drop n before.asked.hits) (sym given) ∙ ap (λ (a : Asked). drop s.standing.given a.hits) (sym asked))
@@ -191,6 +190,13 @@ none_left_with (s ∷ sources) law none =
     no_floor None p = refl
     no_floor (Some floor) p = absurd p
 
+-- a source that stands for none where a list has to be read
+abbrev pub nobody : Source
+nobody = record {
+  asked = record { hits = []; rows = 0; near = false; room = 0; farthest = 0; plan = λ given. ([], 0); bound = λ given. 0 };
+  standing = record { given = 0; waiting = []; floor = None; reads = 0; ended = false; begun = None; units = 0 };
+}
+
 -- no hit of the answer is left where none waits and no source may have the next
 pub none_at_end : (g : Gathering) (d : Source) → IsGathering g → AreLawful g.sources → any_may_have_next g.sources ≡ false → AllByRecursion (λ s. first_of s.standing.waiting ≡ None) g.sources → first_of (answer_left g) ≡ None
 none_at_end g d is law held empty = by_least (least_floor g.sources) refl
@@ -205,10 +211,10 @@ none_at_end g d is law held empty = by_least (least_floor g.sources) refl
 
     by_least : (least : Option ℕ) → least_floor g.sources ≡ least → first_of (answer_left g) ≡ None
     by_least None none =
-        let all : AllByRecursion (λ s. NotBelow None s.standing.floor) g.sources = rw none at (least_below g.sources) in
+        let all : AllByRecursion (λ s. NotBelow None s.standing.floor) g.sources = rw none at (least_below floor_at g.sources) in
         ap first_of (left_of_answer g is.within ∙ ap (take (g.limit - g.given)) (is.merge ∙ ap in_order (none_left_with g.sources law all))) ∙ nothing (g.limit - g.given)
     by_least (Some m) some =
-        let at = least_is_one g.sources m some in
+        let at = least_is_one floor_at g.sources m some in
         let s : Source = get_or g.sources at.0 d in
         let none : list_any (may_have_next (Some m)) g.sources ≡ false = rw some at held in
         let one : may_have_next (Some m) s ≡ false = any_at _ g.sources at.0 d at.1 none in

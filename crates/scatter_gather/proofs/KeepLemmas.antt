@@ -7,7 +7,8 @@ use Rattle.std.proofs.lemmas.List.Elements.{All-from_recursion}
 use Rattle.hamming_model.specs.declared.hit.Hit.{Hit}
 use Rattle.hamming_model.specs.Scan.{in_order}
 use Rattle.hit_source.specs.Sources.{Asked, Standing}
-use Rattle.scatter_gather.specs.Gathering.{Source, source_of, sources_of, Gathering, gathering_of, gathered, seen, asked_of, given_of, merged, hits_left, length_of, AreOneLength, IsGathering}
+use Rattle.scatter_gather.specs.Gathering.{Source, source_of, sources_of, Gathering, gathering_of, gathered, seen, asked_of, given_of, merged, hits_left}
+use Rattle.scatter_gather.specs.Kept.{length_of, AreOneLength, IsGathering}
 
 -- what sources have left is told by what they are asked and how much each gave
 pub left_same : (old new : List Source) → asked_of new ≡ asked_of old → given_of new ≡ given_of old → hits_left new ≡ hits_left old

@@ -11,11 +11,13 @@ use Rattle.hamming_model.specs.Scan.{in_order}
 use Rattle.hamming_model.proofs.OrderLemmas.{in_order_permutation}
 use Rattle.hit_source.specs.Sources.{Asked, Standing, IsLawful}
 use Rattle.hit_source.specs.Moves.{first_of}
-use Rattle.scatter_gather.specs.Gathering.{Source, source_of, sources_of, Gathering, Gathered, gathered, seen, asked_of, merged, hits_left, answer_of, answer_left, has_head, some_due, any_may_have_next, reaches_by_rows, IsGathering, AreLawful}
-use Rattle.scatter_gather.specs.GatherMoves.{Waited}
+use Rattle.scatter_gather.specs.Gathering.{Source, source_of, sources_of, Gathering, Gathered, gathered, seen, asked_of, merged, hits_left, answer_of, answer_left, reaches_by_rows}
+use Rattle.scatter_gather.specs.Due.{has_head, some_due, any_may_have_next}
+use Rattle.scatter_gather.specs.Kept.{IsGathering, AreLawful}
+use Rattle.scatter_gather.specs.Moves.{Waited}
 use Rattle.scatter_gather.proofs.KeepLemmas.{asked_seen}
 use Rattle.scatter_gather.proofs.ReadyLemmas.{all_lawful}
-use Rattle.scatter_gather.proofs.GiveLemmas.{none_at_end, none_at_limit}
+use Rattle.scatter_gather.proofs.GiveLemmas.{nobody, none_at_end, none_at_limit}
 
 length_in_order : (hits : List Hit) → length (in_order hits) ≡ length hits
 length_in_order hits = length_permutation hits (in_order hits) (in_order_permutation hits)
@@ -83,7 +85,6 @@ seen_waits asks stands g law is more waits = more_waits (seen asks stands g) is 
 -- nothing is due, no head waits, and the limit isn't reached
 pub seen_end : {S : Type 0} (asks : S → Asked) (stands : S → Standing) (g : Gathered S) → ((x : S) → IsLawful (asks x) (stands x)) → IsGathering (seen asks stands g) → any_may_have_next (sources_of asks stands g.sources) ≡ false → list_any has_head (sources_of asks stands g.sources) ≡ false → nat_lt g.given (length (answer_of (seen asks stands g))) ≡ false
 seen_end asks stands g law is held none =
-    let nobody : Source = record { asked = record { hits = []; rows = 0; near = false; room = 0; farthest = 0; plan = λ n. ([], 0); bound = λ n. 0 }; standing = record { given = 0; waiting = []; floor = None; reads = 0; ended = false; begun = None; units = 0 } } in
     no_more (seen asks stands g) (none_at_end (seen asks stands g) nobody is (all_lawful asks stands law g.sources) held (no_heads _ none))
 
 -- nothing is due, and no head waits

@@ -9,8 +9,11 @@ use Rattle.std.proofs.lemmas.List.{length-map, length-set, length-take, drop_all
 use Rattle.hamming_model.specs.declared.hit.Hit.{Hit}
 use Rattle.hit_source.specs.Sources.{Asked, Standing, IsLawful}
 use Rattle.hit_source.specs.Moves.{Polls, Pops, first_of}
-use Rattle.scatter_gather.specs.Gathering.{Source, source_of, sources_of, Gathering, Gathered, gathered, seen, asked_of, given_of, merged, answer_left, some_due, any_may_have_next, may_have_next, least_floor, todo, IsGathering}
-use Rattle.scatter_gather.specs.GatherMoves.{PollsOnce, PollsAll, ReadsRise, Waited, Gave, Gives, GivesOne}
+use Rattle.scatter_gather.specs.Gathering.{Source, source_of, sources_of, Gathering, Gathered, gathered, seen, asked_of, given_of, merged, answer_left}
+use Rattle.scatter_gather.specs.Due.{some_due, any_may_have_next, may_have_next, least_floor, todo}
+use Rattle.scatter_gather.specs.Kept.{IsGathering}
+use Rattle.scatter_gather.specs.Polling.{PollsOnce, PollsAll}
+use Rattle.scatter_gather.specs.Moves.{ReadsRise, Waited, Gave, Gives, GivesOne}
 use Rattle.scatter_gather.proofs.KeepLemmas.{asked_seen, given_seen, same_gathering, set_alike}
 use Rattle.scatter_gather.proofs.TodoLemmas.{some_of, round_todo}
 
@@ -77,21 +80,6 @@ pub waited_left : {S : Type 0} (asks : S → Asked) (stands : S → Standing) (o
 waited_left asks stands old new from to waited =
     let same : asked_of (sources_of asks stands new.sources) ≡ asked_of (sources_of asks stands old.sources) = asked_seen asks stands new.sources ∙ waited.asked ∙ sym (asked_seen asks stands old.sources) in
     rw (same, waited.limit, waited.given)
-
--- where nothing is due, and nothing was given at once, nothing is left
-pub none_due : (g : Gathering) → some_due g ≡ false → None ≡ cond (any_may_have_next g.sources) None (first_of (answer_left g)) → first_of (answer_left g) ≡ None
-none_due g held gives = elim (and_cases (nat_lt g.given g.limit) (any_may_have_next g.sources) held) [
-    inl reached ↦ ap first_of (drop_all g.given (take g.limit (merged (asked_of g.sources))) (omega (arith, length-take g.limit (merged (asked_of g.sources)), ltb-false g.given g.limit reached)))
-  | inr none ↦ sym (rw none at gives)
-  ]
-
--- what is given at once is the next
-pub some_given : (g : Gathering) (hit : Hit) → Some hit ≡ cond (any_may_have_next g.sources) None (first_of (answer_left g)) → first_of (answer_left g) ≡ Some hit
-some_given g hit gives = go (any_may_have_next g.sources) gives
-  where
-    go : (b : Bool) → Some hit ≡ cond b None (first_of (answer_left g)) → first_of (answer_left g) ≡ Some hit
-    go true e = cc
-    go false e = sym e
 
 -- after the wait nothing was given
 pub gave_none : {S : Type 0} (asks : S → Asked) (stands : S → Standing) (old new : Gathered S) (from to : List ℕ) → Waited asks stands old new from to → Gave asks stands old new from to None

@@ -1,8 +1,8 @@
 -- What giving the best head does to a gathering.
 use Rattle.std.proofs.Common.{◌≡◌, ℕ, ◌+◌, ◌<◌, ◌≤◌, List, [], ◌∷◌, length, get_or, set, take, drop, map, refl, sym, ap, subst, ◌∙◌, arith, zero, suc, true, false, Bool, cond, Option, Some, None}
-use Rattle.std.specs.Prelude.{ℤ}
+use Rattle.std.specs.Prelude.{nat_lt, ◌&&◌, ℤ}
 use Rattle.std.specs.List.{AllByRecursion}
-use Rattle.std.proofs.lemmas.Bool.{cond-false}
+use Rattle.std.proofs.lemmas.Bool.{lt-ltb}
 use Rattle.std.proofs.lemmas.List.{length-map, length-set, map-set, get_or-map, drop-drop, get_or_default, get_or-set_same, take_all}
 use Rattle.std.proofs.lemmas.List.Elements.{All-from_recursion, recursion_from_All}
 use Rattle.hamming_model.specs.declared.hit.Hit.{Hit}
@@ -11,11 +11,14 @@ use Rattle.hamming_model.proofs.OrderLemmas.{IsFirst}
 use Rattle.hit_source.specs.WindowLaws.{nearer}
 use Rattle.hit_source.specs.Sources.{Asked, Standing, IsLawful}
 use Rattle.hit_source.specs.Moves.{Pops, first_of}
-use Rattle.scatter_gather.specs.Gathering.{Source, source_of, sources_of, Gathering, gathering_of, Gathered, gathered, seen, asked_of, merged, hits_left, answer_left, any_may_have_next, length_of, AreOneLength, IsGathering, AreLawful, IsBest}
-use Rattle.scatter_gather.specs.GatherMoves.{GivesOne}
+use Rattle.scatter_gather.specs.Gathering.{Source, source_of, sources_of, Gathering, gathering_of, Gathered, gathered, seen, asked_of, merged, hits_left, answer_left, next_hit}
+use Rattle.scatter_gather.specs.Due.{any_may_have_next, some_due}
+use Rattle.scatter_gather.specs.Heads.{IsBest, IsReady}
+use Rattle.scatter_gather.specs.Kept.{length_of, AreOneLength, IsGathering, AreLawful}
+use Rattle.scatter_gather.specs.Moves.{GivesOne}
 use Rattle.scatter_gather.proofs.MergeLemmas.{all_of_map, all_always, read_seen}
 use Rattle.scatter_gather.proofs.KeepLemmas.{asked_seen, set_alike}
-use Rattle.scatter_gather.proofs.GiveLemmas.{best_first_left, next_of_merge, next_of_answer, none_at_end}
+use Rattle.scatter_gather.proofs.GiveLemmas.{nobody, best_first_left, next_of_merge, next_of_answer, none_at_end}
 
 -- sources that are lawful at every moment
 pub all_lawful : {S : Type 0} (asks : S → Asked) (stands : S → Standing) → ((x : S) → IsLawful (asks x) (stands x)) → (xs : List S) → AreLawful (sources_of asks stands xs)
@@ -46,10 +49,10 @@ head_within waiting hit n given hits most first window all = go n (drop given hi
 
 -- where nothing may have the next hit and the limit isn't reached, the best head is the next, and the gathering is as it must be
 pub best_given : {S : Type 0} (asks : S → Asked) (stands : S → Standing) (hs : List S) (limit given : ℕ) (last : Option ℕ) (shard : ℕ) (hit : Hit) (was new : S) (result : Option Hit)
-    → ((x : S) → IsLawful (asks x) (stands x)) → IsGathering (seen asks stands (gathered hs limit given last)) → any_may_have_next (sources_of asks stands hs) ≡ false → (given ≡ limit → ⊥)
-    → IsBest (sources_of asks stands hs) (length hs) shard hit → was ≡ get_or hs shard was → asks new ≡ asks was → Pops (stands was) (stands new) result
+    → ((x : S) → IsLawful (asks x) (stands x)) → IsGathering (seen asks stands (gathered hs limit given last)) → (given ≡ limit → ⊥)
+    → IsReady (sources_of asks stands hs) (Some (shard, hit)) → was ≡ get_or hs shard was → asks new ≡ asks was → Pops (stands was) (stands new) result
     → IsGathering (seen asks stands (gathered (set hs shard new) limit (given + 1) (Some hit.dist))) × (first_of (answer_left (seen asks stands (gathered hs limit given last))) ≡ Some hit) × (shard < length hs) × (result ≡ Some hit)
-best_given {S = S} asks stands hs limit given last shard hit was new result law is held more best here asked pops =
+best_given {S = S} asks stands hs limit given last shard hit was new result law is more ready here asked pops =
     ( record {
         some = omega (arith, is.some, size);
         few = omega (arith, is.few, size);
@@ -72,7 +75,7 @@ best_given {S = S} asks stands hs limit given last shard hit was new result law 
     all = sources_of asks stands hs
 
     within : shard < length hs
-    within = omega (arith, best.within, length-map hs (source_of asks stands))
+    within = omega (arith, ready.best.within, length-map hs (source_of asks stands))
 
     d : Source
     d = source_of asks stands was
@@ -87,13 +90,10 @@ best_given {S = S} asks stands hs limit given last shard hit was new result law 
     same = asked_seen asks stands (set hs shard new) ∙ set_alike asks hs shard was new within here asked ∙ sym (asked_seen asks stands hs)
 
     waits : first_of (stands was).waiting ≡ Some hit
-    waits = sym (ap (λ (s : Source). first_of s.standing.waiting) at) ∙ best.waits d
+    waits = sym (ap (λ (s : Source). first_of s.standing.waiting) at) ∙ ready.best.waits d
 
     counts : (stands new).given ≡ (stands was).given + 1
     counts = pops.given ∙ ap (λ n. (stands was).given + n) (one_taken (stands was).waiting hit waits)
-
-    whole : IsBest all (length all) shard hit
-    whole = subst (λ n. IsBest all n shard hit) (sym (length-map hs (source_of asks stands))) best
 
     here_was : was ≡ get_or hs shard was
     here_was = here
@@ -115,11 +115,11 @@ best_given {S = S} asks stands hs limit given last shard hit was new result law 
     after_all = set all shard (source_of asks stands new)
 
     first_left : IsFirst hit (hits_left after_all)
-    first_left = best_first_left (seen asks stands (gathered hs limit given last)) shard hit d (source_of asks stands new) is (all_lawful asks stands law hs) held whole
+    first_left = best_first_left (seen asks stands (gathered hs limit given last)) shard hit d (source_of asks stands new) is (all_lawful asks stands law hs) ready.held ready.best
         (asked ∙ sym (ap (λ (s : Source). s.asked) at)) (counts ∙ ap (λ (s : Source). s.standing.given + 1) (sym at))
 
     next : drop given (merged (asked_of all)) ≡ hit ∷ in_order (hits_left (set all shard (source_of asks stands new)))
-    next = next_of_merge (seen asks stands (gathered hs limit given last)) shard hit d (source_of asks stands new) is (all_lawful asks stands law hs) held whole
+    next = next_of_merge (seen asks stands (gathered hs limit given last)) shard hit d (source_of asks stands new) is (all_lawful asks stands law hs) ready.held ready.best
         (asked ∙ sym (ap (λ (s : Source). s.asked) at)) (counts ∙ ap (λ (s : Source). s.standing.given + 1) (sym at))
 
 -- one source gave the hit
@@ -140,19 +140,14 @@ given_one {S = S} asks stands hs limit given last shard hit was new result old a
     there : (d : S) → get_or (set hs shard new) shard d ≡ new
     there d = get_or-set_same hs shard new d within
 
--- where no head waits and nothing may have the next hit, no hit of the answer is left
+-- where no head goes first and nothing is due, no hit of the answer is left
 pub none_given : {S : Type 0} (asks : S → Asked) (stands : S → Standing) (hs : List S) (limit given : ℕ) (last : Option ℕ) (old : Gathered S)
-    → ((x : S) → IsLawful (asks x) (stands x)) → IsGathering (seen asks stands (gathered hs limit given last)) → any_may_have_next (sources_of asks stands hs) ≡ false
-    → AllByRecursion (λ s. first_of s.standing.waiting ≡ None) (take (length hs) (sources_of asks stands hs)) → gathered hs limit given last ≡ old → first_of (answer_left (seen asks stands old)) ≡ None
-none_given asks stands hs limit given last old law is held empty before =
+    → ((x : S) → IsLawful (asks x) (stands x)) → IsGathering (seen asks stands (gathered hs limit given last)) → (given ≡ limit → ⊥) → IsReady (sources_of asks stands hs) None
+    → gathered hs limit given last ≡ old → some_due (seen asks stands old) ≡ false → next_hit (seen asks stands old) ≡ None
+none_given asks stands hs limit given last old law is more ready before idle =
     let all = sources_of asks stands hs in
-    let size : length all ≡ length hs = length-map hs (source_of asks stands) in
-    let whole : take (length hs) all ≡ all = take_all (length hs) all (omega (arith, size)) in
-    let none = subst (AllByRecursion (λ (s : Source). first_of s.standing.waiting ≡ None)) whole empty in
-    let nobody : Source = record { asked = record { hits = []; rows = 0; near = false; room = 0; farthest = 0; plan = λ n. ([], 0); bound = λ n. 0 }; standing = record { given = 0; waiting = []; floor = None; reads = 0; ended = false; begun = None; units = 0 } } in
-    subst (λ g. first_of (answer_left (seen asks stands g)) ≡ None) before (none_at_end (seen asks stands (gathered hs limit given last)) nobody is (all_lawful asks stands law hs) held none)
-
--- what is answered where nothing may have the next hit
-pub answered : (test : Bool) (result other : Option Hit) → test ≡ false → other ≡ result → result ≡ cond test None other
-answered true result other e f = cc
-answered false result other e f = sym f
+    let below : nat_lt given limit ≡ true = lt-ltb given limit (omega (arith, is.within, more)) in
+    let here : (nat_lt given limit && any_may_have_next all) ≡ false = subst (λ g. some_due (seen asks stands g) ≡ false) (sym before) idle in
+    let held : any_may_have_next all ≡ false = rw below at here in
+    subst (λ g. next_hit (seen asks stands g) ≡ None) before
+    (none_at_end (seen asks stands (gathered hs limit given last)) nobody is (all_lawful asks stands law hs) held (ready.held held))

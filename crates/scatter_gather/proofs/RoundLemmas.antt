@@ -6,8 +6,9 @@ use Rattle.std.proofs.lemmas.List.{get_or_append_left, get_or-append_right, take
 use Rattle.std.proofs.lemmas.Bool.{cases_lt, and_parts}
 use Rattle.hamming_model.specs.declared.hit.Hit.{Hit}
 use Rattle.hit_source.specs.Sources.{Asked, Standing}
-use Rattle.scatter_gather.specs.Gathering.{source_of, sources_of, is_empty, may_have_next, least_floor}
-use Rattle.scatter_gather.specs.GatherMoves.{PollsOnce, EachMarked, MarkedAreEmpty, IsMarked, PollsAll}
+use Rattle.scatter_gather.specs.Gathering.{source_of, sources_of}
+use Rattle.scatter_gather.specs.Due.{is_empty, may_have_next, least_floor}
+use Rattle.scatter_gather.specs.Polling.{PollsOnce, EachMarked, MarkedAreEmpty, IsMarked, PollsAll}
 
 parts : {S : Type 0} (R : S → ℕ → S → ℕ → Type 0) (n : ℕ) (qs rs : List Bool) (hs bs hs' bs' : List S) (ss ts ss' ts' : List ℕ)
     → length hs ≡ n → length qs ≡ n → length ss ≡ n → length hs' ≡ n → length ss' ≡ n

@@ -12,8 +12,9 @@ use Rattle.hit_source.specs.declared.polled.Polled.{Polled}
 use Rattle.hit_source.specs.declared.polled.Polled.TheVariants.{Moved, Full, Ended}
 use Rattle.hit_source.specs.Sources.{Asked, Standing, IsLawful}
 use Rattle.hit_source.specs.Moves.{Polls}
-use Rattle.scatter_gather.specs.Gathering.{Source, source_of, sources_of, asked_of, is_empty, is_idle, is_least, may_have_next, any_may_have_next, least_floor, todo}
-use Rattle.scatter_gather.specs.GatherMoves.{PollsOnce, PollsAll}
+use Rattle.scatter_gather.specs.Gathering.{Source, source_of, sources_of, asked_of}
+use Rattle.scatter_gather.specs.Due.{is_empty, is_idle, is_least, may_have_next, any_may_have_next, least_floor, todo}
+use Rattle.scatter_gather.specs.Polling.{PollsOnce, PollsAll}
 use Rattle.scatter_gather.proofs.KeepLemmas.{asked_seen}
 
 

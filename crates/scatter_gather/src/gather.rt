@@ -1,15 +1,21 @@
 //! A gathering of the hits of many sources.
 
-ghost use Rattle.std.specs.Prelude.{◌≡◌, ◌<◌, ◌≤◌, ◌↔◌, true, false, is_some, nat_lt, map, min, sum_by, length, IfOk, IfSome, None, slice_index_or, if◌then◌else◌};
+ghost use Rattle.std.specs.Prelude.{◌≡◌, ◌<◌, ◌≤◌, ◌↔◌, true, false, is_some, map, min, sum_by, length, IfOk, IfSome, Some, None, slice_index_or};
 ghost use Rattle.std.specs.List.{AllByRecursion};
 ghost use Rattle.std.specs.Thread.{IsSync};
-ghost use Rattle.hit_source.specs.Moves.{first_of};
-ghost use Rattle.scatter_gather.specs.Gathering.{gathered, seen, source_of, IsGathering, AreOneLength, is_due, some_due, any_may_have_next, answer_left, answer_of, reaches_by_rows};
+ghost use Rattle.hamming_model.specs.declared.hit.Hit.{Hit};
+ghost use Rattle.hamming_model.specs.declared.limits.TheConstants.{SHARDS_MOST};
 ghost use Rattle.hit_source.specs.Sources.{IsFresh};
-ghost use Rattle.scatter_gather.specs.GatherMoves.{PollsOne, Gives, PollsAll, PollsSome, Waited, Gave, BeginsUpTo, BegunWithin, distance_of};
+ghost use Rattle.scatter_gather.specs.Gathering.{gathered, seen, source_of, next_hit, has_more, reaches_by_rows};
+ghost use Rattle.scatter_gather.specs.Due.{is_due, some_due};
+ghost use Rattle.scatter_gather.specs.Heads.{MayGo};
+ghost use Rattle.scatter_gather.specs.Kept.{AreOneLength, IsGathering};
+ghost use Rattle.scatter_gather.specs.Polling.{PollsAll, PollsSome};
+ghost use Rattle.scatter_gather.specs.Moves.{PollsOne, Gives, Waited, Gave, Looks, BeginsForNext, BeginsUpTo, BegunWithin, distance_of};
 
-use crate::round::{Gate, poll_all, poll_by};
-use crate::looks::{all_near, any_may_have_next, any_waits, best_head, bound_of, least_floor, may_have_next, reads_of, rows_of};
+use crate::looks::{all_near, any_may_have_next, any_waits, bound_of, least_floor, may_have_next, reads_of, ready_head, rows_of};
+use crate::round::{poll_all, poll_by};
+use crate::{Gate, Tally};
 use hamming_model::Hit;
 use hit_source::{HitSource, Polled};
 use read_meter::{Meters, NoMemory, Steps};
@@ -18,6 +24,9 @@ use std::marker::Model;
 use std::thread::Threads;
 
 /// The hits of up to sixteen sources in order of distance and key, up to a limit.
+///
+/// A source is due where no hit waits at it, its floor is the least of all, and the limit isn't reached:
+/// before it was polled nobody knows whether the next hit is its own.
 #[derive(Drop)]
 pub struct Gather<H: HitSource> {
     sources: Vec<H>,
@@ -27,7 +36,8 @@ pub struct Gather<H: HitSource> {
 }
 
 impl<H: HitSource> Model for Gather<H> {
-    ghost use Rattle.scatter_gather.specs.Gathering.{Gathered, gathered, seen, IsGathering};
+    ghost use Rattle.scatter_gather.specs.Gathering.{Gathered, gathered, seen};
+    ghost use Rattle.scatter_gather.specs.Kept.{IsGathering};
 
     ghost Value = { Gathered H };
 
@@ -38,9 +48,13 @@ impl<H: HitSource> Model for Gather<H> {
 
 impl<H: HitSource> Gather<H> {
     /// Gathers these sources, of which nothing was polled or taken yet.
+    ///
+    /// # Errors
+    ///
+    /// `NoMemory`: none today, since a gathering takes no memory. The sources would be dropped.
     pub fn new(_alloc: Global, sources: Vec<H>, limit: u64) -> Result<Gather<H>, NoMemory>
         requires some { 1 ≤ length sources.items }
-        requires few { length sources.items ≤ 16 }
+        requires few { length sources.items ≤ SHARDS_MOST }
         requires one_length { AreOneLength (map H.asked sources.items) }
         requires fresh { AllByRecursion (λ source. IsFresh (H.standing source)) sources.items }
         ensures { IfOk result (λ gather. gather ≡ gathered sources.items limit 0 None) }
@@ -77,16 +91,19 @@ impl<H: HitSource> Gather<H> {
 
     /// Gives the next hit where it waits already and no source may have one before it.
     pub fn ready(&mut self) -> Option<Hit>
-        ensures gives { result ≡ (if any_may_have_next (seen H.asked H.standing self.old).sources
-            then None else first_of (answer_left (seen H.asked H.standing self.old))) }
+        ensures may_go { (hit : Hit) → (result ≡ Some hit) ↔ MayGo (seen H.asked H.standing self.old) hit }
+        ensures gives { IfSome result (λ hit. next_hit (seen H.asked H.standing self.old) ≡ Some hit) }
+        ensures last { result ≡ None → some_due (seen H.asked H.standing self.old) ≡ false
+            → next_hit (seen H.asked H.standing self.old) ≡ None }
         ensures after { Gives H.asked H.standing self.old self.new result }
+        // For the loops of `next` and `more`.
         ensures holds { IsGathering (seen H.asked H.standing self.new) }
         ensures rises { IfSome result (λ hit. IfSome self.old.last (λ last. last ≤ hit.dist)) }
     {
-        if self.given == self.limit || any_may_have_next(&self.sources) {
+        if self.given == self.limit {
             return None;
         }
-        let Some(best) = best_head(&self.sources) else {
+        let Some(best) = ready_head(&self.sources) else {
             return None;
         };
         let _head = self.sources[best.0].pop();
@@ -96,14 +113,23 @@ impl<H: HitSource> Gather<H> {
     }
 
     /// Polls one source, if it is due.
-    pub fn poll_one<L>(&mut self, shard: usize, budget: u32, meters: &mut Meters<L>) -> Option<Polled>
+    pub fn poll_one<L>(
+        &mut self,
+        shard: usize,
+        budget: u32,
+        meters: &mut Meters<L>,
+    ) -> Option<Polled>
         requires budget { 1 ≤ budget }
         requires shard { shard < length self.old.sources }
-        ensures held { (d : H) → (result ≡ None) ↔ (is_due (seen H.asked H.standing self.old) (source_of H.asked H.standing (slice_index_or self.old.sources shard d)) ≡ false) }
+        // None exactly where it isn't due, and then nothing happens.
+        ensures held { (d : H) → (result ≡ None) ↔ (is_due (seen H.asked H.standing self.old)
+            (source_of H.asked H.standing (slice_index_or self.old.sources shard d)) ≡ false) }
         ensures stays { result ≡ None → self.new ≡ self.old }
         ensures ledgers { result ≡ None → meters.new ≡ meters.old }
-        ensures polls { IfSome result (PollsOne H.asked H.standing budget shard self.old self.new meters.old meters.new) }
-        ensures begins { BeginsUpTo H.standing (distance_of (first_of (answer_left (seen H.asked H.standing self.old)))) self.old.sources self.new.sources }
+        // Else it was polled, on its own ledger.
+        ensures polls { IfSome result (PollsOne H.asked H.standing budget shard
+            self.old self.new meters.old meters.new) }
+        ensures begins { BeginsForNext H.asked H.standing self.old self.new }
     {
         if self.given == self.limit || !may_have_next(&self.sources[shard], least_floor(&self.sources)) {
             return None;
@@ -111,46 +137,39 @@ impl<H: HitSource> Gather<H> {
         Some(self.sources[shard].poll(budget, &mut meters.as_mut()[shard]))
     }
 
-    // Polls the sources that are due, side by side. It answers whether some were.
-    fn poll_due<R: Threads + Sync, G: Gate, L: Send>(&mut self, rt: &R, gate: &G, budget: u32, meters: &mut Meters<L>) -> bool
-        requires sync { IsSync R.row }
-        requires budget { 1 ≤ budget }
-        ensures due { result ≡ some_due (seen H.asked H.standing self.old) }
-        ensures none { result ≡ false → self.new ≡ self.old }
-        ensures no_step { result ≡ false → meters.new ≡ meters.old }
-        ensures polled { result ≡ true → PollsAll H.asked H.standing budget self.old.sources self.new.sources meters.old meters.new }
-        ensures begins { BeginsUpTo H.standing (distance_of (first_of (answer_left (seen H.asked H.standing self.old)))) self.old.sources self.new.sources }
-        ensures stays { self.new ≡ gathered self.new.sources self.old.limit self.old.given self.old.last }
-        ensures holds { IsGathering (seen H.asked H.standing self.new) }
-    {
-        if self.given == self.limit || !any_may_have_next(&self.sources) {
-            return false;
-        }
-        poll_all(rt, gate, budget, self.sources.as_mut_slice(), meters);
-        true
-    }
-
     /// Polls all sources that are due, side by side, each after `gate.pass` of its shard.
-    pub fn round<R: Threads + Sync, G: Gate, L: Send>(&mut self, rt: &R, gate: &G, budget: u32, meters: &mut Meters<L>)
+    pub fn round<R: Threads + Sync, G: Gate, L: Send>(
+        &mut self,
+        rt: &R,
+        gate: &G,
+        budget: u32,
+        meters: &mut Meters<L>,
+    )
         requires sync { IsSync R.row }
         requires budget { 1 ≤ budget }
+        // Where none is due nothing happens.
         ensures none { some_due (seen H.asked H.standing self.old) ≡ false → self.new ≡ self.old }
         ensures no_step { some_due (seen H.asked H.standing self.old) ≡ false → meters.new ≡ meters.old }
-        ensures polled { some_due (seen H.asked H.standing self.old) ≡ true → PollsAll H.asked H.standing budget self.old.sources self.new.sources meters.old meters.new }
-        ensures begins { BeginsUpTo H.standing (distance_of (first_of (answer_left (seen H.asked H.standing self.old)))) self.old.sources self.new.sources }
+        // Else each one that is due was polled once, on its own ledger.
+        ensures polled { some_due (seen H.asked H.standing self.old) ≡ true → PollsAll H.asked H.standing
+            budget self.old.sources self.new.sources meters.old meters.new }
         ensures stays { self.new ≡ gathered self.new.sources self.old.limit self.old.given self.old.last }
+        ensures begins { BeginsForNext H.asked H.standing self.old self.new }
     {
-        let _polled = self.poll_due(rt, gate, budget, meters);
+        if self.given == self.limit || !any_may_have_next(&self.sources) {
+            return;
+        }
+        let _goes_on = poll_all(rt, gate, budget, self.sources.as_mut_slice(), meters);
     }
 
-    // Polls the sources that are due, side by side if `heavy`, else one after the other with a small
-    // budget. It answers none where none is due, else whether one of them may have more to do at once.
+    // Polls the sources that are due, side by side if there is much to do, else one after the other. It
+    // answers none where none is due, else whether one of them has more to do at once.
     fn poll_some<R: Threads + Sync, G: Gate, L: Send>(
         &mut self,
         rt: &R,
         gate: &G,
         budget: u32,
-        heavy: bool,
+        much: bool,
         meters: &mut Meters<L>,
     ) -> Option<bool>
         requires sync { IsSync R.row }
@@ -158,44 +177,60 @@ impl<H: HitSource> Gather<H> {
         ensures due { is_some result ≡ some_due (seen H.asked H.standing self.old) }
         ensures none { is_some result ≡ false → self.new ≡ self.old }
         ensures no_step { is_some result ≡ false → meters.new ≡ meters.old }
-        ensures polled { is_some result ≡ true → PollsSome H.asked H.standing self.old.sources self.new.sources meters.old meters.new }
+        ensures polled { is_some result ≡ true → PollsSome H.asked H.standing
+            self.old.sources self.new.sources meters.old meters.new }
         ensures stays { self.new ≡ gathered self.new.sources self.old.limit self.old.given self.old.last }
         ensures holds { IsGathering (seen H.asked H.standing self.new) }
     {
         if self.given == self.limit || !any_may_have_next(&self.sources) {
             return None;
         }
-        Some(poll_by(rt, gate, budget, heavy, self.sources.as_mut_slice(), meters))
+        Some(poll_by(rt, gate, budget, much, self.sources.as_mut_slice(), meters))
     }
 
     /// The next hit: none exactly at the end of the answer.
-    pub fn next<R: Threads + Sync, G: Gate, L: Send>(&mut self, rt: &R, gate: &G, budget: u32, meters: &mut Meters<L>) -> Option<Hit>
+    pub fn next<R: Threads + Sync, G: Gate, L: Send>(
+        &mut self,
+        rt: &R,
+        gate: &G,
+        budget: u32,
+        meters: &mut Meters<L>,
+    ) -> Option<Hit>
         requires sync { IsSync R.row }
         requires budget { 1 ≤ budget }
-        ensures gives { result ≡ first_of (answer_left (seen H.asked H.standing self.old)) }
+        ensures gives { result ≡ next_hit (seen H.asked H.standing self.old) }
         ensures gave { Gave H.asked H.standing self.old self.new meters.old meters.new result }
+        // No source begins a radius above the distance of the hit.
         ensures begins { BeginsUpTo H.standing (distance_of result) self.old.sources self.new.sources }
         ensures within { reaches_by_rows (seen H.asked H.standing self.old) ≡ true
-            → BegunWithin H.standing self.old.last self.old.sources → BegunWithin H.standing self.new.last self.new.sources }
+            → BegunWithin H.standing self.old.last self.old.sources
+            → BegunWithin H.standing self.new.last self.new.sources }
     {
-        let mut heavy = false;
+        let mut much = false;
         loop {
             if let Some(hit) = self.ready() {
                 return Some(hit);
             }
-            let Some(spent) = self.poll_some(rt, gate, budget, heavy, meters) else {
+            let Some(goes_on) = self.poll_some(rt, gate, budget, much, meters) else {
                 return None;
             };
-            heavy = spent;
+            much = goes_on;
         }
     }
 
     /// Whether the answer has another hit.
-    pub fn more<R: Threads + Sync, G: Gate, L: Send>(&mut self, rt: &R, gate: &G, budget: u32, meters: &mut Meters<L>) -> bool
+    pub fn more<R: Threads + Sync, G: Gate, L: Send>(
+        &mut self,
+        rt: &R,
+        gate: &G,
+        budget: u32,
+        meters: &mut Meters<L>,
+    ) -> bool
         requires sync { IsSync R.row }
         requires budget { 1 ≤ budget }
-        ensures more { result ≡ nat_lt self.old.given (length (answer_of (seen H.asked H.standing self.old))) }
+        ensures more { result ≡ has_more (seen H.asked H.standing self.old) }
         ensures waited { Waited H.asked H.standing self.old self.new meters.old meters.new }
+        // Where every row is a hit, and there are as many as the limit, nothing is read.
         ensures near { reaches_by_rows (seen H.asked H.standing self.old) ≡ true → self.new ≡ self.old }
         ensures no_step { reaches_by_rows (seen H.asked H.standing self.old) ≡ true → meters.new ≡ meters.old }
     {
@@ -205,15 +240,15 @@ impl<H: HitSource> Gather<H> {
         if all_near(&self.sources) && self.limit <= rows_of(&self.sources) {
             return true;
         }
-        let mut heavy = false;
+        let mut much = false;
         loop {
             if any_waits(&self.sources) {
                 return true;
             }
-            let Some(spent) = self.poll_some(rt, gate, budget, heavy, meters) else {
+            let Some(goes_on) = self.poll_some(rt, gate, budget, much, meters) else {
                 return false;
             };
-            heavy = spent;
+            much = goes_on;
         }
     }
 
@@ -221,10 +256,9 @@ impl<H: HitSource> Gather<H> {
     pub fn plan(&mut self, shard: usize) -> u64
         requires { shard < length self.old.sources }
         ensures cost { (d : H) → result ≡ ((H.asked (slice_index_or self.old.sources shard d)).plan self.old.last).1 }
-        ensures vector { (d : H) → H.planned (slice_index_or self.new.sources shard d) ≡ ((H.asked (slice_index_or self.old.sources shard d)).plan self.old.last).0 }
-        ensures asked { map H.asked self.new.sources ≡ map H.asked self.old.sources }
-        ensures standing { map H.standing self.new.sources ≡ map H.standing self.old.sources }
-        ensures stays { self.new ≡ gathered self.new.sources self.old.limit self.old.given self.old.last }
+        ensures vector { (d : H) → H.planned (slice_index_or self.new.sources shard d)
+            ≡ ((H.asked (slice_index_or self.old.sources shard d)).plan self.old.last).0 }
+        ensures looks { Looks H.asked H.standing self.old self.new }
     {
         let last = self.last;
         self.sources[shard].plan(last)
@@ -243,9 +277,8 @@ impl<H: HitSource> Gather<H> {
     pub fn cost(&mut self) -> (u64, u64)
         ensures reads { result.0 ≡ min (sum_by (λ source. (H.standing source).reads) self.old.sources) u64.MAX }
         ensures bound { result.1 ≡ min (sum_by (λ source. (H.asked source).bound self.old.last) self.old.sources) u64.MAX }
-        ensures asked { map H.asked self.new.sources ≡ map H.asked self.old.sources }
-        ensures standing { map H.standing self.new.sources ≡ map H.standing self.old.sources }
-        ensures stays { self.new ≡ gathered self.new.sources self.old.limit self.old.given self.old.last }
+        ensures looks { Looks H.asked H.standing self.old self.new }
+        // Where no source began a radius above the last hit's distance, the reads are within the bound.
         ensures within { BegunWithin H.standing self.old.last self.old.sources → result.0 ≤ result.1 }
     {
         let last = self.last;
@@ -264,13 +297,4 @@ impl<H: HitSource> Gather<H> {
             reads: reads_of(&self.sources),
         }
     }
-}
-
-/// What a gathering gave and read.
-#[derive(Clone, Copy, Debug, PartialEq, Eq)]
-pub struct Tally {
-    /// How many hits were given.
-    pub given: u64,
-    /// How many postings were read.
-    pub reads: u64,
 }

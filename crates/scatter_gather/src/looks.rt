@@ -2,7 +2,9 @@
 
 ghost use Rattle.std.specs.Prelude.{◌≡◌, ◌<◌, ◌≤◌, ℕ, length, map, min, sum_by, IfSome, slice_index_or};
 ghost use Rattle.std.specs.List.{list_any, list_all};
-ghost use Rattle.scatter_gather.specs.Gathering.{source_of, sources_of, lower, least_floor, is_least, may_have_next, any_may_have_next, BestOf, better, has_head};
+ghost use Rattle.scatter_gather.specs.Gathering.{source_of, sources_of};
+ghost use Rattle.scatter_gather.specs.Due.{lower, least_floor, is_least, may_have_next, any_may_have_next, has_head};
+ghost use Rattle.scatter_gather.specs.Heads.{better, empty_floor, has_to_wait, IsReady};
 
 use hamming_model::Hit;
 use hit_source::HitSource;
@@ -83,13 +85,42 @@ fn better(best: Option<(usize, Hit)>, shard: usize, head: Option<Hit>) -> Option
     }
 }
 
-// The first of the hits that wait, with the number of its source.
-pub(crate) fn best_head<H: HitSource>(sources: &[H]) -> Option<(usize, Hit)>
-    ensures { BestOf (sources_of H.asked H.standing sources.now) (length sources.now) result }
+// The floor of a source at which no hit waits.
+fn empty_floor<H: HitSource>(source: &H) -> Option<u32>
+    ensures { result ≡ empty_floor (source_of H.asked H.standing source.now) }
+{
+    if source.head().is_some() {
+        None
+    } else {
+        source.floor()
+    }
+}
+
+// Whether the best head has to wait for a source at which none waits, of which the least floor is given.
+fn has_to_wait(best: Option<(usize, Hit)>, floor: Option<u32>) -> bool
+    ensures { result ≡ has_to_wait best floor }
+{
+    match floor {
+        None => false,
+        Some(floor) => match best {
+            None => true,
+            Some(found) => floor <= found.1.dist,
+        },
+    }
+}
+
+// The first of the hits that wait, with the number of its source, where it goes before all that may come.
+pub(crate) fn ready_head<H: HitSource>(sources: &[H]) -> Option<(usize, Hit)>
+    ensures { IsReady (sources_of H.asked H.standing sources.now) result }
 {
     let mut best: Option<(usize, Hit)> = None;
+    let mut floor: Option<u32> = None;
     for shard in 0..sources.len() {
         best = better(best, shard, sources[shard].head());
+        floor = lower_floor(floor, empty_floor(&sources[shard]));
+    }
+    if has_to_wait(best, floor) {
+        return None;
     }
     best
 }

@@ -1,30 +1,22 @@
-//! Polls of the sources that may have the next hit, side by side.
+//! Polls of the sources that may have the next hit, side by side or one after the other.
 
 ghost use Rattle.std.specs.Prelude.{◌≡◌, ◌≤◌, ◌+◌, length};
 ghost use Rattle.std.specs.Thread.{IsSync};
-ghost use Rattle.scatter_gather.specs.Gathering.{sources_of, any_may_have_next};
-ghost use Rattle.scatter_gather.specs.GatherMoves.{PollsOnce, EachMarked, MarkedAreEmpty, IsMarked, PollsAll, PollsIfNext, PollsSome};
+ghost use Rattle.hamming_model.specs.declared.limits.TheConstants.{SHARDS_MOST};
+ghost use Rattle.scatter_gather.specs.Gathering.{sources_of};
+ghost use Rattle.scatter_gather.specs.Polling.{PollsOnce, EachMarked, MarkedAreEmpty, IsMarked, PollsAll, PollsIfNext, PollsSome};
 
+use crate::Gate;
 use crate::looks::{least_floor, may_have_next};
 use hit_source::{HitSource, Polled};
 use read_meter::{Meters, Steps};
 use std::thread::{Threads, join_mut};
 
-/// What is called before each poll of a round, in its thread.
-pub trait Gate: Sync {
-    /// Returns once the source of this shard may be polled.
-    fn pass(&self, shard: usize);
-}
+// The budget of polls one after the other: about what a thread costs.
+const BUDGET_IN_TURN: u32 = 4096;
 
-/// Lets each poll pass at once.
-#[derive(Clone, Copy)]
-pub struct NoGate;
-
-impl Gate for NoGate {
-    fn pass(&self, shard: usize) {}
-}
-
-// Polls the marked sources, each in a thread of its own where threads can be had.
+// Polls the marked sources, each in a thread of its own where threads can be had. It answers whether one
+// of them has more to do at once.
 #[cycle(marked)]
 pub(crate) fn poll_marked<R: Threads + Sync, H: HitSource, G: Gate, L: Send>(
     rt: &R,
@@ -39,7 +31,8 @@ pub(crate) fn poll_marked<R: Threads + Sync, H: HitSource, G: Gate, L: Send>(
     requires lengths { (length sources.old ≡ length meters.old) × (length marks.now ≡ length meters.old) }
     requires small { first.now + length sources.old ≤ 16 }
     requires empty { MarkedAreEmpty H.standing marks.now sources.old }
-    ensures each { EachMarked (PollsOnce H.asked H.standing budget.now) marks.now sources.old meters.old sources.new meters.new }
+    ensures each { EachMarked (PollsOnce H.asked H.standing budget.now)
+        marks.now sources.old meters.old sources.new meters.new }
 {
     let count = sources.len();
     if count == 0 {
@@ -51,14 +44,15 @@ pub(crate) fn poll_marked<R: Threads + Sync, H: HitSource, G: Gate, L: Send>(
         }
         gate.pass(*first);
         let polled = sources[0].poll(*budget, &mut meters[0]);
-        return is_moved(polled);
+        return goes_on(polled, &sources[0]);
     }
+    // Numbers are handed in by reference: a closure that takes one by value beside a slice loses the slice.
     let half = count / 2;
     let next = &(*first + half);
     let (front, back) = sources.split_at_mut(half);
     let (low, high) = meters.split_at_mut(half);
     let (marks_low, marks_high) = marks.split_at(half);
-    let (front_spent, back_spent) = join_mut(
+    let (front_goes_on, back_goes_on) = join_mut(
         rt,
         &mut ||
             requires sync { IsSync R.row }
@@ -66,7 +60,8 @@ pub(crate) fn poll_marked<R: Threads + Sync, H: HitSource, G: Gate, L: Send>(
             requires lengths { (length front.now ≡ length low.now) × (length marks_low.now ≡ length low.now) }
             requires small { first.now + length front.now ≤ 16 }
             requires empty { MarkedAreEmpty H.standing marks_low.now front.now }
-            ensures { EachMarked (PollsOnce H.asked H.standing budget.entry.now) marks_low.entry.now front.entry.now low.entry.now front.exit.now low.exit.now }
+            ensures { EachMarked (PollsOnce H.asked H.standing budget.entry.now)
+                marks_low.entry.now front.entry.now low.entry.now front.exit.now low.exit.now }
         { poll_marked(rt, gate, budget, first, marks_low, front, low) },
         &mut ||
             requires sync { IsSync R.row }
@@ -74,16 +69,17 @@ pub(crate) fn poll_marked<R: Threads + Sync, H: HitSource, G: Gate, L: Send>(
             requires lengths { (length back.now ≡ length high.now) × (length marks_high.now ≡ length high.now) }
             requires small { next.now + length back.now ≤ 16 }
             requires empty { MarkedAreEmpty H.standing marks_high.now back.now }
-            ensures { EachMarked (PollsOnce H.asked H.standing budget.entry.now) marks_high.entry.now back.entry.now high.entry.now back.exit.now high.exit.now }
+            ensures { EachMarked (PollsOnce H.asked H.standing budget.entry.now)
+                marks_high.entry.now back.entry.now high.entry.now back.exit.now high.exit.now }
         { poll_marked(rt, gate, budget, next, marks_high, back, high) },
     );
-    front_spent | back_spent
+    front_goes_on | back_goes_on
 }
 
-// Whether a poll may have more to do at once.
-fn is_moved(polled: Polled) -> bool {
+// Whether a source that was polled has more to do at once: it spent its budget, and no hit waits.
+fn goes_on<H: HitSource>(polled: Polled, source: &H) -> bool {
     match polled {
-        Polled::Moved => true,
+        Polled::Moved => source.head().is_none(),
         Polled::Full => false,
         Polled::Ended => false,
     }
@@ -100,7 +96,8 @@ pub(crate) fn mark<H: HitSource>(sources: &[H], marks: &mut [bool])
     }
 }
 
-// Polls the sources that may have the next hit, side by side.
+// Polls the sources that may have the next hit, side by side. It takes no memory, and answers whether one
+// of them has more to do at once.
 pub(crate) fn poll_all<R: Threads + Sync, H: HitSource, G: Gate, L: Send>(
     rt: &R,
     gate: &G,
@@ -110,7 +107,7 @@ pub(crate) fn poll_all<R: Threads + Sync, H: HitSource, G: Gate, L: Send>(
 ) -> bool
     requires sync { IsSync R.row }
     requires budget { 1 ≤ budget }
-    requires few { length sources.old ≤ 16 }
+    requires few { length sources.old ≤ SHARDS_MOST }
     ensures { PollsAll H.asked H.standing budget sources.old sources.new meters.old meters.new }
 {
     let count = sources.len();
@@ -121,7 +118,7 @@ pub(crate) fn poll_all<R: Threads + Sync, H: HitSource, G: Gate, L: Send>(
     poll_marked(rt, gate, &budget, &0, marks, sources, ours)
 }
 
-// Polls a source if it may have the next hit. It answers whether the poll may have more to do at once.
+// Polls a source if it may have the next hit, and answers whether it has more to do at once.
 fn poll_if_next<H: HitSource, G: Gate, L>(
     gate: &G,
     budget: u32,
@@ -138,11 +135,11 @@ fn poll_if_next<H: HitSource, G: Gate, L>(
     }
     gate.pass(shard);
     let polled = source.poll(budget, steps);
-    is_moved(polled)
+    goes_on(polled, source)
 }
 
-// Polls the sources that may have the next hit, one after the other. It answers whether one may have more
-// to do at once.
+// Polls the sources that may have the next hit, one after the other, and answers whether one of them has
+// more to do at once.
 pub(crate) fn poll_in_turn<H: HitSource, G: Gate, L>(
     gate: &G,
     budget: u32,
@@ -154,35 +151,32 @@ pub(crate) fn poll_in_turn<H: HitSource, G: Gate, L>(
     ensures { PollsAll H.asked H.standing budget sources.old sources.new meters.old meters.new }
 {
     let least = least_floor(sources);
-    let mut spent = false;
+    let mut goes_on = false;
     for shard in 0..sources.len() {
         let more = poll_if_next(gate, budget, least, shard, &mut sources[shard], &mut meters[shard]);
-        spent = spent || more;
+        goes_on = goes_on || more;
     }
-    spent
+    goes_on
 }
 
-// The budget of a poll in turn.
-const SMALL: u32 = 4096;
-
-// Polls the sources that may have the next hit, side by side if `heavy`, else one after the other with a
-// small budget. It answers whether one may have more to do at once.
+// Polls the sources that may have the next hit: side by side if there is much to do, else one after the
+// other with a small budget. It answers whether one of them has more to do at once.
 pub(crate) fn poll_by<R: Threads + Sync, H: HitSource, G: Gate, L: Send>(
     rt: &R,
     gate: &G,
     budget: u32,
-    heavy: bool,
+    much: bool,
     sources: &mut [H],
     meters: &mut Meters<L>,
 ) -> bool
     requires sync { IsSync R.row }
     requires budget { 1 ≤ budget }
-    requires few { length sources.old ≤ 16 }
+    requires few { length sources.old ≤ SHARDS_MOST }
     ensures { PollsSome H.asked H.standing sources.old sources.new meters.old meters.new }
 {
-    if heavy {
+    if much {
         poll_all(rt, gate, budget, sources, meters)
     } else {
-        poll_in_turn(gate, budget.min(SMALL), sources, meters.as_mut())
+        poll_in_turn(gate, budget.min(BUDGET_IN_TURN), sources, meters.as_mut())
     }
 }

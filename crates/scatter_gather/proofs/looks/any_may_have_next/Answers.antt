@@ -4,7 +4,8 @@ use Rattle.std.specs.List.{list_any}
 use Rattle.std.proofs.lemmas.Bool.{or_from}
 use Rattle.std.proofs.lemmas.List.{length-map, take_all}
 use Rattle.std.proofs.lemmas.List.Folds.{list_any_at, list_any_more}
-use Rattle.scatter_gather.specs.Gathering.{source_of, sources_of, may_have_next, least_floor}
+use Rattle.scatter_gather.specs.Gathering.{source_of, sources_of}
+use Rattle.scatter_gather.specs.Due.{may_have_next, least_floor}
 use Rattle.scatter_gather.proofs.MergeLemmas.{read_seen}
 use Rattle.scatter_gather.proofs.looks.any_may_have_next.Goals as goal
 

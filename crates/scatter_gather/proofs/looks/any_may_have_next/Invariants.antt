@@ -1,7 +1,8 @@
 -- None of the sources so far may have the next hit.
 use Rattle.std.proofs.Common.{◌≡◌, take, false}
 use Rattle.std.specs.List.{list_any}
-use Rattle.scatter_gather.specs.Gathering.{sources_of, may_have_next, least_floor}
+use Rattle.scatter_gather.specs.Gathering.{sources_of}
+use Rattle.scatter_gather.specs.Due.{may_have_next, least_floor}
 use Rattle.scatter_gather.proofs.looks.any_may_have_next.Given as goal
 
 abbrev pub invariant-loop-shard : goal.invariant-loop-shard

@@ -1,7 +1,8 @@
 -- No hit waits at the sources so far.
 use Rattle.std.proofs.Common.{◌≡◌, take, false}
 use Rattle.std.specs.List.{list_any}
-use Rattle.scatter_gather.specs.Gathering.{sources_of, has_head}
+use Rattle.scatter_gather.specs.Gathering.{sources_of}
+use Rattle.scatter_gather.specs.Due.{has_head}
 use Rattle.scatter_gather.proofs.looks.any_waits.Given as goal
 
 abbrev pub invariant-loop-shard : goal.invariant-loop-shard

@@ -1,6 +1,7 @@
 -- The least floor so far, with those that are left, is that of all.
 use Rattle.std.proofs.Common.{◌≡◌, drop}
-use Rattle.scatter_gather.specs.Gathering.{sources_of, lower, least_floor}
+use Rattle.scatter_gather.specs.Gathering.{sources_of}
+use Rattle.scatter_gather.specs.Due.{lower, least_floor}
 use Rattle.scatter_gather.proofs.looks.least_floor.Given as goal
 
 abbrev pub invariant-loop-shard : goal.invariant-loop-shard

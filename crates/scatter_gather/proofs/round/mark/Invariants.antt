@@ -1,6 +1,7 @@
 -- The sources so far are marked.
 use Rattle.std.proofs.Common.{◌≡◌, ◌<◌, ℕ, get_or, false, length}
-use Rattle.scatter_gather.specs.Gathering.{Source, source_of, sources_of, may_have_next}
+use Rattle.scatter_gather.specs.Gathering.{Source, source_of, sources_of}
+use Rattle.scatter_gather.specs.Due.{may_have_next}
 use Rattle.scatter_gather.proofs.round.mark.Given as goal
 
 abbrev pub invariant-loop-shard : goal.invariant-loop-shard

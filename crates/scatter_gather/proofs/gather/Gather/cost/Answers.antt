@@ -2,7 +2,7 @@
 use Rattle.std.proofs.Common.{◌≡◌, ◌∙◌, ap, arith, length, drop, sym, subst, map}
 use Rattle.std.proofs.lemmas.List.{take_at, length-map}
 use Rattle.scatter_gather.specs.Gathering.{gathered}
-use Rattle.scatter_gather.specs.GatherMoves.{BegunWithin}
+use Rattle.scatter_gather.specs.Moves.{BegunWithin}
 use Rattle.scatter_gather.proofs.BeginLemmas.{reads_within, capped}
 use Rattle.scatter_gather.proofs.KeepLemmas.{last_within, planned_keeps}
 use Rattle.scatter_gather.proofs.gather.Gather.cost.Goals as goal

@@ -3,8 +3,9 @@ use Rattle.std.proofs.Common.{◌≡◌, ◌∙◌, ap, arith, sym, subst, None,
 use Rattle.std.specs.Prelude.{is_some, nat_lt, nat_le, sum_by}
 use Rattle.std.specs.List.{list_any, list_all}
 use Rattle.std.proofs.lemmas.Bool.{and_from, le-leb}
-use Rattle.scatter_gather.specs.Gathering.{Source, seen, sources_of, answer_of, some_due, gathered, has_head}
-use Rattle.scatter_gather.specs.GatherMoves.{PollsAll}
+use Rattle.scatter_gather.specs.Gathering.{Source, seen, sources_of, answer_of, gathered}
+use Rattle.scatter_gather.specs.Due.{some_due, has_head}
+use Rattle.scatter_gather.specs.Polling.{PollsAll}
 use Rattle.scatter_gather.proofs.NextLemmas.{waited_again, loop_todo}
 use Rattle.scatter_gather.proofs.ReadyLemmas.{all_lawful}
 use Rattle.scatter_gather.proofs.MoreLemmas.{more_rows, seen_waits, none_due_more, waited_more, waited_open}

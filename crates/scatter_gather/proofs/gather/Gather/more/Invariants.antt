@@ -1,8 +1,10 @@
 -- Polls so far gave no hit, and each round leaves less to do.
 use Rattle.std.proofs.Common.{◌+◌, ◌≡◌}
 use Rattle.std.specs.Prelude.{sum_by}
-use Rattle.scatter_gather.specs.Gathering.{sources_of, seen, todo, IsGathering}
-use Rattle.scatter_gather.specs.GatherMoves.{Waited}
+use Rattle.scatter_gather.specs.Gathering.{sources_of, seen}
+use Rattle.scatter_gather.specs.Due.{todo}
+use Rattle.scatter_gather.specs.Kept.{IsGathering}
+use Rattle.scatter_gather.specs.Moves.{Waited}
 use Rattle.scatter_gather.proofs.gather.Gather.more.Given as goal
 
 abbrev pub invariant-loop-self : goal.invariant-loop-self

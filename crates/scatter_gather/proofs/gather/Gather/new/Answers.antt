@@ -2,7 +2,8 @@
 use Rattle.std.proofs.Common.{◌∙◌, refl, sym, ap, subst, arith}
 use Rattle.std.proofs.lemmas.List.{length-map}
 use Rattle.hamming_model.specs.Scan.{in_order}
-use Rattle.scatter_gather.specs.Gathering.{Source, source_of, AreOneLength}
+use Rattle.scatter_gather.specs.Gathering.{Source, source_of}
+use Rattle.scatter_gather.specs.Kept.{AreOneLength}
 use Rattle.hit_source.specs.Sources.{IsFresh}
 use Rattle.scatter_gather.proofs.MergeLemmas.{all_left, all_of_map}
 use Rattle.scatter_gather.proofs.KeepLemmas.{asked_seen}

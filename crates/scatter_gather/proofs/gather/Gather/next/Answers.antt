@@ -2,10 +2,13 @@
 use Rattle.std.proofs.Common.{◌≡◌, ◌∙◌, ap, arith, sym, subst, None, Some, true, false, refl}
 use Rattle.std.specs.Prelude.{is_some, IfSome, ◌≤◌}
 use Rattle.hit_source.specs.Moves.{first_of}
-use Rattle.scatter_gather.specs.Gathering.{seen, answer_left, some_due, gathered, IsGathering}
-use Rattle.scatter_gather.specs.GatherMoves.{Gives, PollsAll, BeginsUpTo, BegunWithin, distance_of}
+use Rattle.scatter_gather.specs.Gathering.{seen, answer_left, gathered}
+use Rattle.scatter_gather.specs.Due.{some_due}
+use Rattle.scatter_gather.specs.Kept.{IsGathering}
+use Rattle.scatter_gather.specs.Polling.{PollsAll}
+use Rattle.scatter_gather.specs.Moves.{Gives, BeginsUpTo, BegunWithin, distance_of}
 use Rattle.scatter_gather.proofs.TodoLemmas.{round_todo}
-use Rattle.scatter_gather.proofs.NextLemmas.{waited_left, waited_again, none_due, some_given, loop_todo, gave_none, gave_one}
+use Rattle.scatter_gather.proofs.NextLemmas.{waited_left, waited_again, loop_todo, gave_one}
 use Rattle.scatter_gather.proofs.BeginLemmas.{round_begins, begins_more, begins_given, within_next}
 use Rattle.scatter_gather.proofs.ReadyLemmas.{all_lawful}
 use Rattle.scatter_gather.proofs.MoreLemmas.{ends_at_limit, not_due, waited_rows}
@@ -13,7 +16,7 @@ use Rattle.scatter_gather.proofs.gather.Gather.next.Goals as goal
 
 pub returns-in-Some-clause-gives : goal.returns-in-Some-clause-gives
 returns-in-Some-clause-gives g c =
-    sym (some_given (seen g.H.HitSource.asked g.H.HitSource.standing c.loop-hit.self) c.in-Some.hit (sym c.in-Some.is ∙ c.ready.ensures.gives))
+    sym c.in-Some.ensures.gives
     ∙ ap first_of (waited_left g.H.HitSource.asked g.H.HitSource.standing c.args.self.now c.loop-hit.self c.args.meters.now c.loop-hit.meters c.loop-hit.invariant.0)
 
 pub returns-in-Some-clause-gave : goal.returns-in-Some-clause-gave
@@ -26,7 +29,7 @@ returns-in_default-poll_some-clause-gives g c =
     let stayed : c.ready.new.self ≡ c.loop-hit.self = subst (λ r. Gives g.H.HitSource.asked g.H.HitSource.standing c.loop-hit.self c.ready.new.self r) c.in_default.is c.ready.ensures.after in
     let held : some_due (seen g.H.HitSource.asked g.H.HitSource.standing c.loop-hit.self) ≡ false =
         subst (λ x. some_due (seen g.H.HitSource.asked g.H.HitSource.standing x) ≡ false) stayed (sym c.poll_some.ensures.due ∙ ap is_some c.in_default-poll_some.is) in
-    sym (none_due (seen g.H.HitSource.asked g.H.HitSource.standing c.loop-hit.self) held (sym c.in_default.is ∙ c.ready.ensures.gives))
+    sym (c.ready.ensures.last c.in_default.is held)
     ∙ ap first_of (waited_left g.H.HitSource.asked g.H.HitSource.standing c.args.self.now c.loop-hit.self c.args.meters.now c.loop-hit.meters c.loop-hit.invariant.0)
 
 pub loop-hit-smaller : goal.loop-hit-smaller
@@ -55,7 +58,7 @@ loop-hit-preserved g c =
 pub returns-in-Some-clause-begins : goal.returns-in-Some-clause-begins
 returns-in-Some-clause-begins g c =
     let gives = subst (λ r. Gives g.H.HitSource.asked g.H.HitSource.standing c.loop-hit.self c.ready.new.self r) c.in-Some.is c.ready.ensures.after in
-    let next = some_given (seen g.H.HitSource.asked g.H.HitSource.standing c.loop-hit.self) c.in-Some.hit (sym c.in-Some.is ∙ c.ready.ensures.gives) in
+    let next = c.in-Some.ensures.gives in
     let left = waited_left g.H.HitSource.asked g.H.HitSource.standing c.args.self.now c.loop-hit.self c.args.meters.now c.loop-hit.meters c.loop-hit.invariant.0 in
     begins_more g.H.HitSource.standing _ c.args.self.now.sources c.loop-hit.self.sources c.ready.new.self.sources c.loop-hit.invariant.0.ledgers.count
     (subst (λ next. BeginsUpTo g.H.HitSource.standing (distance_of next) c.args.self.now.sources c.loop-hit.self.sources) (ap first_of (sym left) ∙ next) c.loop-hit.invariant.1)

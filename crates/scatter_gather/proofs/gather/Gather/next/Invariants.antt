@@ -2,8 +2,9 @@
 use Rattle.std.proofs.Common.{◌+◌, ◌≡◌}
 use Rattle.std.specs.Prelude.{sum_by}
 use Rattle.hit_source.specs.Moves.{first_of}
-use Rattle.scatter_gather.specs.Gathering.{sources_of, todo, seen, answer_left}
-use Rattle.scatter_gather.specs.GatherMoves.{Waited, BeginsUpTo, distance_of}
+use Rattle.scatter_gather.specs.Gathering.{sources_of, seen, answer_left}
+use Rattle.scatter_gather.specs.Due.{todo}
+use Rattle.scatter_gather.specs.Moves.{Waited, BeginsUpTo, distance_of}
 use Rattle.scatter_gather.proofs.gather.Gather.next.Given as goal
 
 abbrev pub invariant-loop-hit : goal.invariant-loop-hit

@@ -1,5 +1,5 @@
 -- A plan changes neither what the source is asked nor where it stands.
-use Rattle.std.proofs.Common.{◌≡◌, ◌∙◌, ◌<◌, ap, arith, length, sym, subst, map, set, get_or}
+use Rattle.std.proofs.Common.{rules, ◌≡◌, ◌∙◌, ◌<◌, ap, arith, length, sym, subst, map, set, get_or}
 use Rattle.std.specs.Prelude.{IfSome, ◌≤◌}
 use Rattle.scatter_gather.proofs.KeepLemmas.{last_within, planned_keeps, set_alike}
 use Rattle.scatter_gather.proofs.gather.Gather.plan.Goals as goal
@@ -19,14 +19,15 @@ invariant_of-self g c =
     (set_alike g.H.HitSource.standing c.self.inside.sources.items c.args.shard c.index_mut.result.now c.plan.new.self l c.index_mut.ensures.value c.plan.ensures.standing)
     c.self.invariant
 
-pub returns-clause-asked : goal.returns-clause-asked
-returns-clause-asked g c =
-    let same : length c.self.inside.sources.items ≡ length c.args.self.now.sources = ap (λ x. length x.sources) c.self.view_is in
-    let l : c.args.shard < length c.self.inside.sources.items = omega (arith, same, c.requires) in
-    set_alike g.H.HitSource.asked c.self.inside.sources.items c.args.shard c.index_mut.result.now c.plan.new.self l c.index_mut.ensures.value c.plan.ensures.asked ∙ ap (λ x. map g.H.HitSource.asked x.sources) c.self.view_is
-
-pub returns-clause-standing : goal.returns-clause-standing
-returns-clause-standing g c =
-    let same : length c.self.inside.sources.items ≡ length c.args.self.now.sources = ap (λ x. length x.sources) c.self.view_is in
-    let l : c.args.shard < length c.self.inside.sources.items = omega (arith, same, c.requires) in
-    set_alike g.H.HitSource.standing c.self.inside.sources.items c.args.shard c.index_mut.result.now c.plan.new.self l c.index_mut.ensures.value c.plan.ensures.standing ∙ ap (λ x. map g.H.HitSource.standing x.sources) c.self.view_is
+pub returns-clause-looks : goal.returns-clause-looks
+returns-clause-looks g c =
+    let asks = g.H.HitSource.asked in
+    let stands = g.H.HitSource.standing in
+    let hs = c.self.inside.sources.items in
+    let same : length hs ≡ length c.args.self.now.sources = ap (λ x. length x.sources) c.self.view_is in
+    let l : c.args.shard < length hs = omega (arith, same, c.requires) in
+    record {
+      asked = set_alike asks hs c.args.shard c.index_mut.result.now c.plan.new.self l c.index_mut.ensures.value c.plan.ensures.asked ∙ ap (λ x. map asks x.sources) c.self.view_is;
+      standing = set_alike stands hs c.args.shard c.index_mut.result.now c.plan.new.self l c.index_mut.ensures.value c.plan.ensures.standing ∙ ap (λ x. map stands x.sources) c.self.view_is;
+      stays = search rules;
+    }

@@ -2,8 +2,9 @@
 use Rattle.std.proofs.Common.{◌∙◌, ap, sym, subst, arith, length, ◌≡◌, ◌<◌, true, set}
 use Rattle.std.proofs.lemmas.List.{get_or_default}
 use Rattle.hit_source.specs.Moves.{first_of}
-use Rattle.scatter_gather.specs.Gathering.{seen, gathered, answer_left, source_of, sources_of, least_floor, may_have_next}
-use Rattle.scatter_gather.specs.GatherMoves.{BeginsUpTo, distance_of}
+use Rattle.scatter_gather.specs.Gathering.{seen, gathered, answer_left, source_of, sources_of}
+use Rattle.scatter_gather.specs.Due.{least_floor, may_have_next}
+use Rattle.scatter_gather.specs.Moves.{BeginsUpTo, distance_of}
 use Rattle.scatter_gather.proofs.BeginLemmas.{one_begins}
 use Rattle.scatter_gather.proofs.KeepLemmas.{one_polled}
 use Rattle.scatter_gather.proofs.gather.Gather.poll_one.Goals as goal
