@@ -14,8 +14,8 @@ use Rattle.hamming_model.specs.History as journal
 use Rattle.shard_version.specs.Contents.{Contents, after_entry}
 use Rattle.query_protocol.specs.Requests.{Add}
 use Rattle.query_protocol.specs.Replies.{text, reply_line}
-use Rattle.query_protocol.specs.declared.reply.Reply.{Reply}
-use Rattle.query_protocol.specs.declared.reply.Reply.TheVariants as reply
+use Rattle.query_protocol.specs.Replies.{LineReply}
+use Rattle.query_protocol.specs.Replies as reply
 use Rattle.session_model.specs.State.{State, open_queries}
 use Rattle.session_model.specs.Entries.{Exchange, Adds, Declines}
 use Rattle.session_model.specs.Step.{Answers}
@@ -157,7 +157,7 @@ module _ {W : ℕ} (p : Here W) (after : Option (List ℕ)) (result : Result Tur
 
     -- ---- it was declined
 
-    declined : (why : Decision) (said this : Reply) (later : List JournalEntry)
+    declined : (why : Decision) (said this : LineReply) (later : List JournalEntry)
         → decision_on p.history p.config.entries (journal.Add key code) ≡ why → this ≡ said
         → Declines p.config (p.history ++ later) (journal.Add key code) why said p.s
         (exchange_here p (this ∷ []) p.s.position) p.s
@@ -166,7 +166,7 @@ module _ {W : ℕ} (p : Here W) (after : Option (List ℕ)) (result : Result Tur
       within = omega (arith, p.means.position, length-append p.history later);
       decided =
           ap (λ h. decision_on h p.config.entries (journal.Add key code)) (prefix_here p later) ∙ decided;
-      said_is = ap (λ (r : Reply). r ∷ []) same;
+      said_is = ap (λ (r : LineReply). r ∷ []) same;
       position = refl;
     }
 

@@ -8,8 +8,8 @@ use Rattle.line_io.specs.declared.source.Failed.{Failed}
 use Rattle.part_layout.specs.Text.{layout_text}
 use Rattle.query_protocol.specs.Requests.{LineRequest, Cost, Plan, Layout, Quit}
 use Rattle.query_protocol.specs.Replies.{text, reply_line}
-use Rattle.query_protocol.specs.declared.reply.Reply.{Reply}
-use Rattle.query_protocol.specs.declared.reply.Reply.TheVariants as reply
+use Rattle.query_protocol.specs.Replies.{LineReply}
+use Rattle.query_protocol.specs.Replies as reply
 use Rattle.session_model.specs.State.{query_of, open_queries}
 use Rattle.session_model.specs.Ledger.{total, layout_at, last_given, IsPlan}
 use Rattle.session_model.specs.QuerySteps.{IfOpen, Costs, Plans}
@@ -59,7 +59,7 @@ module _ {W : ℕ} (p : Here W) (after : Option (List ℕ)) (result : Result Tur
     }
 
     -- a reply that changes nothing
-    asked_step : (asked : LineRequest) (this : Reply) → asked_here p ≡ Ok (Some asked)
+    asked_step : (asked : LineRequest) (this : LineReply) → asked_here p ≡ Ok (Some asked)
         → accepted (Ok (Some asked)) (this ∷ []) ≡ []
         → ((later : List JournalEntry) → Answers (Ok (Some asked)) p.config (p.history ++ later) p.s
         (exchange_here p (this ∷ []) p.s.position) p.s)
@@ -77,7 +77,7 @@ module _ {W : ℕ} (p : Here W) (after : Option (List ℕ)) (result : Result Tur
     read_in_all : total it.query.reads ≡ reads
     read_in_all = omega (arith, ap total it.keeps.reads)
 
-    costed : (later : List JournalEntry) (this : Reply)
+    costed : (later : List JournalEntry) (this : LineReply)
         → this ≡ reply.Cost tag reads ((asked_of was).bound None)
         → Costs p.config (p.history ++ later) tag it.query p.s
         (exchange_here p (this ∷ []) p.s.position) p.s
@@ -96,13 +96,13 @@ module _ {W : ℕ} (p : Here W) (after : Option (List ℕ)) (result : Result Tur
               (last_given p.config (p.history ++ later) query);
           given = omega (arith, given, read_in_all);
           within = omega (arith, within, read_in_all);
-          said_is = ap (λ (r : Reply). r ∷ []) told
+          said_is = ap (λ (r : LineReply). r ∷ []) told
               ∙ ap (λ (n : ℕ). reply.Cost tag n bound ∷ []) (sym read_in_all);
           position = refl;
           same = refl;
         }
 
-    planned : (later : List JournalEntry) (shard : ℕ) (this : Reply) → shard ≡ 0
+    planned : (later : List JournalEntry) (shard : ℕ) (this : LineReply) → shard ≡ 0
         → this ≡ reply.Plan tag shard ((asked_of was).plan None).1
         (take PARTS_MOST ((asked_of was).plan None).0)
         → Plans p.config (p.history ++ later) tag shard it.query p.s
@@ -117,14 +117,14 @@ module _ {W : ℕ} (p : Here W) (after : Option (List ℕ)) (result : Result Tur
           is_plan = subst (λ n. IsPlan p.config (p.history ++ later) query n (take PARTS_MOST plan.0) plan.1)
               (sym first)
               (plan_at p.config (p.history ++ later) was query keeps p.ready.alone p.ready.layout.few_parts);
-          said_is = ap (λ (r : Reply). r ∷ []) told;
+          said_is = ap (λ (r : LineReply). r ∷ []) told;
           position = refl;
           same = refl;
         }
 
   -- ---- `cost`
 
-  pub cost_turn : (tag : List ℕ) (this : Reply) (cursors : List (OpenQuery W))
+  pub cost_turn : (tag : List ℕ) (this : LineReply) (cursors : List (OpenQuery W))
       → asked_here p ≡ Ok (Some (Cost tag)) → CostsAs p.cursors tag this cursors
       → IfOk result (λ turn. turn ≡ Goes) → Writes p.before after result (reply_line this)
       → TurnTo p after result now now p.version cursors
@@ -145,7 +145,7 @@ module _ {W : ℕ} (p : Here W) (after : Option (List ℕ)) (result : Result Tur
 
   -- ---- `plan`
 
-  pub plan_turn : (tag : List ℕ) (shard : ℕ) (this : Reply) (cursors : List (OpenQuery W))
+  pub plan_turn : (tag : List ℕ) (shard : ℕ) (this : LineReply) (cursors : List (OpenQuery W))
       → asked_here p ≡ Ok (Some (Plan tag shard)) → PlansAs p.cursors tag shard this cursors
       → IfOk result (λ turn. turn ≡ Goes) → Writes p.before after result (reply_line this)
       → TurnTo p after result now now p.version cursors
@@ -172,7 +172,7 @@ module _ {W : ℕ} (p : Here W) (after : Option (List ℕ)) (result : Result Tur
       → Writes p.before after result (reply_line (reply.Layout shard (layout_text (layout_of p.config))))
       → TurnTo p after result now now p.version p.cursors
   layout_turn shard reads goes wrote =
-      let this : Reply = reply.Layout shard (layout_text (layout_of p.config)) in
+      let this : LineReply = reply.Layout shard (layout_text (layout_of p.config)) in
       let first = layout_shard p.config p.line shard p.ready.alone reads in
       turn_to p after result now now p.version p.cursors goes
       (quiet p after result now (Ok (Some (Layout shard))) (this ∷ []) reads refl

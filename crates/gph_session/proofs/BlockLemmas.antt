@@ -7,7 +7,7 @@ use Rattle.std.proofs.KnownBytes.{Appends-trans, Appends-nil}
 use Rattle.std.proofs.Math.Seq.{take-add}
 use Rattle.std.proofs.lemmas.List.{take_rest, take-append-drop}
 use Rattle.shard_version.specs.Contents.{Contents}
-use Rattle.line_io.specs.Kept.{kept, TellsOf}
+use Rattle.line_io.specs.Cut.{held_of, TellsOf}
 use Rattle.line_io.specs.Lines.{ended_lines, unended, last_line, lines}
 use Rattle.line_io.specs.declared.cutter.Cut.{Cut}
 use Rattle.line_io.specs.declared.cutter.Cut.TheVariants.{Line, Long}
@@ -46,7 +46,7 @@ module _ (W : ℕ) (config : Config) (from now : ℕ) (bytes output : List ℕ) 
     -- a piece that ended one line
     turn_flow : (result : Result Turn Failed) (line piece : List ℕ)
         → ended_lines (unended [] bytes) piece ≡ line ∷ []
-        → begun' ≡ kept (unended (unended [] bytes) piece)
+        → begun' ≡ held_of (unended (unended [] bytes) piece)
         → TurnIs result W config (commits 0 config going.exchanges) going.state line before after now to
         version' cursors'
         → (more : List ℕ) × Appends before after more
@@ -76,7 +76,7 @@ module _ (W : ℕ) (config : Config) (from now : ℕ) (bytes output : List ℕ) 
     -- tell of
     pub cut_flow : (result : Result Turn Failed) (cut : Cut) (lent piece : List ℕ)
         → TellsOf (Some cut) lent (ended_lines (unended [] bytes) piece)
-        → begun' ≡ kept (unended (unended [] bytes) piece)
+        → begun' ≡ held_of (unended (unended [] bytes) piece)
         → ((line : List ℕ) → TellsOf (Some cut) lent (line ∷ []) → (history : List JournalEntry) (s : State)
         → MeansBy W config version cursors history s
         → TurnIs result W config history s line before after now to version' cursors')
@@ -129,7 +129,7 @@ module _ (W : ℕ) (config : Config) (from now : ℕ) (bytes output : List ℕ) 
 
   -- a piece that ended no line
   pub uncut_flow : (begun' known : Option (List ℕ)) (piece : List ℕ)
-      → ended_lines (unended [] bytes) piece ≡ [] → begun' ≡ kept (unended (unended [] bytes) piece)
+      → ended_lines (unended [] bytes) piece ≡ [] → begun' ≡ held_of (unended (unended [] bytes) piece)
       → (more : List ℕ) × Appends known known more
       × GoesOn W config from now (bytes ++ piece) (output ++ more) version cursors begun'
   uncut_flow begun' known piece none begun_is = (

@@ -6,7 +6,7 @@ use Rattle.std.proofs.Common.{refl, sym, ap, ◌∙◌, subst, arith, append_ass
 use Rattle.std.specs.List.{AllByRecursion}
 use Rattle.std.specs.Io.KnownBytes.{Appends}
 use Rattle.std.proofs.lemmas.List.{map_push, length-map}
-use Rattle.line_io.specs.Kept.{kept}
+use Rattle.line_io.specs.Cut.{held_of}
 use Rattle.line_io.specs.Lines.{ended_lines, unended}
 use Rattle.line_io.specs.declared.source.Failed.{Failed}
 use Rattle.line_io.proofs.LinesLemmas.{ended_lines-append, unended-append}
@@ -188,7 +188,7 @@ module _ (W : ℕ) (config : Config) (from now : ℕ) (bytes output : List ℕ) 
     where
       pub goes_line : (piece : List ℕ) (begun' : Option (List ℕ))
           → ended_lines (unended [] bytes) piece ≡ line ∷ []
-          → begun' ≡ kept (unended (unended [] bytes) piece)
+          → begun' ≡ held_of (unended (unended [] bytes) piece)
           → (more : List ℕ) × Appends before after more
           × GoesOn W config from to (bytes ++ piece) (output ++ more) version' cursors' begun'
       goes_line piece begun' lines_are begun_is = (
@@ -205,7 +205,7 @@ module _ (W : ℕ) (config : Config) (from now : ℕ) (bytes output : List ℕ) 
           ledger = ledger_one_more line before after (Ok Goes) to version' cursors' one;
           means = subst (λ h. MeansBy W config version' cursors' h one.state)
               (sym (same_commits line before after (Ok Goes) to version' cursors' one)) one.means;
-          begun_is = begun_is ∙ ap kept (sym (unended-append [] bytes piece));
+          begun_is = begun_is ∙ ap held_of (sym (unended-append [] bytes piece));
         },
       )
 
@@ -269,7 +269,7 @@ module _ (W : ℕ) (config : Config) (from now : ℕ) (bytes output : List ℕ) 
 
   pub goes_bytes : (piece : List ℕ) (begun' : Option (List ℕ))
       → ended_lines (unended [] bytes) piece ≡ []
-      → begun' ≡ kept (unended (unended [] bytes) piece)
+      → begun' ≡ held_of (unended (unended [] bytes) piece)
       → GoesOn W config from now (bytes ++ piece) output version cursors begun'
   goes_bytes piece begun' none begun_is = record {
     exchanges = going.exchanges;
@@ -280,7 +280,7 @@ module _ (W : ℕ) (config : Config) (from now : ℕ) (bytes output : List ℕ) 
     means = going.means;
     lines_are = going.lines_are ∙ sym (append-nil (ended_lines [] bytes))
         ∙ ap (λ l. ended_lines [] bytes ++ l) (sym none) ∙ sym (ended_lines-append [] bytes piece);
-    begun_is = begun_is ∙ ap kept (sym (unended-append [] bytes piece));
+    begun_is = begun_is ∙ ap held_of (sym (unended-append [] bytes piece));
   }
 
 -- ---- what comes behind

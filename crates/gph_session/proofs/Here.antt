@@ -11,8 +11,8 @@ use Rattle.shard_version.specs.Contents.{Contents}
 use Rattle.query_protocol.specs.Requests.{LineReading, reading}
 use Rattle.query_protocol.specs.Replies.{text, reply_line}
 use Rattle.query_protocol.specs.declared.bad.Bad.{Bad}
-use Rattle.query_protocol.specs.declared.reply.Reply.{Reply}
-use Rattle.query_protocol.specs.declared.reply.Reply.TheVariants as reply
+use Rattle.query_protocol.specs.Replies.{LineReply}
+use Rattle.query_protocol.specs.Replies as reply
 use Rattle.session_model.specs.State.{State}
 use Rattle.session_model.specs.Entries.{Exchange}
 use Rattle.session_model.specs.Ledger.{column, readings_of}
@@ -67,7 +67,7 @@ on_ok_then (Ok value) P Q f h = f h
 on_ok_then (Err failed) P Q f h = tt
 
 -- one reply was written
-pub writes_one : (before after : Option (List ℕ)) (result : Result Turn Failed) (this : Reply)
+pub writes_one : (before after : Option (List ℕ)) (result : Result Turn Failed) (this : LineReply)
     → Writes before after result (reply_line this) → Writes before after result (text (this ∷ []))
 writes_one before after result this wrote =
     subst (Writes before after result) (sym (append-nil (reply_line this))) wrote
@@ -84,7 +84,7 @@ turn_to p after (Err failed) from to version cursors goes step = step
 -- ---- a step that commits nothing
 
 -- the exchange of the line, with these replies at a position
-abbrev pub exchange_here : {W : ℕ} → Here W → List Reply → ℕ → Exchange
+abbrev pub exchange_here : {W : ℕ} → Here W → List LineReply → ℕ → Exchange
 exchange_here p replies at = record {
   line = p.line;
   replies = replies;
@@ -102,7 +102,7 @@ pub layouts_here : {W : ℕ} (p : Here W) → AreLayouts p.config (layout_of p.c
 layouts_here p = record { number = sym p.ready.alone; each = (p.ready.layout, tt) }
 
 module _ {W : ℕ} (p : Here W) (after : Option (List ℕ)) (result : Result Turn Failed) (from to : ℕ)
-    (asked : LineReading) (replies : List Reply) (t : State) (version : Contents)
+    (asked : LineReading) (replies : List LineReply) (t : State) (version : Contents)
     (cursors : List (OpenQuery W)) (is : asked_here p ≡ asked) (none : accepted asked replies ≡ []) where
   abbrev exchange : Exchange
   exchange = exchange_here p replies p.s.position
@@ -148,7 +148,7 @@ module _ {W : ℕ} (p : Here W) (after : Option (List ℕ)) (result : Result Tur
 
 -- a step that changes nothing
 pub quiet : {W : ℕ} (p : Here W) (after : Option (List ℕ)) (result : Result Turn Failed) (now : ℕ)
-    (asked : LineReading) (replies : List Reply) → asked_here p ≡ asked
+    (asked : LineReading) (replies : List LineReply) → asked_here p ≡ asked
     → accepted asked replies ≡ []
     → ((later : List JournalEntry)
     → Answers asked p.config (p.history ++ later) p.s (exchange_here p replies p.s.position) p.s)

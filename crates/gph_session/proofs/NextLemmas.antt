@@ -12,7 +12,7 @@ use Rattle.hit_source.specs.Sources.{IsLawful}
 use Rattle.line_io.specs.declared.source.Failed.{Failed}
 use Rattle.query_protocol.specs.Requests.{LineRequest, Next, bad}
 use Rattle.query_protocol.specs.Replies.{text}
-use Rattle.query_protocol.specs.declared.reply.Reply.TheVariants as reply
+use Rattle.query_protocol.specs.Replies as reply
 use Rattle.session_model.specs.State.{Query, State, query_of, replaced, open_queries}
 use Rattle.session_model.specs.Entries.{Exchange}
 use Rattle.session_model.specs.Ledger.{column, readings_of}

@@ -10,8 +10,8 @@ use Rattle.shard_version.specs.Contents.{Contents}
 use Rattle.shard_query.specs.Opening.{AsksRange}
 use Rattle.query_protocol.specs.Requests.{Range, bad}
 use Rattle.query_protocol.specs.Replies.{text, reply_line}
-use Rattle.query_protocol.specs.declared.reply.Reply.{Reply}
-use Rattle.query_protocol.specs.declared.reply.Reply.TheVariants as reply
+use Rattle.query_protocol.specs.Replies.{LineReply}
+use Rattle.query_protocol.specs.Replies as reply
 use Rattle.line_io.specs.declared.source.Failed.{Failed}
 use Rattle.session_model.specs.State.{Query, State, query_of, open_queries}
 use Rattle.session_model.specs.Entries.{Exchange}
@@ -151,7 +151,7 @@ module _ {W : ℕ} (p : Here W) (after : Option (List ℕ)) (result : Result Tur
 
     -- ---- it was refused
 
-    unopened : (this : Reply) (cursors : List (OpenQuery W)) → cursors ≡ p.cursors
+    unopened : (this : LineReply) (cursors : List (OpenQuery W)) → cursors ≡ p.cursors
         → ((later : List JournalEntry) → OpensUnlessUsed (query_of tag p.s.queries) (p.history ++ later) tag
         asked p.s (exchange_here p (this ∷ []) p.s.position) p.s)
         → Writes p.before after result (text (this ∷ []))

@@ -7,7 +7,7 @@ use Rattle.std.specs.List.{AllByRecursion}
 use Rattle.std.specs.Io.KnownBytes.{Consumes}
 use Rattle.std.proofs.lemmas.List.{take_at}
 use Rattle.line_io.specs.Faults.{Rose}
-use Rattle.line_io.specs.Kept.{kept}
+use Rattle.line_io.specs.Cut.{held_of}
 use Rattle.line_io.specs.Lines.{lines}
 use Rattle.gph_codes.specs.Allowed.{IsAllowed}
 use Rattle.part_layout.specs.declared.config.Config.{Config}
@@ -30,7 +30,7 @@ use Rattle.gph_session.specs.Serving.{EndsBy, EndsAs, ServedBy, ServedAs}
 -- a session before its first byte
 pub goes_new : (W : ℕ) (config : Config) (now : ℕ) (version : Contents) (cursors : List (OpenQuery W))
     (begun : Option (List ℕ)) → config.shards ≡ 1 → version ≡ contents_of config [] → cursors ≡ []
-    → begun ≡ kept [] → GoesOn W config now now [] [] version cursors begun
+    → begun ≡ held_of [] → GoesOn W config now now [] [] version cursors begun
 goes_new W config now version cursors begun one first no_cursors nothing = record {
   exchanges = [];
   state = first_session config;

@@ -10,8 +10,8 @@ use Rattle.hit_source.specs.Sources.{IsLawful}
 use Rattle.shard_version.specs.Contents.{Contents, after_entry}
 use Rattle.shard_query.specs.Opening.{AsksRange, BeginsRange}
 use Rattle.query_protocol.specs.Requests.{bad}
-use Rattle.query_protocol.specs.declared.reply.Reply.{Reply}
-use Rattle.query_protocol.specs.declared.reply.Reply.TheVariants as reply
+use Rattle.query_protocol.specs.Replies.{LineReply}
+use Rattle.query_protocol.specs.Replies as reply
 use Rattle.session_model.specs.QuerySteps.{most_open}
 use Rattle.gph_session.specs.declared.adding.Adding.{Adding}
 use Rattle.gph_session.specs.declared.adding.Adding.TheVariants as adding
@@ -44,7 +44,7 @@ AddsAs old limit key stored (adding.Full at) new =
 AddsAs old limit key stored adding.NoMemory new = new ≡ old
 
 -- the reply to an add
-abbrev pub reply_to_add : ℕ → Adding → Reply
+abbrev pub reply_to_add : ℕ → Adding → LineReply
 reply_to_add key (adding.Added at) = reply.Added key at
 reply_to_add key (adding.Taken at) = reply.Taken key at
 reply_to_add key (adding.Full at) = reply.Full at
@@ -76,7 +76,7 @@ OpensAs {W} version room old tag tau stored (opening.Open at) new =
     × BeginsQuery version room tag tau stored cursor
 
 -- the reply to an opening
-abbrev pub reply_to_open : List ℕ → Opening → Reply
+abbrev pub reply_to_open : List ℕ → Opening → LineReply
 reply_to_open tag (opening.Open at) = reply.Open tag at
 reply_to_open tag opening.Used = reply.Bad (bad 7)
 reply_to_open tag opening.Many = reply.Bad (bad 9)

@@ -3,7 +3,7 @@ use Rattle.std.specs.Prelude.{◌≡◌, ℕ, ◌+◌, ◌≤◌, true, Option, 
 use Rattle.std.specs.Prelude.{List, [], ◌++◌, length}
 use Rattle.std.specs.List.{AllByRecursion}
 use Rattle.std.specs.Io.KnownBytes.{Appends}
-use Rattle.line_io.specs.Kept.{kept}
+use Rattle.line_io.specs.Cut.{held_of}
 use Rattle.line_io.specs.Lines.{ended_lines, unended, lines}
 use Rattle.line_io.specs.declared.source.Failed.{Failed}
 use Rattle.hamming_model.specs.History.{JournalEntry}
@@ -71,7 +71,7 @@ pub record GoesOn (W : ℕ) (config : Config) (from to : ℕ) (bytes output : Li
   pub output_is : output ≡ written exchanges
   pub ledger : to ≡ from + column 0 (readings_of state.queries)
   pub means : MeansBy W config version cursors (commits 0 config exchanges) state
-  pub begun_is : begun ≡ kept (unended [] bytes)
+  pub begun_is : begun ≡ held_of (unended [] bytes)
 
 -- a session so goes on
 abbrev pub HasAnswered : {W : ℕ} → Session W → ℕ → ℕ → List ℕ → List ℕ → Type 0

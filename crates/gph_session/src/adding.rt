@@ -4,6 +4,7 @@ ghost use Rattle.std.specs.Prelude.{◌≡◌, ◌*◌, ◌<◌, ◌≤◌, ℕ,
 ghost use Rattle.std.specs.Arc.{arc_value};
 ghost use Rattle.hamming_model.specs.History.{code_at};
 ghost use Rattle.hamming_model.specs.declared.limits.TheConstants.{ENTRIES_MOST};
+ghost use Rattle.query_protocol.specs.Replies.{line_of};
 ghost use Rattle.gph_session.specs.Changing.{AddsAs, IsCodeFor, with_row, reply_to_add};
 
 use entry_log::{Decision, Entry, Op, decide};
@@ -26,7 +27,7 @@ pub(crate) enum Adding {
 impl Adding {
     /// The reply to an `add` of this key.
     pub(crate) fn reply(self, key: u64) -> Reply
-        ensures { result ≡ reply_to_add key self }
+        ensures { line_of result ≡ reply_to_add key self }
     {
         match self {
             Adding::Added { at } => Reply::Added { key, at },

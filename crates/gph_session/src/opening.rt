@@ -3,6 +3,7 @@
 ghost use Rattle.std.specs.Prelude.{◌≡◌, ◌*◌, ◌++◌, ◌≤◌, [], ◌∷◌, ℕ, OnErr, OnOk};
 ghost use Rattle.std.specs.Arc.{arc_value};
 ghost use Rattle.hamming_model.specs.declared.limits.TheConstants.{ROOM_MOST};
+ghost use Rattle.query_protocol.specs.Replies.{line_of};
 ghost use Rattle.gph_session.specs.Changing.{OpensAs, IsCodeFor, reply_to_open};
 
 use crate::open_query::{MOST_OPEN, OpenQuery, place_of};
@@ -26,12 +27,12 @@ pub(crate) enum Opening {
 impl Opening {
     /// The reply to an opening of this tag.
     pub(crate) fn reply(self, tag: &Tag) -> Reply
-        ensures { result ≡ reply_to_open tag.now self }
+        ensures { line_of result ≡ reply_to_open tag.now self }
     {
         match self {
             Opening::Open { at } => Reply::Open { tag: *tag, at },
-            Opening::Used => Reply::Bad(Bad { number: 7, word: 0 }),
-            Opening::Many => Reply::Bad(Bad { number: 9, word: 0 }),
+            Opening::Used => Reply::Bad(Bad::tag_in_use()),
+            Opening::Many => Reply::Bad(Bad::too_many_queries()),
             Opening::NoMemory => Reply::NoMemory,
         }
     }

@@ -3,7 +3,7 @@
 ghost use Rattle.std.specs.Prelude.{◌≡◌, ◌*◌, ◌≤◌, ℕ, List, [], ◌∷◌, IfOk, Some, Ok};
 ghost use Rattle.std.specs.Arc.{arc_value};
 ghost use Rattle.query_protocol.specs.Requests.{reading, unstored, IsFit, IsFitReading, ReadsAs};
-ghost use Rattle.line_io.specs.Kept.{kept, TellsOf};
+ghost use Rattle.line_io.specs.Cut.{held_of, TellsOf};
 ghost use Rattle.gph_codes.specs.Allowed.{IsAllowed};
 ghost use Rattle.part_layout.specs.Ranges.{IsConfig};
 ghost use Rattle.part_layout.specs.Laid.{IsLaid};
@@ -16,11 +16,11 @@ use crate::costing::cost;
 use crate::giving::give;
 use crate::open_query::{MOST_OPEN, OpenQuery};
 use crate::opening::open;
-use crate::output::say;
+use crate::output::{say, send};
 use crate::planning::plan;
 use line_io::{Cut, Cutter, Failed, LineBuf, Sink};
 use part_layout::{Config, Layout, LayoutFault};
-use query_protocol::{Bad, Reply, Request, read_line};
+use query_protocol::{Bad, Reply, Request, read_line, write_layout};
 use read_meter::{NoMemory, Steps};
 use shard_version::Version;
 use std::alloc::Global;
@@ -56,7 +56,7 @@ pub(crate) fn new_session<const W: usize>(
     ensures version { IfOk result (λ session. contents_in session ≡ contents_of config.now []) }
     ensures laid { IfOk result (λ _. IsLaid (laid_of config.now)) }
     ensures queries { IfOk result (λ session. session.queries.items ≡ []) }
-    ensures cutter { IfOk result (λ session. session.cutter.held ≡ kept []) }
+    ensures cutter { IfOk result (λ session. session.cutter.held ≡ held_of []) }
 {
     let Ok(version) = first_version(alloc, config) else {
         return Err(NoMemory);
@@ -197,12 +197,14 @@ fn meet<const W: usize, K: Sink, L>(
             say(&mut session.out, sink, &reply)
         }
         Request::Plan { tag, shard } => {
-            let reply = plan(&mut session.queries, &tag, shard);
-            say(&mut session.out, sink, &reply)
+            plan(&mut session.queries, &tag, shard, &mut session.out);
+            send(&session.out, sink)
         }
         Request::Layout { shard } => {
             let text = session.version.layout().text();
-            say(&mut session.out, sink, &Reply::Layout { shard, text })
+            session.out.clear();
+            write_layout(shard, &text, &mut session.out);
+            send(&session.out, sink)
         }
         Request::Quit => Ok(Turn::Quits),
     }

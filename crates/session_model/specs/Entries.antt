@@ -4,21 +4,21 @@ use Rattle.hamming_model.specs.History.{JournalEntry, Operation, Decision, Added
 use Rattle.hamming_model.specs.History.{decision_on}
 use Rattle.hamming_model.specs.History as journal
 use Rattle.part_layout.specs.declared.config.Config.{Config}
-use Rattle.query_protocol.specs.declared.reply.Reply.{Reply}
-use Rattle.query_protocol.specs.declared.reply.Reply.TheVariants as reply
+use Rattle.query_protocol.specs.Replies.{LineReply}
+use Rattle.query_protocol.specs.Replies as reply
 use Rattle.session_model.specs.State.{State}
 
 -- a line, its replies, the position that they print or carry on, the layout of each shard as the line
 -- saw it, and how many entries the session had seen before it
 pub record Exchange : Type 0 where
   pub line : List ℕ
-  pub replies : List Reply
+  pub replies : List LineReply
   pub position : ℕ
   pub layouts : List (List (List ℕ))
   pub seen : ℕ
 
 -- these replies, and nothing changes
-pub record Stays (said : List Reply) (s : State) (e : Exchange) (t : State) : Type 0 where
+pub record Stays (said : List LineReply) (s : State) (e : Exchange) (t : State) : Type 0 where
   pub said_is : e.replies ≡ said
   pub position : e.position ≡ s.position
   pub same : t ≡ s
@@ -30,7 +30,7 @@ Refuses s e t = Stays (reply.NoMemory ∷ []) s e t
 -- an accepted operation: the entry of this number, beyond the last position, is this session's, and
 -- the entries before it accept it
 pub record Commits (config : Config) (history : List JournalEntry) (operation : Operation)
-    (accepted : Decision) (said : Reply) (s : State) (e : Exchange) (t : State) : Type 0 where
+    (accepted : Decision) (said : LineReply) (s : State) (e : Exchange) (t : State) : Type 0 where
   pub later : s.position < e.position
   pub entry : slice_get history (e.position - 1) ≡ Some (record { who = s.who; operation = operation })
   pub decided : decision_on (take (e.position - 1) history) config.entries operation ≡ accepted
@@ -39,7 +39,7 @@ pub record Commits (config : Config) (history : List JournalEntry) (operation : 
 
 -- an operation that isn't accepted, for this reason, after a prefix that is no shorter than the last
 pub record Declines (config : Config) (history : List JournalEntry) (operation : Operation)
-    (why : Decision) (said : Reply) (s : State) (e : Exchange) (t : State) : Type 0 where
+    (why : Decision) (said : LineReply) (s : State) (e : Exchange) (t : State) : Type 0 where
   pub not_before : s.position ≤ e.position
   pub within : e.position ≤ length history
   pub decided : decision_on (take e.position history) config.entries operation ≡ why

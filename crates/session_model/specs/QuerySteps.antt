@@ -7,8 +7,8 @@ use Rattle.hamming_model.specs.Scan.{Ask}
 use Rattle.hamming_model.specs.declared.hit.Hit.{Hit}
 use Rattle.part_layout.specs.declared.config.Config.{Config}
 use Rattle.query_protocol.specs.Requests.{bad}
-use Rattle.query_protocol.specs.declared.reply.Reply.{Reply}
-use Rattle.query_protocol.specs.declared.reply.Reply.TheVariants as reply
+use Rattle.query_protocol.specs.Replies.{LineReply}
+use Rattle.query_protocol.specs.Replies as reply
 use Rattle.session_model.specs.Ledger.{IsBound, IsPlan, answer_of, last_given, total}
 use Rattle.session_model.specs.State.{Query, State, open_queries, replaced}
 use Rattle.session_model.specs.Entries.{Exchange, Stays, Refuses}
@@ -53,11 +53,11 @@ OpensUnlessUsed None history tag asked s e t =
     OpensUnlessMany (nat_le most_open (length (open_queries s.queries))) history tag asked s e t
 
 -- the replies that give hits
-abbrev pub hit_replies : List ℕ → List Hit → List Reply
+abbrev pub hit_replies : List ℕ → List Hit → List LineReply
 hit_replies tag hits = map (λ hit. reply.Hit tag hit.dist hit.key) hits
 
 -- what a request for so many hits is told, of an answer of which some hits were given
-abbrev pub next_replies : List ℕ → ℕ → ℕ → List Hit → List Reply
+abbrev pub next_replies : List ℕ → ℕ → ℕ → List Hit → List LineReply
 next_replies tag count given hits =
     hit_replies tag (take count (drop given hits))
     ++ (if nat_lt (given + count) (length hits) then reply.More tag

@@ -10,8 +10,8 @@ use Rattle.part_layout.specs.declared.config.Config.{Config}
 use Rattle.query_protocol.specs.Requests.{LineRequest, Add, Quit}
 use Rattle.query_protocol.specs.Replies.{text}
 use Rattle.query_protocol.specs.declared.bad.Bad.{Bad}
-use Rattle.query_protocol.specs.declared.reply.Reply.{Reply}
-use Rattle.query_protocol.specs.declared.reply.Reply.TheVariants as reply
+use Rattle.query_protocol.specs.Replies.{LineReply}
+use Rattle.query_protocol.specs.Replies as reply
 use Rattle.session_model.specs.Entries.{Exchange}
 use Rattle.session_model.specs.Ledger.{Rise, IsRise}
 use Rattle.session_model.specs.State.{State, new_session}
@@ -25,12 +25,12 @@ Run At config history s (e ∷ exchanges) t =
     (mid : State) × At s e × Step config history s e mid × Run At config history mid exchanges t
 
 -- the operations that were accepted, by what a line asked and what it was told
-abbrev pub accepted : Result (Option LineRequest) Bad → List Reply → List Operation
+abbrev pub accepted : Result (Option LineRequest) Bad → List LineReply → List Operation
 accepted (Ok (Some (Add key code))) (reply.Added added at ∷ []) = journal.Add key code ∷ []
 accepted asked replies = []
 
 -- what the session with this number committed, by what a line asked and what it was told
-abbrev pub committed : ℕ → Result (Option LineRequest) Bad → List Reply → List JournalEntry
+abbrev pub committed : ℕ → Result (Option LineRequest) Bad → List LineReply → List JournalEntry
 committed who asked replies =
     map (λ operation. record { who = who; operation = operation }) (accepted asked replies)
 

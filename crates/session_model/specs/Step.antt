@@ -9,7 +9,7 @@ use Rattle.part_layout.specs.Text.{layout_text}
 use Rattle.query_protocol.specs.Requests.{LineRequest, Add, Range, Next, Cost, Plan, Layout, Quit}
 use Rattle.query_protocol.specs.Requests.{reading}
 use Rattle.query_protocol.specs.declared.bad.Bad.{Bad}
-use Rattle.query_protocol.specs.declared.reply.Reply.TheVariants as reply
+use Rattle.query_protocol.specs.Replies as reply
 use Rattle.session_model.specs.State.{State, query_of}
 use Rattle.session_model.specs.Ledger.{layout_at}
 use Rattle.session_model.specs.Entries.{Exchange, Stays, Refuses, Adds, Takes, Fills}

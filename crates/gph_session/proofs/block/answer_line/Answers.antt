@@ -1,6 +1,6 @@
 -- A piece of a block ends no line, or one that the session answers.
 use Rattle.std.proofs.Common.{◌≡◌, [], take, subst, sym}
-use Rattle.line_io.specs.Kept.{CutterState, TellsOf, kept}
+use Rattle.line_io.specs.Cut.{CutterState, TellsOf, held_of}
 use Rattle.line_io.specs.Lines.{ended_lines, unended}
 use Rattle.gph_session.specs.Meaning.{contents_in}
 use Rattle.gph_session.proofs.BlockLemmas.{cut_flow, uncut_flow}
@@ -28,7 +28,7 @@ returns-in-Some-clause-flow g c = λ from before output going.
     let cutter = c.push-taken.new.self in
     let tells = subst (λ cut. TellsOf cut cutter.line (ended_lines begun piece)) c.in-Some.is
     (c.push-taken.ensures.cut begun going.begun_is) in
-    let kept_is = subst (λ (state : CutterState). state.held ≡ kept (unended begun piece))
+    let kept_is = subst (λ (state : CutterState). state.held ≡ held_of (unended begun piece))
     (sym c.answer.ensures.cutter) (c.push-taken.ensures.held begun going.begun_is) in
     cut_flow g.row.W now.config from c.args.steps.now before output (contents_in now) now.queries.items
     now.cutter.held c.requires.ready.alone going (g.K.Sink.held c.args.sink.now)

@@ -1,6 +1,7 @@
-use Rattle.std.proofs.Common.{true, refl, sym, ap, ◌∙◌, is_some, arith}
+use Rattle.std.proofs.Common.{true, refl, sym, subst, ap, ◌∙◌, is_some, arith}
 use Rattle.line_io.specs.declared.source.Failed.{Failed}
 use Rattle.gph_session.specs.declared.open_query.OpenQuery.{OpenQuery}
+use Rattle.gph_session.specs.Writing.{IsCaused}
 use Rattle.gph_session.proofs.GivingLemmas.{query_part, query_more, query_all}
 use Rattle.gph_session.proofs.giving.give_query.Goals as goal
 
@@ -30,3 +31,9 @@ returns-in-Err-clause-gives g c =
     let failed : Failed = record {} in
     query_part {W = g.row.W} c.args.tag.now c.args.count before after (held c.args.sink.now) (held c.give_hits.new.sink) c.args.steps.now c.give_hits.new.steps refl c.give_hits.ensures.asked
     failed failed c.in-Err.ensures.gives
+
+pub returns-else-is_some-clause-cause : goal.returns-else-is_some-clause-cause
+returns-else-is_some-clause-cause g c =
+    let said = c.say-in-Ok in
+    subst (λ n. IsCaused n (g.K.Sink.faults said.new.sink) said.result) c.in-Ok.ensures.cause
+    said.ensures.cause

@@ -3,8 +3,8 @@ use Rattle.std.proofs.Common.{sym, ap, ◌∙◌, subst, rules, Ok, Some}
 use Rattle.std.specs.Arc.{arc_value}
 use Rattle.std.proofs.KnownBytes.{Appends-nil}
 use Rattle.query_protocol.specs.Requests.{unstored, IsFit}
-use Rattle.query_protocol.specs.Replies.{reply_line}
-use Rattle.query_protocol.specs.declared.reply.Reply.TheVariants as reply
+use Rattle.query_protocol.specs.Replies.{reply_line, line_of}
+use Rattle.query_protocol.specs.Replies as reply
 use Rattle.gph_session.specs.Writing.{Writes}
 use Rattle.gph_session.proofs.Here.{here_of}
 use Rattle.gph_session.proofs.AddLemmas.{add_turn}
@@ -49,7 +49,7 @@ returns-in-Cost-clause-answers g c = λ line asked history s means.
     let p = here_of now (g.K.Sink.held c.args.sink.now) c.requires.ready line history s means in
     let asks = sym asked ∙ ap (λ r. Ok (Some (unstored now.config.bits r))) c.in-Cost.is in
     cost_turn p (g.K.Sink.held c.say-in-Cost.new.sink) c.say-in-Cost.result c.args.steps.now c.in-Cost.tag
-    c.cost-reply.result c.cost-reply.new.queries.items asks c.cost-reply.ensures c.say-in-Cost.ensures.goes
+    (line_of c.cost-reply.result) c.cost-reply.new.queries.items asks c.cost-reply.ensures c.say-in-Cost.ensures.goes
     c.say-in-Cost.ensures.written
 
 pub returns-in-Plan-clause-answers : goal.returns-in-Plan-clause-answers
@@ -57,20 +57,22 @@ returns-in-Plan-clause-answers g c = λ line asked history s means.
     let now = c.args.session.now in
     let p = here_of now (g.K.Sink.held c.args.sink.now) c.requires.ready line history s means in
     let asks = sym asked ∙ ap (λ r. Ok (Some (unstored now.config.bits r))) c.in-Plan.is in
-    plan_turn p (g.K.Sink.held c.say-in-Plan.new.sink) c.say-in-Plan.result c.args.steps.now c.in-Plan.tag
-    c.in-Plan.shard c.plan-reply.result c.plan-reply.new.queries.items asks c.plan-reply.ensures
-    c.say-in-Plan.ensures.goes c.say-in-Plan.ensures.written
+    plan_turn p (g.K.Sink.held c.send.new.sink) c.send.result c.args.steps.now c.in-Plan.tag c.in-Plan.shard
+    c.plan.ensures.0 c.plan.new.queries.items asks c.plan.ensures.1 c.send.ensures.goes
+    (subst (Writes (g.K.Sink.held c.args.sink.now) (g.K.Sink.held c.send.new.sink) c.send.result)
+    c.plan.ensures.2 c.send.ensures.written)
 
 pub returns-in-Layout-clause-answers : goal.returns-in-Layout-clause-answers
 returns-in-Layout-clause-answers g c = λ line asked history s means.
     let now = c.args.session.now in
     let p = here_of now (g.K.Sink.held c.args.sink.now) c.requires.ready line history s means in
     let asks = sym asked ∙ ap (λ r. Ok (Some (unstored now.config.bits r))) c.in-Layout.is in
-    layout_turn p (g.K.Sink.held c.say-in-Layout.new.sink) c.say-in-Layout.result c.args.steps.now
-    c.in-Layout.shard asks c.say-in-Layout.ensures.goes
-    (subst (λ text. Writes (g.K.Sink.held c.args.sink.now) (g.K.Sink.held c.say-in-Layout.new.sink)
-    c.say-in-Layout.result (reply_line (reply.Layout c.in-Layout.shard text))) (search rules)
-    c.say-in-Layout.ensures.written)
+    let sent = c.send-in-Layout in
+    layout_turn p (g.K.Sink.held sent.new.sink) sent.result c.args.steps.now c.in-Layout.shard asks
+    sent.ensures.goes
+    (subst (Writes (g.K.Sink.held c.args.sink.now) (g.K.Sink.held sent.new.sink) sent.result)
+    (c.write_layout.ensures ∙ ap (λ text. reply_line (reply.Layout c.in-Layout.shard text)) (search rules))
+    sent.ensures.written)
 
 pub returns-in-Quit-clause-answers : goal.returns-in-Quit-clause-answers
 returns-in-Quit-clause-answers g c = λ line asked history s means.
