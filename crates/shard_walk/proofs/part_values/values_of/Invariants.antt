@@ -1,6 +1,6 @@
 use Rattle.std.proofs.Common.{◌≡◌, ℕ, ◌<◌, [], length, get_or, take}
 use Rattle.hamming_model.specs.Layouts.{part_value}
-use Rattle.shard_walk.proofs.plan.values_of.Given as goal
+use Rattle.shard_walk.proofs.part_values.values_of.Given as goal
 
 abbrev pub invariant-loop-part : goal.invariant-loop-part
 invariant-loop-part g l =
