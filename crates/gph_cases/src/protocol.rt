@@ -1,10 +1,11 @@
 //! Lines as requests, and replies as lines.
 
-ghost use Rattle.std.specs.Prelude.{◌≤◌, length};
+ghost use Rattle.std.specs.Prelude.{◌≡◌, ◌≤◌, length};
 
+use hamming_model::ENTRIES_MOST;
 use line_io::LineBuf;
-use part_layout::LayoutText;
-use query_protocol::{Bad, Reply, Request, Tag, ThresholdList, read_line, write_hit};
+use part_layout::{Config, INPUT_MOST, LayoutText};
+use query_protocol::{Bad, Reply, Request, Tag, read_line, write_hit, write_layout, write_plan};
 use std::test::Fail;
 
 // A line, and what it is read as where codes have 8 bits and there is one shard: the word of the request, its tag, its number
@@ -93,7 +94,7 @@ fn told(read: &Option<Request<1>>) -> (&[u8], &[u8], u64, u64) {
         Some(Request::Range { tag, tau, code }) => {
             (b"range", tag.bytes(), u64::from(*tau), code.words()[0])
         }
-        Some(Request::Next { tag, count }) => (b"next", tag.bytes(), u64::from(*count), 0),
+        Some(Request::Next { tag, n }) => (b"next", tag.bytes(), u64::from(*n), 0),
         Some(Request::Cost { tag }) => (b"cost", tag.bytes(), 0, 0),
         Some(Request::Plan { tag, shard }) => (b"plan", tag.bytes(), u64::from(*shard), 0),
         Some(Request::Layout { shard }) => (b"layout", b"", u64::from(*shard), 0),
@@ -101,11 +102,25 @@ fn told(read: &Option<Request<1>>) -> (&[u8], &[u8], u64, u64) {
     }
 }
 
+// A server of so many shards, for codes of eight bits.
+fn of_shards(shards: u32) -> Config
+    ensures { result.bits ≡ 8 }
+{
+    Config {
+        bits: 8,
+        parts: 1,
+        shards,
+        room: 64,
+        entries: ENTRIES_MOST,
+        input: INPUT_MOST,
+    }
+}
+
 // Whether a line is the request, with the given number of shards.
 fn is_request(line: &[u8], shards: u32, word: &[u8], tag: &[u8], number: u64, code: u64) -> bool
     requires { length line.now ≤ 4096 }
 {
-    match read_line::<1>(8, shards, line) {
+    match read_line::<1>(&of_shards(shards), line) {
         Ok(read) => {
             let (read_word, read_tag, read_number, read_code) = told(&read);
             read_word == word && read_tag == tag && read_number == number && read_code == code << 56
@@ -118,7 +133,7 @@ fn is_request(line: &[u8], shards: u32, word: &[u8], tag: &[u8], number: u64, co
 fn is_fault(line: &[u8], shards: u32, number: u8, word: u8) -> bool
     requires { length line.now ≤ 4096 }
 {
-    match read_line::<1>(8, shards, line) {
+    match read_line::<1>(&of_shards(shards), line) {
         Ok(_) => false,
         Err(fault) => fault.number == number && fault.word == word,
     }
@@ -217,30 +232,7 @@ fn each_reply_is_its_line(rt: HostRuntime) -> Result<(), Fail> {
             b"cost q16 reads 3 bound 20\n"
         )
     );
-    assert!(rt;
-        is_line(
-            Reply::Plan {
-                tag,
-                shard: 0,
-                cost: 4,
-                thresholds: ThresholdList::new(&[-1, 0, 12])
-            },
-            &mut line,
-            b"plan q16 0 cost 4 -1 0 12\n"
-        )
-    );
     assert!(rt; is_line(Reply::Open { tag, at: 0 }, &mut line, b"open q16 at 0\n"));
-    assert!(rt;
-        is_line(
-            Reply::Hit {
-                tag,
-                dist: 64,
-                key: 103
-            },
-            &mut line,
-            b"hit q16 64 103\n"
-        )
-    );
     assert!(rt; is_line(Reply::More { tag }, &mut line, b"more q16\n"));
     assert!(rt; is_line(Reply::Done { tag, count: 2 }, &mut line, b"done q16 2\n"));
     assert!(rt;
@@ -285,13 +277,22 @@ fn each_reply_is_its_line(rt: HostRuntime) -> Result<(), Fail> {
         )
     );
     assert!(rt; is_line(Reply::NoMemory, &mut line, b"nomem\n"));
+    Ok(())
+}
+
+#[test]
+fn a_hit_a_plan_and_a_layout_are_lines(rt: HostRuntime) -> Result<(), Fail> {
+    let tag = Tag::of(b"q16").ok_or("no tag")?;
+    let mut line = LineBuf::new(rt.alloc())?;
+    write_hit(&tag, 64, 103, &mut line);
+    assert!(rt; line.bytes() == b"hit q16 64 103\n".as_slice());
+    line.clear();
+    write_plan(&tag, 0, 4, &[-1, 0, 12], &mut line);
+    assert!(rt; line.bytes() == b"plan q16 0 cost 4 -1 0 12\n".as_slice());
     let mut bytes = [0u8; 2048];
     bytes[..15].copy_from_slice(b"0,1,2/3,4,5/6,7");
-    let text = LayoutText::new(bytes, 15);
-    let reply = Reply::Layout { shard: 12, text };
-    assert!(rt; is_line(reply, &mut line, b"layout 12 0,1,2/3,4,5/6,7\n"));
     line.clear();
-    write_hit(&tag, 4, 2, &mut line);
-    assert!(rt; line.bytes() == b"hit q16 4 2\n".as_slice());
+    write_layout(12, &LayoutText::new(bytes, 15), &mut line);
+    assert!(rt; line.bytes() == b"layout 12 0,1,2/3,4,5/6,7\n".as_slice());
     Ok(())
 }

@@ -7,8 +7,8 @@ use Rattle.part_layout.specs.declared.config.Config.{Config}
 use Rattle.query_protocol.specs.Requests.{LineRequest, Add, Quit, reading}
 use Rattle.query_protocol.specs.Replies.{text}
 use Rattle.query_protocol.specs.declared.bad.Bad.{Bad}
-use Rattle.query_protocol.specs.declared.reply.Reply.{Reply}
-use Rattle.query_protocol.specs.declared.reply.Reply.TheVariants as reply
+use Rattle.query_protocol.specs.Replies.{LineReply}
+use Rattle.query_protocol.specs.Replies as reply
 use Rattle.gph_session.specs.Ledger.{IsRise}
 use Rattle.gph_session.specs.State.{State, new_session}
 use Rattle.gph_session.specs.Step.{Exchange, Step}
@@ -19,13 +19,13 @@ Run config history s [] t = t ≡ s
 Run config history s (exchange ∷ exchanges) t = (mid : State) × Step config history s exchange mid × Run config history mid exchanges t
 
 -- what the session with this number committed, by what a line asked and what it was told
-abbrev pub committed : ℕ → Result (Option LineRequest) Bad → List Reply → List JournalEntry
+abbrev pub committed : ℕ → Result (Option LineRequest) Bad → List LineReply → List JournalEntry
 committed who (Ok (Some (Add key code))) (reply.Added added at ∷ []) = record { who = who; operation = journal.Add key code } ∷ []
 committed who asked replies = []
 
 -- the entry that an exchange of session 0 committed, if it did
 abbrev pub commit_of : Config → Exchange → List JournalEntry
-commit_of config exchange = committed 0 (reading config.bits config.shards exchange.line) exchange.replies
+commit_of config exchange = committed 0 (reading config exchange.line) exchange.replies
 
 -- all that the exchanges committed
 abbrev pub commits : Config → List Exchange → List JournalEntry
@@ -77,9 +77,9 @@ asks_quit asked = false
 -- the lines before the first that ends the session
 abbrev pub before_quit : Config → List (List ℕ) → List (List ℕ)
 before_quit config [] = []
-before_quit config (line ∷ lines) = if asks_quit (reading config.bits config.shards line) then [] else line ∷ before_quit config lines
+before_quit config (line ∷ lines) = if asks_quit (reading config line) then [] else line ∷ before_quit config lines
 
 -- one of the lines ends the session
 abbrev pub has_quit : Config → List (List ℕ) → Bool
 has_quit config [] = false
-has_quit config (line ∷ lines) = if asks_quit (reading config.bits config.shards line) then true else has_quit config lines
+has_quit config (line ∷ lines) = if asks_quit (reading config line) then true else has_quit config lines

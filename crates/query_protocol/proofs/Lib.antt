@@ -2,5 +2,5 @@ pub mod CodeLemmas
 pub mod FeedLemmas
 pub mod FormLemmas
 pub mod JoinedLemmas
-pub mod ThresholdLemmas
+pub mod ReadingLemmas
 pub mod WordLemmas
