@@ -1,6 +1,6 @@
 use Rattle.std.proofs.Common.{◌<◌, length, drop}
 use Rattle.threshold_dp.specs.Table.{rows_of, KeepWidths, IsSolved}
-use Rattle.threshold_dp.proofs.table.fill.Given as goal
+use Rattle.threshold_dp.proofs.table.solve_parts.Given as goal
 
 abbrev pub invariant-loop-part : goal.invariant-loop-part
 invariant-loop-part g l =

@@ -1,6 +1,6 @@
 use Rattle.std.proofs.Common.{◌≡◌, ◌-◌}
 use Rattle.threshold_dp.specs.Table.{IsFirstLeast, joint_cost}
-use Rattle.threshold_dp.proofs.table.first_least.Given as goal
+use Rattle.threshold_dp.proofs.table.cheapest_units.Given as goal
 
 abbrev pub invariant-loop-pick : goal.invariant-loop-pick
 invariant-loop-pick l =
