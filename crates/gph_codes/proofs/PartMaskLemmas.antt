@@ -45,7 +45,7 @@ new_rest bits mask p positions inside new q less =
     (λ (e : q ≡ p).
     let here : cond {A = ℕ} (eqb p q) 1 0 ≡ 1 = grind (arith, nat_tests) in
     let set_here : get_or (set mask p 1) q 0 ≡ 1 =
-        ap (λ n. get_or (set mask p 1) n 0) e ∙ get_or-set_same mask p 1 0 inside in
+    ap (λ n. get_or (set mask p 1) n 0) e ∙ get_or-set_same mask p 1 0 inside in
     omega arith)
     (λ (ne : q ≢ p). let kept = get_or-set_other mask p q 1 0 ne in omega arith)
     (cases_eq q p)
@@ -64,7 +64,7 @@ under_ones bits (p ∷ positions) mask code other same also room inside new =
     let here = under-set mask code other p same also (omega arith) off in
     let new_here = new_rest bits mask p positions (omega arith) new in
     let rest = under_ones bits positions (set mask p 1) code other
-        (omega arith) (omega arith) (omega arith) inside.1 new_here in
+    (omega arith) (omega arith) (omega arith) inside.1 new_here in
     omega arith
 
 -- a mask of zeros
@@ -124,7 +124,7 @@ under_mask size bits layout lay room part code other less same also =
     let zeros : length (replicate {A = ℕ} size 0) ≡ size = length-replicate size 0 in
     let inside = part_inside bits layout part (recursion_from_All (λ p. p < bits) all lay.in_range) in
     let new : AreNew bits (replicate size 0) positions =
-        (λ p below. omega (arith, zero_at size p, count_in_part layout part p, lay.once p below)) in
+    (λ p below. omega (arith, zero_at size p, count_in_part layout part p, lay.once p below)) in
     let under = under_ones bits positions (replicate size 0) code other
-        (omega arith) (omega arith) (omega arith) inside new in
+    (omega arith) (omega arith) (omega arith) inside new in
     omega (arith, under_zeros size code other)

@@ -1,7 +1,7 @@
 -- What words are to the codes that they stand for.
-use Rattle.std.specs.Prelude.{◌≡◌, ℕ, ◌<◌, ◌≤◌, ◌↔◌, List, [], length, slice_index_or}
+use Rattle.std.specs.Prelude.{◌≡◌, ℕ, ◌<◌, ◌↔◌, List, [], length, slice_index_or}
 use Rattle.hamming_model.specs.Codes.{StandsFor, distance}
-use Rattle.hamming_model.specs.Layouts.{IsLayout, part_distance}
+use Rattle.hamming_model.specs.Layouts.{part_distance}
 use Rattle.gph_codes.specs.Masks.{distance_under, mask_of}
 
 -- words are as far apart as the codes that they stand for

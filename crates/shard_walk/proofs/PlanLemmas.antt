@@ -1,5 +1,5 @@
 -- What was planned by a table of counts is a plan.
-use Rattle.std.proofs.Common.{◌≡◌, ℕ, ◌+◌, ◌<◌, ◌≤◌, ℤ, pos, ◌≤ℤ◌, List, length}
+use Rattle.std.proofs.Common.{ℕ, ◌+◌, ◌<◌, ◌≤◌, ℤ, pos, ◌≤ℤ◌, List, length}
 use Rattle.std.specs.List.{All}
 use Rattle.threshold_model.specs.Vectors.{row_counts, IsVector, IsChoice, IsLeast}
 use Rattle.shard_walk.specs.Counted.{count_in, HasCounts}

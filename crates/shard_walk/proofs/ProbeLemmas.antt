@@ -1,5 +1,5 @@
 -- What a query on a version keeps: its values at the parts, and the masks of the parts.
-use Rattle.std.proofs.Common.{◌≡◌, ℕ, ◌+◌, ◌-◌, ◌*◌, ◌^◌, ◌<◌, ◌≤◌, List, [], ◌∷◌, length, replicate, drop, set, get_or, sym, ap, ◌∙◌, subst, arith}
+use Rattle.std.proofs.Common.{◌≡◌, ℕ, ◌+◌, ◌-◌, ◌*◌, ◌^◌, ◌<◌, ◌≤◌, List, [], length, replicate, drop, set, get_or, sym, ap, ◌∙◌, subst, arith}
 use Rattle.std.proofs.lemmas.List.{drop_more, drop_all, get_or-map, length-append, length-replicate}
 use Rattle.hamming_model.specs.Codes.{IsCode, StandsFor}
 use Rattle.hamming_model.specs.Layouts.{part_value, part_distance}
@@ -37,7 +37,7 @@ pub stored_size : (words bits : ℕ) (stored code : List ℕ) → StandsFor word
 stored_size words bits stored code stands room =
     let size = stands.is_code.size in
     let zeros : length (replicate {A = ℕ} (64 * words - length code) 0) ≡ 64 * words - length code =
-        length-replicate (64 * words - length code) 0 in
+    length-replicate (64 * words - length code) 0 in
     let all = ap length stands.is_padded ∙ length-append code (replicate (64 * words - length code) 0) in
     omega arith
 

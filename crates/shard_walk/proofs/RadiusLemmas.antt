@@ -9,7 +9,7 @@ use Rattle.std.proofs.lemmas.List.{length-append, length-drop, with_items_is}
 use Rattle.std.proofs.lemmas.Nat.{mul-add-lt}
 use borrow.Rule.Slice.PartMut.{put_mid, post_of}
 use Rattle.threshold_model.specs.Vectors.{NeverFalls}
-use Rattle.shard_walk.specs.Counted.{count_in, HasCounts, IsTable}
+use Rattle.shard_walk.specs.Counted.{HasCounts, IsTable}
 
 -- a place in the counts of a part
 pub place_below : (part parts width at : ℕ) → part < parts → at < width → part * width + at < parts * width
@@ -78,7 +78,7 @@ module _ (table : Vec ℕ) (held row : List ℕ) (tau part parts span : ℕ) (sa
       let front : length (take from table.items) ≡ from = length-take-le from table.items (omega (arith, within)) in
       let rest : List ℕ = post_of from (tau + 2) table.items in
       let past : length (drop (tau + 2) (drop from table.items)) ≡ length (drop from table.items) - (tau + 2) =
-          length-drop (tau + 2) (drop from table.items) in
+      length-drop (tau + 2) (drop from table.items) in
       let back : length (drop from table.items) ≡ length table.items - from = length-drop from table.items in
       let joined = length-append (take from table.items) (row ++ rest) in
       let both = length-append row rest in

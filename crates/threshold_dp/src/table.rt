@@ -91,7 +91,12 @@ fn add_last_part(asked: &[u32], costs: &mut [u64], picks: &mut [u16])
 }
 
 // Solves the parts from the last one to the first, for all units below the width of the slices.
-fn solve_parts<C: PartCounts>(counts: &C, asked: &mut [u32], costs: &mut [u64], picks: &mut [Vec<u16>])
+fn solve_parts<C: PartCounts>(
+    counts: &C,
+    asked: &mut [u32],
+    costs: &mut [u64],
+    picks: &mut [Vec<u16>],
+)
     requires some { 0 < length picks.old }
     requires few { length picks.old ≤ 64 }
     requires counted { length picks.old ≤ C.parts counts.now }

@@ -18,12 +18,12 @@ returns-clause-distance g c =
     let is_layout = probe.probed.version.laid.layout in
     let room = probe.probed.tables.room in
     let mask = get_or_read c.self.inside.masks.items c.args.part c.index.result.now (omega arith) c.index.ensures []
-        ∙ probe.masks_are.each c.args.part c.requires.part in
+    ∙ probe.masks_are.each c.args.part c.requires.part in
     let under = c.part_distance_is_under_the_mask.ensures (64 * g.row.W) bits (parts_in version) is_layout room c.args.part code stored less
-        (stored_size g.row.W bits code (code_in version code) c.requires.stored room)
-        (stored_size g.row.W bits stored (code_in version stored) probe.probed.query room) in
+    (stored_size g.row.W bits code (code_in version code) c.requires.stored room)
+    (stored_size g.row.W bits stored (code_in version stored) probe.probed.query room) in
     let alike = c.stored_rows_search_alike.ensures.parts g.row.W bits (parts_in version) code stored (code_in version code)
-        (code_in version stored) is_layout c.requires.stored probe.probed.query in
+    (code_in version stored) is_layout c.requires.stored probe.probed.query in
     c.dist_under.ensures.distance
     ∙ ap (λ p. distance_under c.index.result.now code p.stored) c.self.view_is
     ∙ ap (λ m. distance_under m code stored) mask ∙ under

@@ -17,7 +17,7 @@ levels-requires g c =
     let positions = part_at version.contents.layout c.args.part in
     let counts = c.counts.ensures ∙ ap (λ v. counts_of v.contents c.args.part) (c.deref.ensures ∙ ap (λ p. p.version) c.self.view_is) in
     let width = ap (λ (table : CopyTable). table.width) counts
-        ∙ c.changes_follow_a_list.ensures.width (length positions) (part_values version.contents.rows positions) in
+    ∙ c.changes_follow_a_list.ensures.width (length positions) (part_values version.contents.rows positions) in
     record {
       in_width = value_small version.contents.layout.bits (parts_in version) (code_in version c.args.self.now.stored) c.self.inside.values.items
           c.args.part c.index.result.now c.counts.result.now.width probe.probed.query.is_code probe.values_are c.requires
@@ -32,7 +32,7 @@ returns g c = λ units less.
     let version = c.args.self.now.version in
     let counts = c.counts.ensures ∙ ap (λ v. counts_of v.contents c.args.part) (c.deref.ensures ∙ ap (λ p. p.version) c.self.view_is) in
     let value = get_or_read c.self.inside.values.items c.args.part c.index.result.now (omega arith) c.index.ensures 0
-        ∙ probe.values_are.each c.args.part c.requires in
+    ∙ probe.values_are.each c.args.part c.requires in
     c.levels.ensures units (omega (arith, c.levels.auto.out))
     ∙ ap (λ table. count_near table c.index.result.now units) counts
     ∙ ap (λ n. count_near (counts_of version.contents c.args.part) n units) value

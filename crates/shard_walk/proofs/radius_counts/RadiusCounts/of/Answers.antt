@@ -17,9 +17,9 @@ loop-part-preserved g c =
     let within = row_within c.loop-part.part c.parts-parts.result (c.args.tau + 2) (omega arith) (omega arith) in
     let table : length c.deref_mut.result.now ≡ c.parts-parts.result * (c.args.tau + 2) = ap length held ∙ c.loop-part.invariant.0 in
     let past : length (drop from c.deref_mut.result.now) ≡ length c.deref_mut.result.now - from =
-        length-drop from c.deref_mut.result.now in
+    length-drop from c.deref_mut.result.now in
     let lent : length (take (from + width - from) (drop from c.deref_mut.result.now)) ≡ from + width - from =
-        length-take-le (from + width - from) (drop from c.deref_mut.result.now) (omega (arith, span, past, table, within)) in
+    length-take-le (from + width - from) (drop from c.deref_mut.result.now) (omega (arith, span, past, table, within)) in
     let written : length c.levels.new.out ≡ length (take (from + width - from) (drop from c.deref_mut.result.now)) = c.levels.auto.out in
     let size : length c.levels.new.out ≡ c.args.tau + 2 = written ∙ lent ∙ span in
     part_written c.loop-part.counts c.deref_mut.result.now c.levels.new.out c.args.tau c.loop-part.part c.parts-parts.result (from + width - from)

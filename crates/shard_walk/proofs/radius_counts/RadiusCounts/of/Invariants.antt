@@ -1,4 +1,4 @@
-use Rattle.std.proofs.Common.{◌≡◌, ◌+◌, ◌*◌, length}
+use Rattle.std.proofs.Common.{◌≡◌, ◌*◌, length}
 use Rattle.threshold_model.specs.Vectors.{row_counts}
 use Rattle.shard_walk.specs.Counted.{HasCounts}
 use Rattle.shard_walk.specs.Probed.{parts_in, code_in}
