@@ -1,8 +1,8 @@
-use Rattle.std.proofs.Common.{refl, ◌<◌, ◌^◌, arith}
+use Rattle.std.proofs.Common.{refl}
 use Rattle.std.proofs.lemmas.Nat.{ones-le, xor_lt}
 use Rattle.std.specs.Int.RustNames.{bit_xor}
 use Rattle.ball_walk.specs.Balls.{value_distance}
-use Rattle.count_table.proofs.levels.distance.Goals as goal
+use Rattle.ball_walk.proofs.distance.value_distance.Goals as goal
 
 pub returns-clause-distance : goal.returns-clause-distance
 unfolding value_distance
@@ -10,5 +10,4 @@ returns-clause-distance c = refl
 
 pub returns-clause-few : goal.returns-clause-few
 returns-clause-few c =
-    let small : c.args.other < 2 ^ 16 = omega arith in
-    ones-le 16 (bit_xor c.args.other c.args.value) (xor_lt 16 c.args.other c.args.value small c.ranges.value.fits)
+    ones-le 16 (bit_xor c.args.value c.args.other) (xor_lt 16 c.args.value c.args.other c.ranges.value.fits c.ranges.other.fits)
