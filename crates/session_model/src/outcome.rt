@@ -1,4 +1,4 @@
-/// How a call of `run` ended.
+/// How a served session ended.
 #[derive(Clone, Copy, Debug, PartialEq, Eq)]
 pub enum Outcome {
     /// The input was read to its end, or to `quit`.
