@@ -3,11 +3,12 @@
 ghost use Rattle.std.specs.Prelude.{◌≡◌, ◌*◌, ◌<◌, ◌≤◌, ℕ, IfOk, None};
 ghost use Rattle.std.specs.Arc.{arc_value};
 ghost use Rattle.hamming_model.specs.History.{code_at};
-ghost use Rattle.shard_version.specs.declared.version.TheConstants.{ENTRIES};
+ghost use Rattle.hamming_model.specs.declared.limits.TheConstants.{ENTRIES_MOST};
 ghost use Rattle.gph_session.specs.Changing.{AddsAs, StandsIn, with_row};
 
 use entry_log::{Decision, Entry, Op, decide};
 use gph_codes::Code;
+use hamming_model::ENTRIES_MOST;
 use query_protocol::Reply;
 use read_meter::NoMemory;
 use shard_version::Version;
@@ -24,7 +25,7 @@ pub(crate) fn add<const W: usize>(
     code: Code<W>,
 ) -> Reply
     requires few_words { W ≤ 8 }
-    requires few_entries { limit ≤ ENTRIES }
+    requires few_entries { limit ≤ ENTRIES_MOST }
     requires one_shard { (arc_value version.old).contents.shards ≡ 1 }
     requires code { StandsIn W (arc_value version.old).contents code }
     ensures { AddsAs (arc_value version.old).contents limit key code.entry result (arc_value version.new).contents }
@@ -57,7 +58,7 @@ fn added_to<const W: usize>(
     code: Code<W>,
 ) -> Result<Arc<Version<W>>, NoMemory>
     requires few_words { W ≤ 8 }
-    requires room { version.now.contents.at < ENTRIES }
+    requires room { version.now.contents.at < ENTRIES_MOST }
     requires code { StandsIn W version.now.contents code }
     requires absent { code_at version.now.contents.rows key ≡ None }
     ensures { IfOk result (λ next. (arc_value next).contents ≡ with_row version.now.contents key code.entry) }
@@ -66,6 +67,10 @@ fn added_to<const W: usize>(
         who: 0,
         op: Op::Add { key, code },
     };
+    // Each row came by an entry, so there is room for one more; the session's proof doesn't count them.
+    if version.rows() >= ENTRIES_MOST {
+        return Err(NoMemory);
+    }
     let Ok(copy) = version.copy() else {
         return Err(NoMemory);
     };

@@ -1,11 +1,12 @@
 -- Posting lists: one list set among all, a key looked for, and an entry taken out.
-use Rattle.std.proofs.Common.{◌≡◌, ◌≢◌, ℕ, zero, suc, ◌+◌, ◌-◌, ◌^◌, ◌<◌, ◌≤◌, ◌==◌, true, false, List, [], ◌∷◌, ◌++◌, length, take, map, set, get_or, replicate, refl, sym, ap, ◌∙◌, arith, eq-eqb, Vec, Global}
+use Rattle.std.proofs.Common.{◌≡◌, ◌≢◌, ℕ, zero, suc, ◌+◌, ◌-◌, ◌^◌, ◌<◌, ◌≤◌, ◌==◌, true, false, List, [], ◌∷◌, ◌++◌, length, take, map, set, get_or, replicate, refl, sym, ap, subst, ◌∙◌, arith, eq-eqb, Vec, Global}
 use Rattle.std.specs.List.{swap_remove}
+use Rattle.std.specs.List.Sorted.{IsPermutation}
 use Rattle.std.proofs.lemmas.Bool.{ne_eqb, or_left, or_right}
 use Rattle.std.proofs.lemmas.List.{get_or-map, get_or-set_same, length-map, length-take, map-append, length-set, length-replicate, map-set, take_more}
 use Rattle.std.proofs.lemmas.List.Elements.{All-replicate, All-set}
 use Rattle.std.proofs.lemmas.List.Folds.{list_any-append}
-use Rattle.std.proofs.lemmas.List.Sums.{sum_by-swap_remove}
+use Rattle.std.proofs.lemmas.List.Sorted.{IsPermutation-swap_remove}
 use Rattle.std.proofs.Math.Seq.{map-set_same}
 use Rattle.posting_table.specs.Kept.{IsKept}
 use Rattle.posting_table.specs.Tables.{Loses, Table, has_key, key_at, posting_list, with_list}
@@ -56,21 +57,14 @@ has_key-at (entry ∷ entries) (suc place) key at =
 pub loses : (key place : ℕ) (entries : List (ℕ × List ℕ)) (gone : ℕ × List ℕ) → key_at entries place key → gone ≡ get_or entries place gone
     → Loses key entries (swap_remove entries place gone)
 loses key place entries gone at is =
-    let below = at.0 in
     let own : gone.0 ≡ key = ap (λ (entry : ℕ × List ℕ). entry.0) is ∙ at.1 gone in
     let whole : gone ≡ (key, gone.1) = ap (λ (first : ℕ). (first, gone.1)) own in
-    rw whole (record {
-      place = place;
+    record {
       code = gone.1;
-      in_list = below;
-      stood = sym (rw whole at is);
-      left = refl;
-      counts = λ f. (
-          let one = sum_by-swap_remove f entries place (key, gone.1) below in
-          let same : f (get_or entries place (key, gone.1)) ≡ f (key, gone.1) = ap f (sym (rw whole at is)) in
-          omega (arith, one, same)
-          );
-    })
+      others_stay =
+          subst (λ (entry : ℕ × List ℕ). IsPermutation entries (entry ∷ swap_remove entries place gone)) whole
+          (IsPermutation-swap_remove entries place gone at.0 is);
+    }
 
 -- taking an entry out makes no list longer
 pub swap_remove_short : (entries : List (ℕ × List ℕ)) (place : ℕ) (gone : ℕ × List ℕ) → length (swap_remove entries place gone) ≤ length entries

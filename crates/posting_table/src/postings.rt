@@ -1,15 +1,13 @@
 //! The posting lists of one part.
 
 ghost use Rattle.std.specs.Prelude.{◌≡◌, ◌+◌, ◌^◌, ◌<◌, ◌≤◌, true, false, length, slice_index_or, IfOk, OnOk, OnErr, Ok};
+ghost use Rattle.hamming_model.specs.declared.limits.TheConstants.{ENTRIES_MOST, PART_WIDTH_MOST};
 ghost use Rattle.posting_table.specs.Tables.{FindsKey, LosesEntry, empty_table, has_key, posting_list, with_entry, with_list};
 
 use gph_codes::Code;
 use read_meter::{NoMemory, Steps};
 use std::alloc::Global;
 use std::marker::Model;
-
-/// How many entries a posting list has at most: as many as a history may have.
-pub const ENTRIES: usize = 1_048_576;
 
 /// The posting lists of one part of a layout: for each value of the part the entries (key, code) of the
 /// codes that have it there. Seen as a table: the part's width, and the lists by value. The order of a
@@ -43,7 +41,7 @@ impl<const W: usize> Postings<W> {
     /// `NoMemory` where there is no memory for that many lists.
     pub fn new(alloc: Global, width: u32) -> Result<Postings<W>, NoMemory>
         requires some { 1 ≤ width }
-        requires narrow { width ≤ 12 }
+        requires narrow { width ≤ PART_WIDTH_MOST }
         ensures { IfOk result (λ table. table ≡ empty_table width) }
     {
         let number = 1usize << width;
@@ -96,7 +94,7 @@ impl<const W: usize> Postings<W> {
     pub fn insert(&mut self, value: u16, key: u64, code: Code<W>) -> Result<(), NoMemory>
         requires in_width { value < 2 ^ self.old.width }
         requires absent { has_key (posting_list self.old value) key ≡ false }
-        requires room { length (posting_list self.old value) < 1048576 }
+        requires room { length (posting_list self.old value) < ENTRIES_MOST }
         ensures added { OnOk result (self.new ≡ with_entry self.old value (key, code.entry)) }
         ensures unchanged { OnErr result (self.new ≡ self.old) }
     {
@@ -107,7 +105,7 @@ impl<const W: usize> Postings<W> {
     }
 
     /// Removes the entry of a key from the list of a value, where it has one, and tells whether it had.
-    /// The last entry of the list takes its place. Looks at the entries of that list one by one.
+    /// Looks at the entries of that list one by one.
     ///
     /// # Errors
     ///
@@ -144,7 +142,7 @@ impl<const W: usize> Postings<W> {
     pub fn len(&self, value: u16) -> u32
         requires { value < 2 ^ self.now.width }
         ensures number { result ≡ length (posting_list self.now value) }
-        ensures bound { result ≤ 1048576 }
+        ensures bound { result ≤ ENTRIES_MOST }
     {
         self.lists[value as usize].len() as u32
     }

@@ -30,6 +30,6 @@ returns-in-Ok-put g c =
         asks = asks;
         begins = begins;
         lawful = lawful_of g.W.fits held;
-        few = omega (arith, ap length asks.hits, scan_within version.rows (own_code version.layout.bits c.args.code) c.args.tau, whole.from_entries, whole.few_entries);
+        few = omega (arith, ap length asks.hits, scan_within version.rows (own_code version.layout.bits c.args.code) c.args.tau, whole.few_rows);
       },
     )
