@@ -3,6 +3,7 @@ use Rattle.std.specs.Prelude.{◌≡◌, ℕ, Bool, List, is_some}
 use Rattle.hamming_model.specs.Codes.{StandsFor}
 use Rattle.hamming_model.specs.History as history
 use Rattle.entry_log.specs.Decisions.{decision_of}
+use Rattle.entry_log.specs.Entries.{kept_operation}
 use Rattle.entry_log.specs.declared.decision.Decision.{Decision}
 use Rattle.entry_log.specs.declared.entry.Entry.{Entry}
 use Rattle.entry_log.specs.declared.op.Op.{Op}
@@ -30,3 +31,9 @@ abbrev pub DecidesAs : {W : ℕ} → Op W → Bool → ℕ → ℕ → Decision 
 DecidesAs op present entries limit decision =
     (bits : ℕ) (rows : List (ℕ × List ℕ)) (operation : history.Operation) → MeansOperation bits op operation
     → present ≡ is_some (history.code_at rows (key_of operation)) → decision_of decision ≡ history.decide rows entries limit operation
+
+-- and so it is of the operation with all bits that its words keep
+abbrev pub DecidesStored : {W : ℕ} → Op W → Bool → ℕ → ℕ → Decision → Type 0
+DecidesStored op present entries limit decision =
+    (rows : List (ℕ × List ℕ)) → present ≡ is_some (history.code_at rows (key_of (kept_operation op)))
+    → decision_of decision ≡ history.decide rows entries limit (kept_operation op)

@@ -2,7 +2,7 @@
 
 ghost use Rattle.std.specs.Prelude.{◌≡◌, ℕ, ◌<◌, ◌≤◌, ◌↔◌, true, false};
 ghost use Rattle.entry_log.specs.Decisions.{Fits, is_add};
-ghost use Rattle.entry_log.specs.Meaning.{DecidesAs};
+ghost use Rattle.entry_log.specs.Meaning.{DecidesAs, DecidesStored};
 ghost use Rattle.entry_log.specs.declared.decision.Decision.TheVariants.{Added, Taken, Deleted, Absent, Full};
 
 use crate::Op;
@@ -34,6 +34,7 @@ pub fn decide<const W: usize>(op: &Op<W>, present: bool, entries: u64, limit: u6
     ensures deleted { (result ≡ Deleted) ↔ (is_add op.now ≡ false × present ≡ true × entries < limit) }
     // The decision of the definitions, on rows that have the key where `present` says so.
     ensures defined { DecidesAs op.now present entries limit result }
+    ensures stored { DecidesStored op.now present entries limit result }
 {
     let full = entries >= limit;
     match op {

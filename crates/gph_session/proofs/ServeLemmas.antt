@@ -12,7 +12,7 @@ use Rattle.gph_session.specs.Outcomes.{ends, IsDone, IsReadFault, IsWriteFault, 
 use Rattle.gph_session.specs.Run.{IsRefused}
 use Rattle.gph_session.specs.Held.{reads_of}
 use Rattle.gph_session.specs.Flow.{Stands, HasEnded}
-use Rattle.gph_session.proofs.RunLemmas.{before_more, quit_more}
+use Rattle.gph_session.proofs.RunLemmas.{before_more}
 use Rattle.gph_session.proofs.FlowLemmas.{answered_so_far, goes_on}
 
 rose_from : (a b c : ℕ) → a ≤ b → Rose b c → Rose a c
@@ -114,7 +114,7 @@ module _ (W : ℕ) (config : Config) (taken : ℕ) (left0 left1 left2 held0 held
             bytes = all;
             output = goes.1 ++ next.0;
             moved = record { read = read_more; few = omega (arith, length-append goes.0 piece, goes.4); wrote = Appends-trans held0 held1 held2 goes.1 next.0 goes.3 next.1 };
-            ended = inr (quit_more config (ended_lines [] all) (last_line (unended [] all)) ended.quits);
+            ended = inr ended.quits;
             answered = subst (λ l. AnswersLines config l (goes.1 ++ next.0) rise) (sym (before_more config (ended_lines [] all) (last_line (unended [] all)) ended.quits)) ended.answered;
           }
 

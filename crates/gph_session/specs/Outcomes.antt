@@ -27,12 +27,12 @@ pub record Transfers (limit : ℕ) (source source' sink sink' : Ends) (bytes out
   pub few : length bytes ≤ limit
   pub wrote : Appends sink.bytes sink'.bytes output
 
--- the input was read to its end or to a line that ends the session, and the lines up to there were answered
+-- the input was read to its end, or a whole line of it ends the session, and the lines up to there were answered
 pub record IsDone (config : Config) (source source' sink sink' : Ends) (rise : ℕ) : Type 0 where
   pub bytes : List ℕ
   pub output : List ℕ
   pub moved : Transfers config.input source source' sink sink' bytes output
-  pub ended : IsAtEnd source'.bytes ⊎ (has_quit config (lines bytes true) ≡ true)
+  pub ended : IsAtEnd source'.bytes ⊎ (has_quit config (lines bytes false) ≡ true)
   pub answered : AnswersLines config (before_quit config (lines bytes true)) output rise
 
 -- a read failed, and the whole lines before it were answered

@@ -16,6 +16,7 @@ use Rattle.std.proofs.lemmas.List.Elements.{recursion_from_All}
 use Rattle.hamming_model.specs.declared.hit.Hit.{Hit}
 use Rattle.hamming_model.specs.Scan.{hit_cmp, placed, in_order}
 use Rattle.hamming_model.specs.Order.{is_same_hit, occurrences}
+pub use Rattle.hamming_model.specs.Order.{IsFirst, Ascends}
 
 -- hits are in a total order
 pub hit_order : IsTotalOrder hit_cmp
@@ -54,7 +55,8 @@ lt_is_gt Less p e = rw e
 lt_is_gt Equal p e = rw e
 lt_is_gt Greater p e = rw e
 
-not_both_gt : (o p : Ordering) → p ≡ ordering_reverse o → is_gt o ≡ true → is_gt p ≡ false
+-- of two orders that are each other's reverse only one is greater
+pub not_both_gt : (o p : Ordering) → p ≡ ordering_reverse o → is_gt o ≡ true → is_gt p ≡ false
 not_both_gt Less p e h = cc
 not_both_gt Equal p e h = cc
 not_both_gt Greater p e h = rw e
@@ -67,16 +69,8 @@ neither_gt Greater p e h k = cc
 lt_gt : (a b : Hit) → is_lt (hit_cmp a b) ≡ is_gt (hit_cmp b a)
 lt_gt a b = lt_is_gt (hit_cmp a b) (hit_cmp b a) (hit_order.antisymm b a)
 
--- a hit is after none of these
-abbrev pub IsFirst : Hit → List Hit → Type 0
-IsFirst hit hits = AllByRecursion (λ other. is_gt (hit_cmp hit other) ≡ false) hits
-
--- each hit is after none of those that follow it
-abbrev pub Ascends : List Hit → Type 0
-Ascends [] = Unit {0}
-Ascends (hit ∷ hits) = IsFirst hit hits × Ascends hits
-
-first_before : (a b : Hit) (hits : List Hit) → is_gt (hit_cmp a b) ≡ false → IsFirst b hits → IsFirst a hits
+-- what is not after the first of some hits is after none of them
+pub first_before : (a b : Hit) (hits : List Hit) → is_gt (hit_cmp a b) ≡ false → IsFirst b hits → IsFirst a hits
 first_before a b [] h all = tt
 first_before a b (hit ∷ hits) h all = (upto hit_order a b hit h all.0, first_before a b hits h all.1)
 

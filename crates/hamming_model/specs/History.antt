@@ -1,5 +1,5 @@
--- The history of entries, and the rows that the entries of a prefix leave.
-use Rattle.std.specs.Prelude.{◌≡◌, ℕ, ◌%◌, ◌==◌, nat_le, if◌then◌else◌, List, [], ◌∷◌, filter, Option, None, is_some, true}
+-- The history of entries, the rows that the entries of a prefix leave, and what becomes of an operation behind it.
+use Rattle.std.specs.Prelude.{◌≡◌, ℕ, ◌%◌, ◌==◌, ◌<◌, nat_le, if◌then◌else◌, Bool, true, false, List, [], ◌∷◌, ◌++◌, length, take, filter, slice_index_or, Option, None, is_some}
 use Rattle.std.specs.Ordering.{nat_cmp}
 use Rattle.std.specs.BTreeMap.{insert_entry, is_at}
 use Rattle.std.specs.Map.{lookup, remove_entry}
@@ -56,7 +56,22 @@ abbrev pub Fits : List (ℕ × List ℕ) → Operation → Type 0
 Fits rows (Add key code) = code_at rows key ≡ None
 Fits rows (Delete key) = is_some (code_at rows key) ≡ true
 
--- each entry of the history fits the rows of those before it
-abbrev pub IsLegalFrom : List (ℕ × List ℕ) → List JournalEntry → Type 0
-IsLegalFrom rows [] = Unit {0}
-IsLegalFrom rows (entry ∷ entries) = Fits rows entry.operation × IsLegalFrom (changed rows entry.operation) entries
+-- each entry of a history fits the rows of those before it
+pub record IsLegal (history : List JournalEntry) : Type 0 where
+  pub each : (i : ℕ) (other : JournalEntry) → i < length history → Fits (rows_of (take i history)) (slice_index_or history i other).operation
+
+-- the decision behind a history, where so many entries may stand
+abbrev pub decision_on : List JournalEntry → ℕ → Operation → Decision
+decision_on history limit operation = decide (rows_of history) (length history) limit operation
+
+-- whether the operation is taken into the history
+abbrev pub is_accepted : Decision → Bool
+is_accepted Added = true
+is_accepted Deleted = true
+is_accepted Taken = false
+is_accepted Absent = false
+is_accepted Full = false
+
+-- the history after an entry on which this was decided
+abbrev pub after_decision : List JournalEntry → JournalEntry → Decision → List JournalEntry
+after_decision history entry decision = if is_accepted decision then history ++ entry ∷ [] else history

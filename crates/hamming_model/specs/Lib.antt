@@ -1,7 +1,10 @@
 pub mod Codes
+pub mod Coding
 pub mod History
 pub mod Layouts
 pub mod Order
 pub mod PlainRows
+pub mod Recoded
 pub mod Scan
+pub mod Shards
 pub mod Stored

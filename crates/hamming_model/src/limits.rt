@@ -21,3 +21,6 @@ pub const ROOM_MOST: usize = 256;
 
 /// The most entries of a history, and so the most rows at a time.
 pub const ENTRIES_MOST: u64 = 1_048_576;
+
+/// The most numbers of sessions that a history gives out.
+pub const SESSIONS_MOST: u32 = 4_294_967_295;

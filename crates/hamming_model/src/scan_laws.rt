@@ -1,8 +1,9 @@
-ghost use Rattle.std.specs.Prelude.{◌≡◌, ℕ, List, count_by};
+ghost use Rattle.std.specs.Prelude.{◌≡◌, ◌↔◌, ℕ, List, count_by, false, true};
 ghost use Rattle.std.specs.List.Sorted.{IsPermutation, IsSorted};
+ghost use Rattle.std.specs.Ordering.{is_gt};
 ghost use Rattle.hamming_model.specs.declared.hit.Hit.{Hit};
 ghost use Rattle.hamming_model.specs.Scan.{hit_cmp, in_order, scan};
-ghost use Rattle.hamming_model.specs.Order.{occurrences, is_hit_row};
+ghost use Rattle.hamming_model.specs.Order.{Ascends, IsFirst, is_hit_row, occurrences};
 
 use crate::hit::Hit;
 
@@ -22,4 +23,14 @@ pub fn scan_lists_the_near_rows()
         occurrences hit (scan rows query radius) ≡ count_by (is_hit_row hit query radius) rows }
     ensures ascends { (rows : List (ℕ × List ℕ)) (query : List ℕ) (radius : ℕ) →
         IsSorted hit_cmp (scan rows query radius) }
+{}
+
+/// Law: of two hits at most one is after the other, what isn't after the first of some hits is after none
+/// of them, and hits that ascend are those that are sorted.
+pub fn hits_ascend()
+    ensures one { (a b : Hit) → is_gt (hit_cmp a b) ≡ true → is_gt (hit_cmp b a) ≡ false }
+    ensures first { (a b : Hit) (hits : List Hit) →
+        is_gt (hit_cmp a b) ≡ false → IsFirst b hits → IsFirst a hits }
+    ensures sorted { (hits : List Hit) → Ascends hits ↔ IsSorted hit_cmp hits }
+    ensures in_order { (hits : List Hit) → Ascends (in_order hits) }
 {}

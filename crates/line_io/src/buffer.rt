@@ -27,10 +27,8 @@ impl LineBuf {
     pub fn new(alloc: Global) -> Result<LineBuf, NoMemory>
         ensures { IfOk result (λ b. b ≡ []) }
     {
-        match zeroed(alloc, LINE_MOST) {
-            Ok(bytes) => Ok(LineBuf { bytes, filled: 0 }),
-            Err(NoMemory) => Err(NoMemory),
-        }
+        let bytes = zeroed(alloc, LINE_MOST)?;
+        Ok(LineBuf { bytes, filled: 0 })
     }
 
     /// Adds `text` at the end.
@@ -73,8 +71,5 @@ impl LineBuf {
 pub(crate) fn zeroed(alloc: Global, count: usize) -> Result<Vec<u8>, NoMemory>
     ensures { IfOk result (λ v. length v.items ≡ count) }
 {
-    match Vec::from_elem(alloc, 0u8, count) {
-        Ok(bytes) => Ok(bytes),
-        Err(_) => Err(NoMemory),
-    }
+    Ok(Vec::from_elem(alloc, 0u8, count)?)
 }

@@ -52,15 +52,13 @@ impl Cutter {
     pub fn new(alloc: Global) -> Result<Cutter, NoMemory>
         ensures { IfOk result (λ c. c.held ≡ kept []) }
     {
-        match zeroed(alloc, LINE_MOST + 1) {
-            Ok(bytes) => Ok(Cutter {
-                bytes,
-                begun: 0,
-                is_long: false,
-                cut: 0,
-            }),
-            Err(NoMemory) => Err(NoMemory),
-        }
+        let bytes = zeroed(alloc, LINE_MOST + 1)?;
+        Ok(Cutter {
+            bytes,
+            begun: 0,
+            is_long: false,
+            cut: 0,
+        })
     }
 
     /// Takes the bytes up to and with the next LF, or all where there is none, and returns how

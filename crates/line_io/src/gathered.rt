@@ -17,12 +17,10 @@ pub struct Gathered<W: Write + Drop> {
 impl<W: Write + Drop> Gathered<W> {
     /// An empty buffer before `writer`.
     pub fn new(alloc: Global, writer: W) -> Result<Gathered<W>, NoMemory> {
-        match LineBuf::new(alloc) {
-            Ok(buffer) => Ok(Gathered {
-                cell: RefCell::new(Gathering::new(writer, buffer)),
-            }),
-            Err(NoMemory) => Err(NoMemory),
-        }
+        let buffer = LineBuf::new(alloc)?;
+        Ok(Gathered {
+            cell: RefCell::new(Gathering::new(writer, buffer)),
+        })
     }
 
     /// Gives out what is gathered, and returns whether every giving-out went well so far.

@@ -36,13 +36,9 @@ impl<L> Meters<L> {
     pub fn new<Rt: Env>(_rt: &Rt, alloc: Global) -> Result<Meters<L>, NoMemory>
         ensures { IfOk result (λ meters. meters ≡ replicate 16 0) }
     {
-        let Ok(mut all) = Vec::with_capacity(alloc, LEDGERS) else {
-            return Err(NoMemory);
-        };
+        let mut all = Vec::with_capacity(alloc, LEDGERS)?;
         for _i in 0..LEDGERS {
-            let Ok(()) = all.push(Steps::zero()) else {
-                return Err(NoMemory);
-            };
+            all.push(Steps::zero())?;
         }
         Ok(Meters { all })
     }

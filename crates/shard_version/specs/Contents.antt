@@ -1,5 +1,5 @@
 -- What a contract sees of a version: its shard, how much of the history it has taken in, its layout and its rows.
-use Rattle.std.specs.Prelude.{◌≡◌, ℕ, ◌+◌, ◌%◌, ◌==◌, ◌<◌, ◌≤◌, if◌then◌else◌, List, [], length, take, refl}
+use Rattle.std.specs.Prelude.{◌≡◌, ℕ, ◌+◌, ◌%◌, ◌==◌, ◌<◌, ◌≤◌, if◌then◌else◌, List, [], length, refl}
 use Rattle.std.specs.Coded.{Coded, code_by, coded×, coded_list, coded_ℕ}
 use Rattle.std.specs.List.{AllByRecursion}
 use Rattle.std.specs.List.Sorted.{IsStrictlySortedBy}
@@ -7,12 +7,8 @@ use Rattle.std.specs.Map.{keys_of}
 use Rattle.std.specs.Ordering.{nat_cmp}
 use Rattle.hamming_model.specs.declared.limits.TheConstants.{ENTRIES_MOST, SHARDS_MOST}
 use Rattle.hamming_model.specs.History.{Operation, JournalEntry, Fits, changed}
-use Rattle.hamming_model.specs.History as journal
 use Rattle.hamming_model.specs.Stored.{AreCodeRows}
 use Rattle.entry_log.specs.Meaning.{key_of}
-use Rattle.entry_log.specs.declared.entry.Entry.{Entry}
-use Rattle.entry_log.specs.declared.op.Op.{Op}
-use Rattle.entry_log.specs.declared.op.Op.TheVariants.{Add, Delete}
 use Rattle.part_layout.specs.Laid.{Laid, IsLaid, laid_code}
 
 -- the shard of so many, the number of entries taken in, the layout, and the rows: key and code, ascending by key
@@ -35,15 +31,6 @@ contents_code =
 -- no entry taken in, and no row
 abbrev pub empty_of : ℕ → ℕ → Laid → Contents
 empty_of shard shards layout = record { shard = shard; shards = shards; at = 0; layout = layout; rows = [] }
-
--- the operation of an entry in the definitions' words: its code is the first so many bits that the words keep
-abbrev pub operation_of : {W : ℕ} → ℕ → Op W → Operation
-operation_of bits (Add key stored) = journal.Add key (take bits stored)
-operation_of bits (Delete key) = journal.Delete key
-
--- an entry in the definitions' words
-abbrev pub entry_of : {W : ℕ} → ℕ → Entry W → JournalEntry
-entry_of bits entry = record { who = entry.who; operation = operation_of bits entry.op }
 
 -- a shard's rows after an operation, which changes those of its own shard alone
 abbrev pub changed_in : ℕ → ℕ → List (ℕ × List ℕ) → Operation → List (ℕ × List ℕ)

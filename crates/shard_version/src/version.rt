@@ -5,8 +5,9 @@ ghost use Rattle.std.specs.Arc.{arc_value};
 ghost use Rattle.hamming_model.specs.declared.limits.TheConstants.{ENTRIES_MOST, SHARDS_MOST, WORDS_MOST};
 ghost use Rattle.hamming_model.specs.Codes.{StandsFor};
 ghost use Rattle.hamming_model.specs.History.{code_at};
+ghost use Rattle.entry_log.specs.Entries.{entry_of};
 ghost use Rattle.entry_log.specs.Meaning.{MeansEntry};
-ghost use Rattle.shard_version.specs.Contents.{IsVersion, FitsShard, HasRoomFor, after_entry, empty_of, entry_of};
+ghost use Rattle.shard_version.specs.Contents.{IsVersion, FitsShard, HasRoomFor, after_entry, empty_of};
 ghost use Rattle.shard_version.specs.Kept.{next_with, with_added, with_deleted};
 ghost use Rattle.shard_version.specs.Tables.{AreFirst, ArePostings, AreStored, HasTables, counts_of, table_at};
 

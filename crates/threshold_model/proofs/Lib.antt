@@ -4,3 +4,4 @@ pub mod FindingLemmas
 pub mod MissedLemmas
 pub mod ChoiceLemmas
 pub mod BestLemmas
+pub mod BoundLemmas

@@ -1,3 +1,4 @@
 pub mod Vectors
+pub mod Bounds
 pub mod Finding
 pub mod Splits

@@ -2,6 +2,7 @@
 //! The laws, each the contract of a function that does nothing, say that every vector finds every near code, that a smaller sum doesn't, and that the first of the cheapest vectors is one of a kind.
 #![tactic(auto)]
 
+mod bounds;
 mod choice;
 mod distance_sum;
 mod first_below;
@@ -12,6 +13,10 @@ mod row_counting;
 mod short_sum;
 mod units;
 
+pub use bounds::{
+    bounds_are_unique, bounds_follow_the_rows, bounds_rise_with_the_radius,
+    units_are_values_and_costs,
+};
 pub use choice::choice_is_unique;
 pub use distance_sum::distance_is_the_sum_of_the_parts;
 pub use first_below::some_place_is_below;
