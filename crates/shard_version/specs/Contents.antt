@@ -6,7 +6,7 @@ use Rattle.std.specs.List.Sorted.{IsStrictlySortedBy}
 use Rattle.std.specs.Map.{keys_of}
 use Rattle.std.specs.Ordering.{nat_cmp}
 use Rattle.hamming_model.specs.declared.limits.TheConstants.{ENTRIES_MOST, SHARDS_MOST}
-use Rattle.hamming_model.specs.History.{Operation, JournalEntry, Fits, changed}
+use Rattle.hamming_model.specs.History.{Operation, JournalEntry, Add, Delete, Fits, changed}
 use Rattle.hamming_model.specs.Stored.{AreCodeRows}
 use Rattle.entry_log.specs.Meaning.{key_of}
 use Rattle.part_layout.specs.Laid.{Laid, IsLaid, laid_code}
@@ -47,8 +47,8 @@ FitsShard version operation = key_of operation % version.shards ≡ version.shar
 
 -- there is room for the row that an operation of the version's own shard adds
 abbrev pub HasRoomFor : Contents → Operation → Type 0
-HasRoomFor version (journal.Add key code) = key % version.shards ≡ version.shard → length version.rows < ENTRIES_MOST
-HasRoomFor version (journal.Delete key) = Unit {0}
+HasRoomFor version (Add key code) = key % version.shards ≡ version.shard → length version.rows < ENTRIES_MOST
+HasRoomFor version (Delete key) = Unit {0}
 
 -- what is true of every version
 pub record IsVersion (version : Contents) : Type 0 where
