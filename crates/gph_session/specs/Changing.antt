@@ -29,6 +29,10 @@ abbrev pub IsCodeFor : ℕ → Contents → List ℕ → Type 0
 IsCodeFor W version stored =
     StandsFor W version.layout.bits stored (take version.layout.bits stored)
 
+-- each row of a version came by an entry
+abbrev pub HasFewRows : Contents → Type 0
+HasFewRows version = length version.rows ≤ version.at
+
 -- a version with one row more
 abbrev pub with_row : Contents → ℕ → List ℕ → Contents
 with_row version key stored = after_entry version (added_entry version.layout.bits key stored)
