@@ -6,7 +6,7 @@ ghost use Rattle.part_layout.specs.ReadOn.{is_mark, IsRest, Lists};
 
 /// A position as a text lists it.
 #[derive(Clone, Copy, Debug, PartialEq, Eq)]
-pub struct Listed {
+pub struct ListedPosition {
     /// Below 1,000.
     pub position: u32,
     /// Whether it is the last of its part.
@@ -14,7 +14,7 @@ pub struct Listed {
 }
 
 /// The first position that the rest of a layout text lists, and what follows it and its mark, or None where nothing is left.
-pub fn next_position(text: &[u8]) -> Option<(Listed, &[u8])>
+pub fn next_position(text: &[u8]) -> Option<(ListedPosition, &[u8])>
     requires { IsRest text.now }
     ensures parts { MatchOption result (text.now ≡ []) (λ it. Lists text.now it.0 it.1.now) }
     ensures rest { IfSome result (λ found. IsRest found.1.now) }
@@ -29,14 +29,14 @@ pub fn next_position(text: &[u8]) -> Option<(Listed, &[u8])>
     let position = value_of(word);
     match after {
         [] => Some((
-            Listed {
+            ListedPosition {
                 position,
                 ends_part: true,
             },
             after,
         )),
         [mark, rest @ ..] => Some((
-            Listed {
+            ListedPosition {
                 position,
                 ends_part: *mark == b'/',
             },

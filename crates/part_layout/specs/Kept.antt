@@ -18,7 +18,7 @@ abbrev pub AddsRuns : List (Vec ℕ) → List (Vec ℕ) → ℕ → ℕ → ℕ 
 AddsRuns old new number width first = lists_of new ≡ lists_of old ++ runs number width first
 
 -- no part is empty, and a buffer of so many bytes has room for their text: four bytes a position
-pub record Fits (bytes : ℕ) (parts : List (List ℕ)) : Type 0 where
+pub record FitsText (bytes : ℕ) (parts : List (List ℕ)) : Type 0 where
   pub some : All (λ part. 0 < length part) parts
   pub short : All (λ part. All (λ position. position < 1000) part) parts
   pub room : 4 * length (flat_map (λ part. part) parts) ≤ bytes
