@@ -6,8 +6,8 @@ use Rattle.std.specs.Str.Parse.{digits_value}
 use Rattle.std.proofs.lemmas.Bool.Decides.{Decides-eqb}
 use Rattle.std.proofs.lemmas.Bool.{leb-true}
 use Rattle.hamming_model.specs.Codes.{bits_of, hex_code, padded, IsCode}
-use Rattle.query_protocol.specs.Words.{words, is_printable}
-use Rattle.query_protocol.specs.Forms.{key_of, radius_of, count_of, shard_of, code_of, tag_of, is_decimal}
+use Rattle.line_forms.specs.Words.{words, is_printable}
+use Rattle.line_forms.specs.Forms.{key_of, radius_of, count_of, shard_of, code_of, tag_of, is_decimal}
 use Rattle.query_protocol.specs.Requests.{LineRequest, Add, Range, Next, Cost, Plan, Layout, Quit, request_word, add_of, range_of, next_of, cost_of, plan_of, layout_of, with_words, of_words, reading, stored_reading, bad}
 use Rattle.part_layout.specs.declared.config.Config.{Config}
 use Rattle.query_protocol.specs.declared.bad.Bad.{Bad}

@@ -1,13 +1,10 @@
 -- The first position of a text: its word, and the text after its mark.
-use Rattle.std.proofs.Common.{◌≡◌, ◌≢◌, ℕ, zero, suc, ◌+◌, ◌-◌, ◌<◌, ◌≤◌, ◌==◌, ◌&&◌, ◌||◌, nat_le, Bool, true, false, inl, inr, ◌⊎◌, List, [], ◌∷◌, ◌++◌, All, map, length, take, drop, get_or, refl, sym, ◌∙◌, ap, subst, arith, ◌^◌, lit<, lit≤}
+use Rattle.std.proofs.Common.{◌≡◌, ◌≢◌, ℕ, zero, suc, ◌+◌, ◌-◌, ◌<◌, ◌≤◌, ◌==◌, ◌&&◌, ◌||◌, nat_le, Bool, true, false, inl, inr, ◌⊎◌, List, [], ◌∷◌, ◌++◌, All, map, length, take, drop, get_or, refl, sym, ◌∙◌, ap, subst, arith}
 use Rattle.std.specs.Char.{digit_value, is_digit}
 use Rattle.std.specs.List.{list_all, onto_first}
 use Rattle.std.specs.Str.Parse.{digits_value, AllDigits}
 use Rattle.std.proofs.lemmas.Bool.{and_parts, leb-true, ne_eqb}
 use Rattle.std.proofs.lemmas.Bool.Decides.{nat_tests}
-use Rattle.std.proofs.Math.Nat.{pow-le-pow_right}
-use Rattle.std.proofs.lemmas.Int.Digits.{digits_value-lt}
-use Rattle.std.proofs.lemmas.Str.Parse.{digits_value-take-le}
 use Rattle.std.proofs.lemmas.List.{append-nil, get_or-drop, length-drop, take-append-drop, take_all, take_more}
 use Rattle.std.proofs.lemmas.List.Elements.{All-append, All-head, All-tail}
 use Rattle.part_layout.specs.Faults.{numbers_of}
@@ -200,14 +197,6 @@ some_left (byte ∷ bytes) some = shaped (position_texts (byte ∷ bytes)) (are_
     shaped : (parts : List (List (List ℕ))) → AreWords parts → 0 < length (numbers parts)
     shaped [] there = absurd there
     shaped (part ∷ parts) there = omega arith
-
--- the number that the first of at most three digits write
-pub value_small : (word : List ℕ) (at : ℕ) → length word ≤ 3 → AllDigits 10 word → digits_value 10 (take at word) < 1000
-value_small word at short digits =
-    let whole : digits_value 10 word < 10 ^ length word = digits_value-lt 10 word digits in
-    let most : 10 ^ length word ≤ 10 ^ 3 = pow-le-pow_right (lit< tt) short in
-    let part : digits_value 10 (take at word) ≤ digits_value 10 word = digits_value-take-le 10 word at (lit≤ tt) in
-    omega arith
 
 -- the first word of a text, by where it ends
 read_at : (text : List ℕ) (end : ℕ) → IsRest text → 0 < length text → end ≤ length text → All (λ byte. is_mark byte ≡ false) (take end text)

@@ -3,8 +3,8 @@ use Rattle.std.specs.Prelude.{◌≡◌, ℕ, ◌*◌, ◌≤◌, not, nat_lt, i
 use Rattle.std.specs.Str.{bytes_eq}
 use Rattle.hamming_model.specs.Codes.{padded, StandsFor}
 use Rattle.part_layout.specs.declared.config.Config.{Config}
-use Rattle.query_protocol.specs.Words.{words, is_printable}
-use Rattle.query_protocol.specs.Forms.{key_of, radius_of, count_of, code_of, shard_of, tag_of}
+use Rattle.line_forms.specs.Words.{words, is_printable}
+use Rattle.line_forms.specs.Forms.{key_of, radius_of, count_of, code_of, shard_of, tag_of}
 use Rattle.query_protocol.specs.declared.bad.Bad.{Bad}
 use Rattle.query_protocol.specs.declared.request.Request.{Request}
 use Rattle.query_protocol.specs.declared.request.Request.TheVariants as kept
