@@ -3,10 +3,18 @@
 ghost use Rattle.std.specs.Prelude.{◌≡◌};
 ghost use Rattle.command_line.specs.CommandOptions.{option_named, least, greatest, number, is_value};
 
+use hamming_model::{BITS_MOST, PARTS_MOST};
 use line_forms::{is_decimal, number_of};
+use part_layout::INPUT_MOST;
 
 // The most digits of a value.
 const DIGITS: usize = 20;
+
+/// The bits of a code where none are given.
+pub(crate) const BITS: u64 = 64;
+
+/// The hits that may wait in a source.
+pub(crate) const ROOM: u32 = 64;
 
 /// An option that the words may give a value.
 #[derive(Clone, Copy, Debug, PartialEq, Eq)]
@@ -52,9 +60,9 @@ impl CommandOption {
         ensures { result ≡ greatest self }
     {
         match self {
-            CommandOption::Bits => 256,
-            CommandOption::Parts => 64,
-            CommandOption::Input => 4_294_967_296,
+            CommandOption::Bits => u64::from(BITS_MOST),
+            CommandOption::Parts => PARTS_MOST as u64,
+            CommandOption::Input => INPUT_MOST,
         }
     }
 

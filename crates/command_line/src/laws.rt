@@ -2,7 +2,8 @@
 
 ghost use Rattle.std.specs.Prelude.{◌≡◌, ◌≢◌, ℕ, List, [], ◌∷◌, ◌++◌, true, codes};
 ghost use Rattle.std.specs.Result.{result_ok};
-ghost use Rattle.command_line.specs.CommandWords.{Written, asked, asked_after, has_no_equals};
+ghost use Rattle.command_line.specs.CommandWords.{asked, asked_after};
+ghost use Rattle.command_line.specs.WrittenOptions.{Written, has_no_equals};
 
 /// The order of two options is free: where neighbours with different names change places, the same is asked for.
 pub fn options_in_any_order()

@@ -66,8 +66,8 @@ parts_cut bits parts cut =
 pub is_ready : (W : ℕ) (config : Config) (version : Contents) → IsAllowed W config.bits → IsConfig config → IsPinned config → version ≡ contents_of config [] → IsReady W config version
 is_ready W config version allowed is pinned first = record {
   allowed = allowed;
-  some_room = omega (arith, pinned.room_of_64);
-  small_room = omega (arith, pinned.room_of_64);
+  some_room = omega (arith, pinned.one_room);
+  small_room = omega (arith, pinned.one_room);
   few_entries = omega (arith, pinned.all_entries);
   one_shard = ap (λ (v : Contents). v.shards) first;
   laid = ap (λ (v : Contents). v.layout) first;
