@@ -1,5 +1,5 @@
 -- The options that words write, each with its place, and where one of them is at fault.
-use Rattle.std.specs.Prelude.{ℕ, ◌+◌, ◌==◌, not, if◌then◌else◌, Bool, List, [], ◌∷◌, take, drop, position, Option, Some, None, is_some}
+use Rattle.std.specs.Prelude.{◌≡◌, ℕ, ◌+◌, ◌==◌, not, if◌then◌else◌, Bool, List, [], ◌∷◌, take, drop, position, Option, Some, None, is_some}
 use Rattle.std.specs.List.{list_all}
 use Rattle.std.specs.Option.{option_map}
 use Rattle.std.specs.Str.{bytes_eq}
@@ -69,3 +69,22 @@ option_fault before one (Some option) =
 -- the fault of an option after others, by its place: it is unknown or was given before, or its value is bad or missing
 abbrev pub fault_of : List Written → Written → Option ℕ
 fault_of before one = option_fault before one (option_named one.name)
+
+-- a fault, or where there is none another one
+abbrev pub first_of : Option ℕ → Option ℕ → Option ℕ
+first_of (Some place) later = Some place
+first_of None later = later
+
+-- the place of the first option at fault, of those written after others
+abbrev pub first_fault : List Written → List Written → Option ℕ
+first_fault before [] = None
+first_fault before (one ∷ others) = first_of (fault_of before one) (first_fault (one ∷ before) others)
+
+-- the place at which words after the command, read from left to right, are first at fault
+abbrev pub fault_in : List (List ℕ) → Option ℕ
+fault_in words = first_fault [] (written 2 words)
+
+-- no fault, or just the one at this place
+abbrev pub IsNoneBut : ℕ → Option ℕ → Type 0
+IsNoneBut place None = Unit {0}
+IsNoneBut place (Some other) = other ≡ place
