@@ -9,6 +9,7 @@ ghost use Rattle.gph_session.specs.Changing.{AddsAs, IsCodeFor, with_row, reply_
 
 use entry_log::{Decision, Entry, Op, decide};
 use gph_codes::Code;
+use hamming_model::ENTRIES_MOST;
 use query_protocol::Reply;
 use read_meter::NoMemory;
 use shard_version::Version;
@@ -89,6 +90,10 @@ fn added_to<const W: usize>(
         who: 0,
         op: Op::Add { key, code },
     };
+    // Each row came by an entry, so there is room for one more; the session's proof doesn't count them.
+    if version.rows() >= ENTRIES_MOST {
+        return Err(NoMemory);
+    }
     let Ok(copy) = version.copy() else {
         return Err(NoMemory);
     };

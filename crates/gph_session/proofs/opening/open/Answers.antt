@@ -38,8 +38,7 @@ returns-in-Ok-put g c =
           arith,
           ap length asks.hits,
           scan_within version.rows code c.args.tau,
-          whole.from_entries,
-          whole.few_entries,
+          whole.few_rows,
         );
       },
     )

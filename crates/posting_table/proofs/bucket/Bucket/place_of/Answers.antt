@@ -1,5 +1,5 @@
 use Rattle.posting_table.proofs.PostingsLemmas.{has_key-more}
-use Rattle.posting_table.proofs.postings.Postings.place_of.Goals as goal
+use Rattle.posting_table.proofs.bucket.Bucket.place_of.Goals as goal
 
 pub loop-place-preserved : goal.loop-place-preserved
 loop-place-preserved g c =

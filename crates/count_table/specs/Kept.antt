@@ -3,15 +3,15 @@
 use Rattle.std.specs.Prelude.{◌≡◌, ℕ, ◌+◌, ◌^◌, ◌<◌, ◌≤◌, ◌==◌, List, filter, length, sum, sum_by, slice_index, EachIndex}
 use Rattle.std.specs.List.{range_with_len}
 use Rattle.ball_walk.specs.Balls.{value_distance}
-use Rattle.count_table.specs.declared.counts.TheConstants.{MOST_COPIES}
+use Rattle.hamming_model.specs.declared.limits.TheConstants.{ENTRIES_MOST, PART_WIDTH_MOST}
 
 -- there is a number for each value, and the total is their sum
 pub record IsKept (width total : ℕ) (copies : List ℕ) : Type 0 where
   pub some_width : 0 < width
-  pub small_width : width ≤ 12
+  pub small_width : width ≤ PART_WIDTH_MOST
   pub each_value : length copies ≡ 2 ^ width
   pub all : total ≡ sum copies
-  pub few : total ≤ MOST_COPIES
+  pub few : total ≤ ENTRIES_MOST
 
 -- how many copies there are of the first so many values that are one unit nearer than so many units
 unfoldable pub copies_apart : List ℕ → ℕ → ℕ → ℕ → ℕ
