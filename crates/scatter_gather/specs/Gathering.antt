@@ -1,5 +1,5 @@
 -- Many sources of hits asked at once: their merge, the answer, and where a gathering of them stands.
-use Rattle.std.specs.Prelude.{ℕ, nat_le, nat_lt, ◌&&◌, Bool, List, length, take, drop, Option, map}
+use Rattle.std.specs.Prelude.{ℕ, min, nat_le, nat_lt, ◌&&◌, Bool, List, length, take, drop, Option, map}
 use Rattle.std.specs.List.{flat_map, list_all, sum_by}
 use Rattle.hamming_model.specs.declared.hit.Hit.{Hit}
 use Rattle.hamming_model.specs.Scan.{in_order}
@@ -76,6 +76,14 @@ has_more g = nat_lt g.given (length (answer_of g))
 -- every row is a hit, and there are as many as the limit
 abbrev pub reaches_by_rows : Gathering → Bool
 reaches_by_rows g = list_all (λ s. s.asked.near) g.sources && nat_le g.limit (sum_by (λ s. s.asked.rows) g.sources)
+
+-- the reads of all sources, at most the greatest number of 64 bits
+abbrev pub all_reads : {S : Type 0} → (S → Standing) → Gathered S → ℕ
+all_reads stands g = min (sum_by (λ source. (stands source).reads) g.sources) 18446744073709551615
+
+-- the bounds of all sources for the last hit given, at most that number
+abbrev pub all_bounds : {S : Type 0} → (S → Asked) → Gathered S → ℕ
+all_bounds asks g = min (sum_by (λ source. (asks source).bound g.last) g.sources) 18446744073709551615
 
 -- the hits that their sources have not given
 abbrev pub hits_left : List Source → List Hit
