@@ -26,8 +26,8 @@ returns-clause-begins g c =
     let one : c.index.result.now ≡ c.index_mut.result.now = c.index.ensures
         ∙ get_or_default c.self.inside.sources.items c.args.shard c.index.result.now c.index_mut.result.now l
         ∙ sym c.index_mut.ensures.value in
-    let least : c.least_floor.result ≡ least_floor
-        (sources_of g.H.HitSource.asked g.H.HitSource.standing c.self.inside.sources.items) = c.least_floor.ensures
+    let least : c.least_floor-least.result ≡ least_floor
+        (sources_of g.H.HitSource.asked g.H.HitSource.standing c.self.inside.sources.items) = c.least_floor-least.ensures
         ∙ ap (λ xs. least_floor (sources_of g.H.HitSource.asked g.H.HitSource.standing xs)) c.deref.ensures.value in
     let may : may_have_next
         (least_floor (sources_of g.H.HitSource.asked g.H.HitSource.standing c.self.inside.sources.items))
