@@ -13,11 +13,11 @@ use Rattle.hamming_model.proofs.OrderLemmas.{in_order_permutation}
 use Rattle.hit_source.specs.declared.polled.Polled.{Polled}
 use Rattle.hit_source.specs.Sources.{Asked, Standing, HasOneRadius, HasAllRadii, IsAsked, IsLawful}
 use Rattle.hit_source.specs.Moves.{NotBelow, BeginsWithin, Polls, first_of}
-use Rattle.scatter_gather.specs.Gathering.{Source, source_of, sources_of, Gathering, Gathered, seen, answer_left, hits_left}
+use Rattle.scatter_gather.specs.Gathering.{Source, source_of, sources_of, Gathering, Gathered, seen, answer_left, left_hits}
 use Rattle.scatter_gather.specs.Due.{floor_at, least_floor, is_least, is_empty, may_have_next}
 use Rattle.scatter_gather.specs.Kept.{IsUpTo, IsGathering, AreLawful}
 use Rattle.scatter_gather.specs.Polling.{PollsOnce, PollsAll}
-use Rattle.scatter_gather.specs.Moves.{BeginsUpTo, distance_of, Gives, BegunWithin}
+use Rattle.scatter_gather.specs.Moves.{BeginsUpTo, distance_of, GivesReady, BegunWithin}
 use Rattle.scatter_gather.proofs.KeepLemmas.{last_within}
 use Rattle.scatter_gather.proofs.FloorLemmas.{least_below}
 use Rattle.scatter_gather.proofs.GiveLemmas.{all_append, left_of_answer}
@@ -46,9 +46,9 @@ one_far m s law above = go s.standing.floor refl
 
 all_far : (m : ℕ) (sources : List Source) → AreLawful sources
     → AllByRecursion (λ s. NotBelow (Some m) s.standing.floor) sources
-    → AllByRecursion (λ hit. m ≤ hit.dist) (hits_left sources)
+    → AllByRecursion (λ hit. m ≤ hit.dist) (left_hits sources)
 all_far m [] law above = tt
-all_far m (s ∷ sources) law above = all_append _ (drop s.standing.given s.asked.hits) (hits_left sources)
+all_far m (s ∷ sources) law above = all_append _ (drop s.standing.given s.asked.hits) (left_hits sources)
     (one_far m s law.0 above.0) (all_far m sources law.1 above.1)
 
 first_far : (m n : ℕ) (hits : List Hit) (hit : Hit) → AllByRecursion (λ hit. m ≤ hit.dist) hits
@@ -65,9 +65,9 @@ least_at_most g m hit is law least next =
     let above : AllByRecursion (λ s. NotBelow (Some m) s.standing.floor) g.sources =
         rw least at (least_below floor_at g.sources) in
     let far = all_far m g.sources law above in
-    let ordered = recursion_from_All _ _ (All-permutation (λ (hit : Hit). m ≤ hit.dist) (hits_left g.sources)
-        (in_order (hits_left g.sources)) (in_order_permutation (hits_left g.sources)) (All-from_recursion _ _ far)) in
-    first_far m (g.limit - g.given) (in_order (hits_left g.sources)) hit ordered
+    let ordered = recursion_from_All _ _ (All-permutation (λ (hit : Hit). m ≤ hit.dist) (left_hits g.sources)
+        (in_order (left_hits g.sources)) (in_order_permutation (left_hits g.sources)) (All-from_recursion _ _ far)) in
+    first_far m (g.limit - g.given) (in_order (left_hits g.sources)) hit ordered
         (sym (ap first_of (left_of_answer g is.within ∙ ap (take (g.limit - g.given)) is.merge)) ∙ next)
 
 -- what begins within a floor that is the least begins within the distance of the next hit
@@ -129,7 +129,7 @@ begins_none stands most hs = record { at = λ i d within. inl refl }
 
 -- giving a hit begins no radius
 pub begins_given : {S : Type 0} (asks : S → Asked) (stands : S → Standing) (most : Option ℕ) (old new : Gathered S)
-    (hit : Hit) → Gives asks stands old new (Some hit) → BeginsUpTo stands most old.sources new.sources
+    (hit : Hit) → GivesReady asks stands old new (Some hit) → BeginsUpTo stands most old.sources new.sources
 begins_given asks stands most old new hit gives = record { at = λ i e within. inl (
     elim (cases_eq i gives.0) [
       inl same ↦ ap (λ k. (stands (get_or new.sources k e)).begun) same ∙ (gives.1.pops e).begun
@@ -168,14 +168,14 @@ pub last_at_most : (g : Gathering) (hit : Hit) → IsGathering g → first_of (a
 last_at_most g hit is next = go g.last refl is.later
   where
     go : (last : Option ℕ) → g.last ≡ last
-        → IfSome last (λ far. AllByRecursion (λ hit. far ≤ hit.dist) (hits_left g.sources))
+        → IfSome last (λ far. AllByRecursion (λ hit. far ≤ hit.dist) (left_hits g.sources))
         → IfSome last (λ far. far ≤ hit.dist)
     go None e later = tt
     go (Some far) e later =
-        let ordered = recursion_from_All _ _ (All-permutation (λ (hit : Hit). far ≤ hit.dist) (hits_left g.sources)
-            (in_order (hits_left g.sources)) (in_order_permutation (hits_left g.sources))
+        let ordered = recursion_from_All _ _ (All-permutation (λ (hit : Hit). far ≤ hit.dist) (left_hits g.sources)
+            (in_order (left_hits g.sources)) (in_order_permutation (left_hits g.sources))
             (All-from_recursion _ _ later)) in
-        first_far far (g.limit - g.given) (in_order (hits_left g.sources)) hit ordered
+        first_far far (g.limit - g.given) (in_order (left_hits g.sources)) hit ordered
             (sym (ap first_of (left_of_answer g is.within ∙ ap (take (g.limit - g.given)) is.merge)) ∙ next)
 
 up_to : (old most begun : Option ℕ) (far : ℕ) → IsUpTo begun old → IfSome old (λ last. last ≤ far)

@@ -16,9 +16,9 @@ use Rattle.hamming_model.proofs.OrderLemmas.{first_before, IsFirst, Ascends, asc
 use Rattle.hit_source.specs.Sources.{Asked, IsLawful}
 use Rattle.hit_source.specs.Moves.{NotBelow, first_of}
 use Rattle.hit_source.specs.WindowLaws.{nearer, ascends_drop}
-use Rattle.scatter_gather.specs.Gathering.{Source, Gathering, asked_of, merged, hits_left, answer_left}
+use Rattle.scatter_gather.specs.Gathering.{Source, Gathering, all_asked, merged, left_hits, answer_left}
 use Rattle.scatter_gather.specs.Due.{floor_at, least_floor, may_have_next, any_may_have_next}
-use Rattle.scatter_gather.specs.Heads.{HeadNotBefore, IsBest}
+use Rattle.scatter_gather.specs.Heads.{HeadNotBefore, IsBestHead}
 use Rattle.scatter_gather.specs.Kept.{IsGathering, AreLawful}
 use Rattle.scatter_gather.proofs.MergeLemmas.{order_of_permutation, order_from_first, first_permuted, left_permutation}
 use Rattle.scatter_gather.proofs.FloorLemmas.{least_below, least_is_one}
@@ -80,11 +80,11 @@ one_first hit m s first law held l = by_waiting s.standing.waiting refl
 
 all_first : (hit : Hit) (m : ℕ) (sources : List Source) → AllByRecursion (HeadNotBefore hit) sources
     → AreLawful sources → list_any (may_have_next (Some m)) sources ≡ false → hit.dist ≤ m
-    → IsFirst hit (hits_left sources)
+    → IsFirst hit (left_hits sources)
 all_first hit m [] first law held l = tt
 all_first hit m (s ∷ sources) first law held l =
     let both = or_parts (may_have_next (Some m) s) (list_any (may_have_next (Some m)) sources) held in
-    all_append _ (drop s.standing.given s.asked.hits) (hits_left sources)
+    all_append _ (drop s.standing.given s.asked.hits) (left_hits sources)
     (one_first hit m s first.0 law.0 both.0 l)
     (all_first hit m sources first.1 law.1 both.1 l)
 
@@ -117,7 +117,7 @@ has_first (head ∷ rest) hit e = (rest, (let same : head ≡ hit = cc in ap (λ
 
 -- where no source may have the next hit, no hit that is left is before the best head
 pub best_is_first : (sources : List Source) (shard : ℕ) (hit : Hit) (d : Source) → AreLawful sources
-    → any_may_have_next sources ≡ false → IsBest sources (length sources) shard hit → IsFirst hit (hits_left sources)
+    → any_may_have_next sources ≡ false → IsBestHead sources (length sources) shard hit → IsFirst hit (left_hits sources)
 best_is_first sources shard hit d law held best = by_least (least_floor sources) refl
   where
     heads : AllByRecursion (HeadNotBefore hit) sources
@@ -131,7 +131,7 @@ best_is_first sources shard hit d law held best = by_least (least_floor sources)
         let is = has_first s.standing.waiting hit (best.waits d) in
         (All-from_recursion _ sources law shard d best.within).floor.of_head hit is.0 is.1
 
-    by_least : (least : Option ℕ) → least_floor sources ≡ least → IsFirst hit (hits_left sources)
+    by_least : (least : Option ℕ) → least_floor sources ≡ least → IsFirst hit (left_hits sources)
     by_least None none =
         let below = All-from_recursion _ sources (least_below floor_at sources) shard d best.within in
         let no_floor : NotBelow None (Some hit.dist) = rw floor at (rw none at below) in
@@ -150,7 +150,7 @@ head_first hit (suc n) (other ∷ hits) rest e = let same : hit ≡ other = cc i
 
 -- the hits that the source of the best head has left are that hit and what it has left after giving it
 best_split : (g : Gathering) (shard : ℕ) (hit : Hit) (d s : Source) → AreLawful g.sources
-    → IsBest g.sources (length g.sources) shard hit
+    → IsBestHead g.sources (length g.sources) shard hit
     → s.asked ≡ (get_or g.sources shard d).asked → s.standing.given ≡ (get_or g.sources shard d).standing.given + 1
     → drop (get_or g.sources shard d).standing.given
         (get_or g.sources shard d).asked.hits ≡ hit ∷ drop s.standing.given s.asked.hits
@@ -165,18 +165,18 @@ best_split g shard hit d s law best asked given =
 
 -- no hit that is left after the best head was given is before it
 pub best_first_left : (g : Gathering) (shard : ℕ) (hit : Hit) (d s : Source) → IsGathering g → AreLawful g.sources
-    → any_may_have_next g.sources ≡ false → IsBest g.sources (length g.sources) shard hit
+    → any_may_have_next g.sources ≡ false → IsBestHead g.sources (length g.sources) shard hit
     → s.asked ≡ (get_or g.sources shard d).asked → s.standing.given ≡ (get_or g.sources shard d).standing.given + 1
-    → IsFirst hit (hits_left (set g.sources shard s))
+    → IsFirst hit (left_hits (set g.sources shard s))
 best_first_left g shard hit d s is law held best asked given =
     (first_permuted hit _ _ (left_permutation g.sources shard d s hit best.within
         (best_split g shard hit d s law best asked given)) (best_is_first g.sources shard hit d law held best)).1
 
 -- the best head is the next hit of the merge, and the others are those left after it
 pub next_of_merge : (g : Gathering) (shard : ℕ) (hit : Hit) (d s : Source) → IsGathering g → AreLawful g.sources
-    → any_may_have_next g.sources ≡ false → IsBest g.sources (length g.sources) shard hit
+    → any_may_have_next g.sources ≡ false → IsBestHead g.sources (length g.sources) shard hit
     → s.asked ≡ (get_or g.sources shard d).asked → s.standing.given ≡ (get_or g.sources shard d).standing.given + 1
-    → drop g.given (merged (asked_of g.sources)) ≡ hit ∷ in_order (hits_left (set g.sources shard s))
+    → drop g.given (merged (all_asked g.sources)) ≡ hit ∷ in_order (left_hits (set g.sources shard s))
 next_of_merge g shard hit d s is law held best asked given =
     is.merge ∙ order_of_permutation _ _ (left_permutation g.sources shard d s hit best.within
         (best_split g shard hit d s law best asked given))
@@ -184,11 +184,11 @@ next_of_merge g shard hit d s is law held best asked given =
 
 -- the answer that is left is the merge that is left, cut at what the limit leaves
 pub left_of_answer : (g : Gathering) → g.given ≤ g.limit
-    → answer_left g ≡ take (g.limit - g.given) (drop g.given (merged (asked_of g.sources)))
+    → answer_left g ≡ take (g.limit - g.given) (drop g.given (merged (all_asked g.sources)))
 left_of_answer g l =
     let e : g.given + (g.limit - g.given) ≡ g.limit = omega (arith, l) in
-    ap (λ n. drop g.given (take n (merged (asked_of g.sources)))) (sym e)
-        ∙ drop-take g.given (g.limit - g.given) (merged (asked_of g.sources))
+    ap (λ n. drop g.given (take n (merged (all_asked g.sources)))) (sym e)
+        ∙ drop-take g.given (g.limit - g.given) (merged (all_asked g.sources))
 
 first_taken : (n : ℕ) (hit : Hit) (hits rest : List Hit) → 1 ≤ n → hits ≡ hit ∷ rest → first_of (take n hits) ≡ Some hit
 first_taken zero hit hits rest l e = absurd (omega arith)
@@ -196,7 +196,7 @@ first_taken (suc n) hit hits rest l e = rw e
 
 -- the best head is the next hit of the answer
 pub next_of_answer : (g : Gathering) (hit : Hit) (rest : List Hit) → IsGathering g → (g.given ≡ g.limit → ⊥)
-    → drop g.given (merged (asked_of g.sources)) ≡ hit ∷ rest → first_of (answer_left g) ≡ Some hit
+    → drop g.given (merged (all_asked g.sources)) ≡ hit ∷ rest → first_of (answer_left g) ≡ Some hit
 next_of_answer g hit rest is more next =
     ap first_of (left_of_answer g is.within)
         ∙ first_taken (g.limit - g.given) hit _ rest (omega (arith, is.within, more)) next
@@ -204,15 +204,15 @@ next_of_answer g hit rest is more next =
 -- no hit of the answer is left where the limit is reached
 pub none_at_limit : (g : Gathering) → g.given ≡ g.limit → first_of (answer_left g) ≡ None
 none_at_limit g all =
-    ap first_of (drop_all g.given (take g.limit (merged (asked_of g.sources)))
-        (omega (arith, length-take g.limit (merged (asked_of g.sources)), all)))
+    ap first_of (drop_all g.given (take g.limit (merged (all_asked g.sources)))
+        (omega (arith, length-take g.limit (merged (all_asked g.sources)), all)))
 
 none_left_in : (s : Source) → IsLawful s.asked s.standing → s.standing.floor ≡ None
     → drop s.standing.given s.asked.hits ≡ []
 none_left_in s law none = drop_all s.standing.given s.asked.hits (omega (arith, (law.floor.none_left.0 none).0))
 
 none_left_with : (sources : List Source) → AreLawful sources
-    → AllByRecursion (λ s. NotBelow None s.standing.floor) sources → hits_left sources ≡ []
+    → AllByRecursion (λ s. NotBelow None s.standing.floor) sources → left_hits sources ≡ []
 none_left_with [] law none = refl
 none_left_with (s ∷ sources) law none =
     rw (none_left_in s law.0 (no_floor s.standing.floor none.0)) (none_left_with sources law.1 none.1)

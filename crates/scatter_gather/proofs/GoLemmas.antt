@@ -17,7 +17,7 @@ use Rattle.hit_source.specs.Sources.{IsLawful}
 use Rattle.hit_source.specs.WindowLaws.{nearer}
 use Rattle.scatter_gather.specs.Gathering.{Source, Gathering}
 use Rattle.scatter_gather.specs.Due.{floor_at, least_of, least_floor, is_least, is_empty, may_have_next, any_may_have_next}
-use Rattle.scatter_gather.specs.Heads.{LetsGo, GoesFirst, MayGo, HeadNotBefore, IsBest, BestOf, empty_floor, has_to_wait, IsReady}
+use Rattle.scatter_gather.specs.Heads.{LetsGo, GoesFirst, MayGo, HeadNotBefore, IsBestHead, BestOf, empty_floor, has_to_wait, IsReadyHead}
 use Rattle.scatter_gather.specs.Kept.{AreLawful}
 use Rattle.scatter_gather.proofs.FloorLemmas.{least_below, least_is_one}
 use Rattle.scatter_gather.proofs.GiveLemmas.{has_first}
@@ -111,7 +111,7 @@ module _ (sources : List Source) (law : AreLawful sources) where
       let is = has_first (get_or sources i d).standing.waiting hit first in
       (lawful_at i d within).floor.of_head hit is.0 is.1
 
-  module _ (shard : ℕ) (hit : Hit) (best : IsBest sources (length sources) shard hit) (d : Source) where
+  module _ (shard : ℕ) (hit : Hit) (best : IsBestHead sources (length sources) shard hit) (d : Source) where
     -- the best head goes first where it has not to wait
     pub best_goes : has_to_wait (Some (shard, hit)) (least_of empty_floor sources) ≡ false → GoesFirst sources hit
     best_goes goes = record {
@@ -249,11 +249,11 @@ module _ (sources : List Source) (law : AreLawful sources) where
         cc
 
     -- what is answered where the best head has to wait
-    pub ready_held : has_to_wait best (least_of empty_floor sources) ≡ true → IsReady sources None
+    pub ready_held : has_to_wait best (least_of empty_floor sources) ≡ true → IsReadyHead sources None
     ready_held waits = by_least (least_of empty_floor sources) refl waits
       where
         by_least : (least : Option ℕ) → least_of empty_floor sources ≡ least → has_to_wait best least ≡ true
-            → IsReady sources None
+            → IsReadyHead sources None
         by_least None e waits = cc
         by_least (Some floor) e waits = record {
           best = tt;
@@ -262,10 +262,10 @@ module _ (sources : List Source) (law : AreLawful sources) where
         }
 
     -- what is answered where it has not to wait
-    pub ready_best : has_to_wait best (least_of empty_floor sources) ≡ false → IsReady sources best
+    pub ready_best : has_to_wait best (least_of empty_floor sources) ≡ false → IsReadyHead sources best
     ready_best goes = go best refl
       where
-        go : (found : Option (ℕ × Hit)) → best ≡ found → IsReady sources found
+        go : (found : Option (ℕ × Hit)) → best ≡ found → IsReadyHead sources found
         go None e = record {
           best = tt;
           held = λ free. whole (λ s. first_of s.standing.waiting ≡ None) (subst (BestOf sources (length sources)) e is);
@@ -281,7 +281,7 @@ module _ (sources : List Source) (law : AreLawful sources) where
             }
 
 -- a hit that was given could go, and no other
-pub may_some : (g : Gathering) (shard : ℕ) (hit : Hit) → g.given < g.limit → IsReady g.sources (Some (shard, hit))
+pub may_some : (g : Gathering) (shard : ℕ) (hit : Hit) → g.given < g.limit → IsReadyHead g.sources (Some (shard, hit))
     → (other : Hit) → (Some hit ≡ Some other) ↔ MayGo g other
 may_some g shard hit below ready other = (to, back)
   where
@@ -293,5 +293,5 @@ may_some g shard hit below ready other = (to, back)
     back may = ap Some (sym (ready.goes.1 other may.first))
 
 -- where none was given none could go
-pub may_none : (g : Gathering) → IsReady g.sources None → (other : Hit) → (None ≡ Some other) ↔ MayGo g other
+pub may_none : (g : Gathering) → IsReadyHead g.sources None → (other : Hit) → (None ≡ Some other) ↔ MayGo g other
 may_none g ready other = ((λ (e : None ≡ Some other). cc), (λ may. absurd (ready.goes other may.first)))

@@ -7,25 +7,25 @@ use Rattle.std.proofs.lemmas.List.Elements.{All-from_recursion}
 use Rattle.hamming_model.specs.declared.hit.Hit.{Hit}
 use Rattle.hamming_model.specs.Scan.{in_order}
 use Rattle.hit_source.specs.Sources.{Asked, Standing}
-use Rattle.scatter_gather.specs.Gathering.{Source, source_of, sources_of, gathering_of, gathered, seen, asked_of, given_of, merged, hits_left}
+use Rattle.scatter_gather.specs.Gathering.{Source, source_of, sources_of, gathering_of, gathered, seen, all_asked, given_of, merged, left_hits}
 use Rattle.scatter_gather.specs.Kept.{length_of, AreOneLength, IsGathering}
 
 -- what sources have left is told by what they are asked and how much each gave
-pub left_same : (old new : List Source) → asked_of new ≡ asked_of old → given_of new ≡ given_of old
-    → hits_left new ≡ hits_left old
+pub left_same : (old new : List Source) → all_asked new ≡ all_asked old → given_of new ≡ given_of old
+    → left_hits new ≡ left_hits old
 left_same [] [] asked given = refl
 left_same [] (s ∷ new) asked given = cc
 left_same (s ∷ old) [] asked given = cc
 left_same (s ∷ old) (t ∷ new) asked given =
     let first : t.asked ≡ s.asked = cc in
     let count : t.standing.given ≡ s.standing.given = cc in
-    let asks : asked_of new ≡ asked_of old = cc in
+    let asks : all_asked new ≡ all_asked old = cc in
     let counts : given_of new ≡ given_of old = cc in
-    let rest : hits_left new ≡ hits_left old = left_same old new asks counts in
+    let rest : left_hits new ≡ left_hits old = left_same old new asks counts in
     rw (first, count, rest)
 
 -- a gathering whose sources are asked the same and gave as much
-pub same_gathering : (old new : List Source) (limit given : ℕ) (last : Option ℕ) → asked_of new ≡ asked_of old
+pub same_gathering : (old new : List Source) (limit given : ℕ) (last : Option ℕ) → all_asked new ≡ all_asked old
     → given_of new ≡ given_of old → IsGathering (gathering_of old limit given last)
     → IsGathering (gathering_of new limit given last)
 same_gathering old new limit given last asked count is =
@@ -56,7 +56,7 @@ map_seen asks stands f h same (x ∷ xs) = ap (λ y. y ∷ map f (sources_of ask
     ∙ ap (λ ys. h x ∷ ys) (map_seen asks stands f h same xs)
 
 pub asked_seen : {S : Type 0} (asks : S → Asked) (stands : S → Standing) (xs : List S)
-    → asked_of (sources_of asks stands xs) ≡ map asks xs
+    → all_asked (sources_of asks stands xs) ≡ map asks xs
 asked_seen asks stands xs = map_seen asks stands (λ s. s.asked) asks (λ x. refl) xs
 
 pub given_seen : {S : Type 0} (asks : S → Asked) (stands : S → Standing) (xs : List S)
@@ -90,7 +90,7 @@ pub last_within : {S : Type 0} (asks : S → Asked) (stands : S → Standing) (h
     → shard < length hs → IfSome last (λ radius. radius ≤ (asks (get_or hs shard d)).farthest)
 last_within asks stands hs limit given None is shard d l = tt
 last_within asks stands hs limit given (Some far) is shard d l =
-    let seen_asks : asked_of (sources_of asks stands hs) ≡ map asks hs = asked_seen asks stands hs in
+    let seen_asks : all_asked (sources_of asks stands hs) ≡ map asks hs = asked_seen asks stands hs in
     let all = All-from_recursion (λ (a : Asked). a.farthest ≡ length_of (map asks hs)) (map asks hs)
         (subst AreOneLength seen_asks is.one_length) shard (asks d) (omega (arith, l, length-map hs asks)) in
     let here : get_or (map asks hs) shard (asks d) ≡ asks (get_or hs shard d) = get_or-map asks hs shard d (asks d) l in

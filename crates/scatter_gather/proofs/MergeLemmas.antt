@@ -10,7 +10,7 @@ use Rattle.hamming_model.specs.declared.hit.Hit.{Hit}
 use Rattle.hamming_model.specs.Scan.{hit_cmp, placed, in_order}
 use Rattle.hamming_model.proofs.OrderLemmas.{IsFirst, in_order_permutation, in_order_sorted, sorted_is_in_order}
 use Rattle.hit_source.specs.Sources.{Asked}
-use Rattle.scatter_gather.specs.Gathering.{Source, hits_left, asked_of}
+use Rattle.scatter_gather.specs.Gathering.{Source, left_hits, all_asked}
 use Rattle.hit_source.specs.Sources.{IsFresh}
 
 -- two lists with the same hits have one order
@@ -38,7 +38,7 @@ order_from_first hit hits first =
 pub left_permutation : (sources : List Source) (i : ℕ) (d s : Source) (hit : Hit) → i < length sources
     → drop (get_or sources i d).standing.given
         (get_or sources i d).asked.hits ≡ hit ∷ drop s.standing.given s.asked.hits
-    → IsPermutation (hits_left sources) (hit ∷ hits_left (set sources i s))
+    → IsPermutation (left_hits sources) (hit ∷ left_hits (set sources i s))
 left_permutation [] i d s hit l next = absurd (omega arith)
 left_permutation (first ∷ sources) zero d s hit l next =
     rw next (IsPermutation-refl _)
@@ -46,13 +46,13 @@ left_permutation (first ∷ sources) (suc i) d s hit l next =
     IsPermutation-trans _ _ _
     (IsPermutation-append_right (drop first.standing.given first.asked.hits) _ _
         (left_permutation sources i d s hit (omega arith) next))
-    (IsPermutation-middle (drop first.standing.given first.asked.hits) hit (hits_left (set sources i s)))
+    (IsPermutation-middle (drop first.standing.given first.asked.hits) hit (left_hits (set sources i s)))
 
 -- where nothing was taken all hits are left
 pub all_left : (sources : List Source) → AllByRecursion (λ s. IsFresh s.standing) sources
-    → hits_left sources ≡ flat_map (λ (a : Asked). a.hits) (asked_of sources)
+    → left_hits sources ≡ flat_map (λ (a : Asked). a.hits) (all_asked sources)
 all_left [] fresh = refl
-all_left (s ∷ sources) fresh = ap (λ n. drop n s.asked.hits ++ hits_left sources) fresh.0.given
+all_left (s ∷ sources) fresh = ap (λ n. drop n s.asked.hits ++ left_hits sources) fresh.0.given
     ∙ ap (λ hits. s.asked.hits ++ hits) (all_left sources fresh.1)
 
 -- what holds of all of what a list is seen as

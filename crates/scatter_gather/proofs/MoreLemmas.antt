@@ -11,7 +11,7 @@ use Rattle.hamming_model.specs.Scan.{in_order}
 use Rattle.hamming_model.proofs.OrderLemmas.{in_order_permutation}
 use Rattle.hit_source.specs.Sources.{Asked, Standing, IsLawful}
 use Rattle.hit_source.specs.Moves.{first_of}
-use Rattle.scatter_gather.specs.Gathering.{Source, sources_of, Gathering, Gathered, seen, asked_of, merged, hits_left, answer_of, answer_left, reaches_by_rows}
+use Rattle.scatter_gather.specs.Gathering.{Source, sources_of, Gathering, Gathered, seen, all_asked, merged, left_hits, answer_of, answer_left, reaches_by_rows}
 use Rattle.scatter_gather.specs.Due.{has_head, some_due, any_may_have_next}
 use Rattle.scatter_gather.specs.Kept.{IsGathering, AreLawful}
 use Rattle.scatter_gather.specs.Moves.{Waited}
@@ -31,24 +31,24 @@ none_waits (hit ∷ hits) (suc n) (other ∷ others) e w = omega arith
 
 -- where a hit waits some hit is left
 some_left : (sources : List Source) → AreLawful sources → list_any has_head sources ≡ true
-    → 1 ≤ length (hits_left sources)
+    → 1 ≤ length (left_hits sources)
 some_left [] law e = cc
 some_left (s ∷ sources) law e = elim (or_cases (has_head s) (list_any has_head sources) e) [
     inl first ↦ omega (arith, length-append (drop s.standing.given s.asked.hits)
-        (hits_left sources), none_waits s.standing.waiting (length s.standing.waiting)
+        (left_hits sources), none_waits s.standing.waiting (length s.standing.waiting)
         (drop s.standing.given s.asked.hits) first law.0.window)
   | inr later ↦ omega (arith, length-append (drop s.standing.given s.asked.hits)
-      (hits_left sources), some_left sources law.1 later)
+      (left_hits sources), some_left sources law.1 later)
   ]
 
 -- the answer has another hit where one waits and the limit isn't reached
 pub more_waits : (g : Gathering) → IsGathering g → AreLawful g.sources → (g.given ≡ g.limit → ⊥)
     → list_any has_head g.sources ≡ true → nat_lt g.given (length (answer_of g)) ≡ true
 more_waits g is law more waits =
-    let all = merged (asked_of g.sources) in
+    let all = merged (all_asked g.sources) in
     let some = some_left g.sources law waits in
-    let left : length all - g.given ≡ length (hits_left g.sources) = sym (length-drop g.given all) ∙ ap length is.merge
-        ∙ length_in_order (hits_left g.sources) in
+    let left : length all - g.given ≡ length (left_hits g.sources) = sym (length-drop g.given all) ∙ ap length is.merge
+        ∙ length_in_order (left_hits g.sources) in
     lt-ltb g.given (length (answer_of g)) (omega (arith, length-take g.limit all, is.within, more, some, left))
 
 no_first : (hits : List Hit) → first_of hits ≡ None → length hits ≡ 0
@@ -74,11 +74,11 @@ no_heads (s ∷ sources) e =
 
 -- the rows of sources whose hits are all their rows are as many as all hits
 all_rows : (sources : List Source) → AreLawful sources → list_all (λ (s : Source). s.asked.near) sources ≡ true
-    → length (flat_map (λ (a : Asked). a.hits) (asked_of sources)) ≡ sum_by (λ (s : Source). s.asked.rows) sources
+    → length (flat_map (λ (a : Asked). a.hits) (all_asked sources)) ≡ sum_by (λ (s : Source). s.asked.rows) sources
 all_rows [] law near = refl
 all_rows (s ∷ sources) law near =
     let both = and_parts s.asked.near (list_all (λ (s : Source). s.asked.near) sources) near in
-    omega (arith, length-append s.asked.hits (flat_map (λ (a : Asked). a.hits) (asked_of sources)),
+    omega (arith, length-append s.asked.hits (flat_map (λ (a : Asked). a.hits) (all_asked sources)),
         (law.0.asked.near both.0).all_rows, all_rows sources law.1 both.1, sum_by-cons
         (λ (s : Source). s.asked.rows) s sources)
 
@@ -88,7 +88,7 @@ pub more_rows : (g : Gathering) → IsGathering g → AreLawful g.sources → (g
 more_rows g is law more near =
     let both = and_parts (list_all (λ (s : Source). s.asked.near) g.sources)
         (nat_le g.limit (sum_by (λ (s : Source). s.asked.rows) g.sources)) near in
-    let all = flat_map (λ (a : Asked). a.hits) (asked_of g.sources) in
+    let all = flat_map (λ (a : Asked). a.hits) (all_asked g.sources) in
     let enough : g.limit ≤ length (in_order all) =
         omega (arith, leb-true _ _ both.1, all_rows g.sources law both.0, length_in_order all) in
     lt-ltb g.given (length (answer_of g)) (omega (arith, length-take g.limit (in_order all), is.within, more, enough))
@@ -128,7 +128,7 @@ pub waited_more : {S : Type 0} (asks : S → Asked) (stands : S → Standing) (o
     → nat_lt new.given (length (answer_of (seen asks stands new))) ≡ nat_lt old.given
     (length (answer_of (seen asks stands old)))
 waited_more asks stands old new from to waited =
-    let same : asked_of (sources_of asks stands new.sources) ≡ asked_of (sources_of asks stands old.sources) =
+    let same : all_asked (sources_of asks stands new.sources) ≡ all_asked (sources_of asks stands old.sources) =
         asked_seen asks stands new.sources ∙ waited.asked ∙ sym (asked_seen asks stands old.sources) in
     rw (same, waited.limit, waited.given)
 
@@ -156,7 +156,7 @@ pub not_due : (given limit : ℕ) (other : Bool) → given ≡ limit → (nat_lt
 not_due given limit other same due =
     omega (arith, same, ltb-true given limit (and_parts (nat_lt given limit) other due).0)
 
-rows_same : (old new : List Source) → asked_of new ≡ asked_of old
+rows_same : (old new : List Source) → all_asked new ≡ all_asked old
     → (list_all (λ (s : Source). s.asked.near) new ≡ list_all (λ (s : Source). s.asked.near) old) ×
     (sum_by (λ (s : Source). s.asked.rows) new ≡ sum_by (λ (s : Source). s.asked.rows) old)
 rows_same [] [] same = (refl, refl)
@@ -164,7 +164,7 @@ rows_same [] (t ∷ new) same = cc
 rows_same (s ∷ old) [] same = cc
 rows_same (s ∷ old) (t ∷ new) same =
     let first : t.asked ≡ s.asked = cc in
-    let rest : asked_of new ≡ asked_of old = cc in
+    let rest : all_asked new ≡ all_asked old = cc in
     let both = rows_same old new rest in
     ( ap (λ (a : Asked). a.near && list_all (λ (s : Source). s.asked.near) new) first
         ∙ ap (λ b. s.asked.near && b) both.0
@@ -178,7 +178,7 @@ pub waited_rows : {S : Type 0} (asks : S → Asked) (stands : S → Standing) (o
     → Waited asks stands old new from to
     → reaches_by_rows (seen asks stands new) ≡ reaches_by_rows (seen asks stands old)
 waited_rows asks stands old new from to waited =
-    let same : asked_of (sources_of asks stands new.sources) ≡ asked_of (sources_of asks stands old.sources) =
+    let same : all_asked (sources_of asks stands new.sources) ≡ all_asked (sources_of asks stands old.sources) =
         asked_seen asks stands new.sources ∙ waited.asked ∙ sym (asked_seen asks stands old.sources) in
     let both = rows_same (sources_of asks stands old.sources) (sources_of asks stands new.sources) same in
     rw (both.0, both.1, waited.limit)

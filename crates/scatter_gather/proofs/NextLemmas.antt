@@ -5,11 +5,11 @@ use Rattle.std.proofs.lemmas.Bool.{and_parts, MatchBool-at_true, MatchBool-at_fa
 use Rattle.std.proofs.lemmas.List.{length-map, length-set, get_or-map, get_or_default, get_or-set_other, same_lists}
 use Rattle.hamming_model.specs.declared.hit.Hit.{Hit}
 use Rattle.hit_source.specs.Sources.{Asked, Standing, IsLawful}
-use Rattle.scatter_gather.specs.Gathering.{source_of, sources_of, Gathered, gathered, seen, asked_of, answer_left}
+use Rattle.scatter_gather.specs.Gathering.{source_of, sources_of, Gathered, gathered, seen, all_asked, answer_left}
 use Rattle.scatter_gather.specs.Due.{some_due, any_may_have_next, may_have_next, least_floor, todo}
 use Rattle.scatter_gather.specs.Kept.{IsGathering}
 use Rattle.scatter_gather.specs.Polling.{PollsOnce, PollsAll}
-use Rattle.scatter_gather.specs.Moves.{ReadsRise, Waited, Gave, Gives, GivesOne}
+use Rattle.scatter_gather.specs.Moves.{ReadsRise, Waited, Gave, GivesReady, GivesOne}
 use Rattle.scatter_gather.proofs.KeepLemmas.{asked_seen, given_seen, same_gathering, set_alike}
 use Rattle.scatter_gather.proofs.TodoLemmas.{some_of, round_todo}
 
@@ -96,7 +96,7 @@ waited_again {S = S} asks stands budget old mid new from at to waited polls stay
 pub waited_left : {S : Type 0} (asks : S → Asked) (stands : S → Standing) (old new : Gathered S) (from to : List ℕ)
     → Waited asks stands old new from to → answer_left (seen asks stands new) ≡ answer_left (seen asks stands old)
 waited_left asks stands old new from to waited =
-    let same : asked_of (sources_of asks stands new.sources) ≡ asked_of (sources_of asks stands old.sources) =
+    let same : all_asked (sources_of asks stands new.sources) ≡ all_asked (sources_of asks stands old.sources) =
         asked_seen asks stands new.sources ∙ waited.asked ∙ sym (asked_seen asks stands old.sources) in
     rw (same, waited.limit, waited.given)
 
@@ -108,7 +108,7 @@ gave_none asks stands old new from to waited = record { asked = waited.asked; li
 
 -- after the wait one source gave the hit
 pub gave_one : {S : Type 0} (asks : S → Asked) (stands : S → Standing) (old mid new : Gathered S) (from to : List ℕ)
-    (hit : Hit) → Waited asks stands old mid from to → Gives asks stands mid new (Some hit)
+    (hit : Hit) → Waited asks stands old mid from to → GivesReady asks stands mid new (Some hit)
     → Gave asks stands old new from to (Some hit)
 gave_one {S = S} asks stands old mid new from to hit waited gives = record {
   asked = asked ∙ waited.asked;

@@ -11,9 +11,9 @@ use Rattle.hamming_model.proofs.OrderLemmas.{IsFirst}
 use Rattle.hit_source.specs.WindowLaws.{nearer}
 use Rattle.hit_source.specs.Sources.{Asked, Standing, IsLawful}
 use Rattle.hit_source.specs.Moves.{Pops, first_of}
-use Rattle.scatter_gather.specs.Gathering.{Source, source_of, sources_of, Gathered, gathered, seen, asked_of, merged, hits_left, answer_left, next_hit}
+use Rattle.scatter_gather.specs.Gathering.{Source, source_of, sources_of, Gathered, gathered, seen, all_asked, merged, left_hits, answer_left, next_hit}
 use Rattle.scatter_gather.specs.Due.{any_may_have_next, some_due}
-use Rattle.scatter_gather.specs.Heads.{IsReady}
+use Rattle.scatter_gather.specs.Heads.{IsReadyHead}
 use Rattle.scatter_gather.specs.Kept.{length_of, AreOneLength, IsGathering, AreLawful}
 use Rattle.scatter_gather.specs.Moves.{GivesOne}
 use Rattle.scatter_gather.proofs.MergeLemmas.{all_of_map, all_always, read_seen}
@@ -59,7 +59,7 @@ pub best_given : {S : Type 0} (asks : S → Asked) (stands : S → Standing) (hs
     (last : Option ℕ) (shard : ℕ) (hit : Hit) (was new : S) (result : Option Hit)
     → ((x : S) → IsLawful (asks x) (stands x)) → IsGathering (seen asks stands (gathered hs limit given last))
         → (given ≡ limit → ⊥)
-    → IsReady (sources_of asks stands hs) (Some (shard, hit)) → was ≡ get_or hs shard was → asks new ≡ asks was
+    → IsReadyHead (sources_of asks stands hs) (Some (shard, hit)) → was ≡ get_or hs shard was → asks new ≡ asks was
         → Pops (stands was) (stands new) result
     → IsGathering (seen asks stands (gathered (set hs shard new) limit (given + 1) (Some hit.dist))) ×
         (first_of (answer_left (seen asks stands (gathered hs limit given last))) ≡ Some hit) × (shard < length hs) ×
@@ -70,13 +70,13 @@ best_given {S = S} asks stands hs limit given last shard hit was new result law 
         few = omega (arith, is.few, size);
         merge =
             ap (λ asks. drop (given + 1) (merged asks)) same
-            ∙ sym (drop-drop 1 given (merged (asked_of all)))
+            ∙ sym (drop-drop 1 given (merged (all_asked all)))
             ∙ ap (drop 1) next
-            ∙ ap (λ ss. in_order (hits_left ss)) (sym (map-set (source_of asks stands) hs shard new));
+            ∙ ap (λ ss. in_order (left_hits ss)) (sym (map-set (source_of asks stands) hs shard new));
         within = omega (arith, is.within, more);
         one_length = subst AreOneLength (sym same) is.one_length;
         last = subst (λ asks. hit.dist ≤ length_of asks) (sym same) far;
-        later = subst (λ ss. AllByRecursion (λ (other : Hit). hit.dist ≤ other.dist) (hits_left ss))
+        later = subst (λ ss. AllByRecursion (λ (other : Hit). hit.dist ≤ other.dist) (left_hits ss))
             (sym (map-set (source_of asks stands) hs shard new)) (all_nearer hit _ first_left);
       }
     , next_of_answer (seen asks stands (gathered hs limit given last)) hit _ is more next
@@ -100,7 +100,7 @@ best_given {S = S} asks stands hs limit given last shard hit was new result law 
     size = omega (arith, length-map (set hs shard new) (source_of asks stands), length-map hs
         (source_of asks stands), length-set hs shard new)
 
-    same : asked_of (sources_of asks stands (set hs shard new)) ≡ asked_of all
+    same : all_asked (sources_of asks stands (set hs shard new)) ≡ all_asked all
     same = asked_seen asks stands (set hs shard new) ∙ set_alike asks hs shard was new within here asked
         ∙ sym (asked_seen asks stands hs)
 
@@ -113,12 +113,12 @@ best_given {S = S} asks stands hs limit given last shard hit was new result law 
     here_was : was ≡ get_or hs shard was
     here_was = here
 
-    far : hit.dist ≤ length_of (asked_of all)
+    far : hit.dist ≤ length_of (all_asked all)
     far =
         let l : shard < length all = omega (arith, within, length-map hs (source_of asks stands)) in
         let lawful = All-from_recursion (λ (s : Source). IsLawful s.asked s.standing) all
             (all_lawful asks stands law hs) shard d l in
-        let seen_asks : asked_of all ≡ map asks hs = asked_seen asks stands hs in
+        let seen_asks : all_asked all ≡ map asks hs = asked_seen asks stands hs in
         let there : get_or (map asks hs) shard (asks was) ≡ asks was = get_or-map asks hs shard was (asks was) within
             ∙ ap asks (sym here_was) in
         let size : shard < length (map asks hs) = omega (arith, within, length-map hs asks) in
@@ -136,12 +136,12 @@ best_given {S = S} asks stands hs limit given last shard hit was new result law 
     after_all : List Source
     after_all = set all shard (source_of asks stands new)
 
-    first_left : IsFirst hit (hits_left after_all)
+    first_left : IsFirst hit (left_hits after_all)
     first_left = best_first_left (seen asks stands (gathered hs limit given last)) shard hit d
         (source_of asks stands new) is (all_lawful asks stands law hs) ready.held ready.best
         (asked ∙ sym (ap (λ (s : Source). s.asked) at)) (counts ∙ ap (λ (s : Source). s.standing.given + 1) (sym at))
 
-    next : drop given (merged (asked_of all)) ≡ hit ∷ in_order (hits_left (set all shard (source_of asks stands new)))
+    next : drop given (merged (all_asked all)) ≡ hit ∷ in_order (left_hits (set all shard (source_of asks stands new)))
     next = next_of_merge (seen asks stands (gathered hs limit given last)) shard hit d (source_of asks stands new) is
         (all_lawful asks stands law hs) ready.held ready.best
         (asked ∙ sym (ap (λ (s : Source). s.asked) at)) (counts ∙ ap (λ (s : Source). s.standing.given + 1) (sym at))
@@ -175,7 +175,7 @@ given_one {S = S} asks stands hs limit given last shard hit was new result old a
 pub none_given : {S : Type 0} (asks : S → Asked) (stands : S → Standing) (hs : List S) (limit given : ℕ)
     (last : Option ℕ) (old : Gathered S)
     → ((x : S) → IsLawful (asks x) (stands x)) → IsGathering (seen asks stands (gathered hs limit given last))
-        → (given ≡ limit → ⊥) → IsReady (sources_of asks stands hs) None
+        → (given ≡ limit → ⊥) → IsReadyHead (sources_of asks stands hs) None
     → gathered hs limit given last ≡ old → some_due (seen asks stands old) ≡ false
         → next_hit (seen asks stands old) ≡ None
 none_given asks stands hs limit given last old law is more ready before idle =

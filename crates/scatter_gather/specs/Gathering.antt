@@ -46,8 +46,8 @@ abbrev pub seen : {S : Type 0} → (S → Asked) → (S → Standing) → Gather
 seen asks stands g = gathering_of (sources_of asks stands g.sources) g.limit g.given g.last
 
 -- what the sources are asked
-abbrev pub asked_of : List Source → List Asked
-asked_of sources = map (λ s. s.asked) sources
+abbrev pub all_asked : List Source → List Asked
+all_asked sources = map (λ s. s.asked) sources
 
 -- how many hits each gave
 abbrev pub given_of : List Source → List ℕ
@@ -59,7 +59,7 @@ merged asks = in_order (flat_map (λ a. a.hits) asks)
 
 -- the answer: the merge, cut at the limit
 abbrev pub answer_of : Gathering → List Hit
-answer_of g = take g.limit (merged (asked_of g.sources))
+answer_of g = take g.limit (merged (all_asked g.sources))
 
 -- the hits of the answer that were not given
 abbrev pub answer_left : Gathering → List Hit
@@ -86,5 +86,5 @@ abbrev pub all_bounds : {S : Type 0} → (S → Asked) → Gathered S → ℕ
 all_bounds asks g = min (sum_by (λ source. (asks source).bound g.last) g.sources) 18446744073709551615
 
 -- the hits that their sources have not given
-abbrev pub hits_left : List Source → List Hit
-hits_left sources = flat_map (λ s. drop s.standing.given s.asked.hits) sources
+abbrev pub left_hits : List Source → List Hit
+left_hits sources = flat_map (λ s. drop s.standing.given s.asked.hits) sources

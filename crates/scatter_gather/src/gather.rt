@@ -13,7 +13,7 @@ ghost use Rattle.scatter_gather.specs.Due.{is_due, some_due};
 ghost use Rattle.scatter_gather.specs.Heads.{MayGo};
 ghost use Rattle.scatter_gather.specs.Kept.{AreOneLength, IsGathering};
 ghost use Rattle.scatter_gather.specs.Polling.{PollsAll, PollsSome};
-ghost use Rattle.scatter_gather.specs.Moves.{PollsOne, Gives, Waited, Gave, Looks, distance_of};
+ghost use Rattle.scatter_gather.specs.Moves.{PollsOne, GivesReady, Waited, Gave, Looks, distance_of};
 ghost use Rattle.scatter_gather.specs.Moves.{BeginsForNext, BeginsUpTo, BegunWithin};
 
 use crate::looks::{all_near, any_may_have_next, any_waits, bound_of, least_floor, may_have_next};
@@ -102,7 +102,7 @@ impl<H: HitSource> Gather<H> {
             (λ hit. next_hit (seen H.asked H.standing self.old) ≡ Some hit) }
         ensures none_left { result ≡ None → some_due (seen H.asked H.standing self.old) ≡ false
             → next_hit (seen H.asked H.standing self.old) ≡ None }
-        ensures after { Gives H.asked H.standing self.old self.new result }
+        ensures after { GivesReady H.asked H.standing self.old self.new result }
         // For the loops of `next` and `more`.
         ensures holds { IsGathering (seen H.asked H.standing self.new) }
         ensures rises { IfSome result (λ hit. IfSome self.old.last (λ last. last ≤ hit.dist)) }
@@ -161,7 +161,8 @@ impl<H: HitSource> Gather<H> {
             → meters.new ≡ meters.old }
         // Else each one that is due was polled once, on its own ledger.
         ensures polled { some_due (seen H.asked H.standing self.old) ≡ true
-            → PollsAll H.asked H.standing budget self.old.sources self.new.sources meters.old meters.new }
+            → PollsAll H.asked H.standing budget
+            self.old.sources self.new.sources meters.old meters.new }
         ensures stays { self.new
             ≡ gathered self.new.sources self.old.limit self.old.given self.old.last }
         ensures begins { BeginsForNext H.asked H.standing self.old self.new }

@@ -6,7 +6,7 @@ ghost use Rattle.std.specs.List.{list_any, list_all};
 ghost use Rattle.scatter_gather.specs.Gathering.{source_of, sources_of};
 ghost use Rattle.scatter_gather.specs.Due.{lower, least_floor, is_least, may_have_next};
 ghost use Rattle.scatter_gather.specs.Due.{any_may_have_next, has_head};
-ghost use Rattle.scatter_gather.specs.Heads.{better, empty_floor, has_to_wait, IsReady};
+ghost use Rattle.scatter_gather.specs.Heads.{better, empty_floor, has_to_wait, IsReadyHead};
 
 use hamming_model::Hit;
 use hit_source::HitSource;
@@ -113,7 +113,7 @@ fn has_to_wait(best: Option<(usize, Hit)>, floor: Option<u32>) -> bool
 
 // The first of the hits that wait, with its source's number, where no other may come before it.
 pub(crate) fn ready_head<H: HitSource>(sources: &[H]) -> Option<(usize, Hit)>
-    ensures { IsReady (sources_of H.asked H.standing sources.now) result }
+    ensures { IsReadyHead (sources_of H.asked H.standing sources.now) result }
 {
     let mut best: Option<(usize, Hit)> = None;
     let mut floor: Option<u32> = None;

@@ -22,6 +22,8 @@ const BUDGET_IN_TURN: u32 = 4096;
 
 // Polls the marked sources, each in a thread of its own where threads can be had. It answers
 // whether one of them has more to do at once.
+//
+// Numbers go into the closures by reference: one that took them by value would lose the slices.
 #[cycle(marked)]
 pub(crate) fn poll_marked<R: Threads + Sync, H: HitSource, G: Gate, L: Send>(
     rt: &R,
@@ -41,18 +43,14 @@ pub(crate) fn poll_marked<R: Threads + Sync, H: HitSource, G: Gate, L: Send>(
         marks.now sources.old meters.old sources.new meters.new }
 {
     let count = sources.len();
-    if count == 0 {
+    if count == 0 || count == 1 && !marks[0] {
         return false;
     }
     if count == 1 {
-        if !marks[0] {
-            return false;
-        }
         gate.pass(*first);
         let polled = sources[0].poll(*budget, &mut meters[0]);
         return goes_on(polled, &sources[0]);
     }
-    // Numbers go into the closures by reference: one that took them by value would lose the slices.
     let half = count / 2;
     let next = &(*first + half);
     let (front, back) = sources.split_at_mut(half);

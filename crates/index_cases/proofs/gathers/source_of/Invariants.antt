@@ -5,4 +5,4 @@ use Rattle.hamming_model.specs.declared.limits.TheConstants.{BITS_MOST}
 use Rattle.index_cases.proofs.gathers.source_of.Given as goal
 
 abbrev pub invariant-loop-dist : goal.invariant-loop-dist
-invariant-loop-dist l = All (λ hit. hit.dist ≤ BITS_MOST) l.hits.items
+invariant-loop-dist l = All (λ hit. hit.dist ≤ BITS_MOST) l.list.items

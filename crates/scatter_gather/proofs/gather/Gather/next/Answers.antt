@@ -6,7 +6,7 @@ use Rattle.scatter_gather.specs.Gathering.{seen, answer_left, gathered}
 use Rattle.scatter_gather.specs.Due.{some_due}
 use Rattle.scatter_gather.specs.Kept.{IsGathering}
 use Rattle.scatter_gather.specs.Polling.{PollsAll}
-use Rattle.scatter_gather.specs.Moves.{Gives, BeginsUpTo, BegunWithin, distance_of}
+use Rattle.scatter_gather.specs.Moves.{GivesReady, BeginsUpTo, BegunWithin, distance_of}
 use Rattle.scatter_gather.proofs.NextLemmas.{waited_left, waited_again, loop_todo, gave_one}
 use Rattle.scatter_gather.proofs.BeginLemmas.{round_begins, begins_more, begins_given, within_next}
 use Rattle.scatter_gather.proofs.ReadyLemmas.{all_lawful}
@@ -23,13 +23,13 @@ pub returns-in-Some-clause-gave : goal.returns-in-Some-clause-gave
 returns-in-Some-clause-gave g c =
     gave_one g.H.HitSource.asked g.H.HitSource.standing c.args.self.now c.loop-hit.self c.ready.new.self
         c.args.meters.now c.loop-hit.meters c.in-Some.hit c.loop-hit.invariant.0
-    (subst (λ r. Gives g.H.HitSource.asked g.H.HitSource.standing c.loop-hit.self c.ready.new.self r)
+    (subst (λ r. GivesReady g.H.HitSource.asked g.H.HitSource.standing c.loop-hit.self c.ready.new.self r)
         c.in-Some.is c.ready.ensures.after)
 
 pub returns-in_default-poll_some-clause-gives : goal.returns-in_default-poll_some-clause-gives
 returns-in_default-poll_some-clause-gives g c =
     let stayed : c.ready.new.self ≡ c.loop-hit.self =
-        subst (λ r. Gives g.H.HitSource.asked g.H.HitSource.standing c.loop-hit.self c.ready.new.self r)
+        subst (λ r. GivesReady g.H.HitSource.asked g.H.HitSource.standing c.loop-hit.self c.ready.new.self r)
         c.in_default.is c.ready.ensures.after in
     let held : some_due (seen g.H.HitSource.asked g.H.HitSource.standing c.loop-hit.self) ≡ false =
         subst (λ x. some_due (seen g.H.HitSource.asked g.H.HitSource.standing x) ≡ false) stayed
@@ -42,7 +42,7 @@ pub loop-hit-smaller : goal.loop-hit-smaller
 loop-hit-smaller g c =
     let laws = g.met.H.HitSource g.world.𝓛 g.world.𝓜 g.world.𝓡 ((λ s x. x), (λ x. x), (λ x. x), λ x. x) in
     let stayed : c.ready.new.self ≡ c.loop-hit.self =
-        subst (λ r. Gives g.H.HitSource.asked g.H.HitSource.standing c.loop-hit.self c.ready.new.self r)
+        subst (λ r. GivesReady g.H.HitSource.asked g.H.HitSource.standing c.loop-hit.self c.ready.new.self r)
         c.in_default.is c.ready.ensures.after in
     loop_todo g.H.HitSource.asked g.H.HitSource.standing
         (c.poll_some.ensures.polled (ap is_some c.in-Some-poll_some.is)).budget c.loop-hit.self c.ready.new.self
@@ -53,7 +53,7 @@ pub loop-hit-preserved : goal.loop-hit-preserved
 loop-hit-preserved g c =
     let laws = g.met.H.HitSource g.world.𝓛 g.world.𝓜 g.world.𝓡 ((λ s x. x), (λ x. x), (λ x. x), λ x. x) in
     let stayed : c.ready.new.self ≡ c.loop-hit.self =
-        subst (λ r. Gives g.H.HitSource.asked g.H.HitSource.standing c.loop-hit.self c.ready.new.self r)
+        subst (λ r. GivesReady g.H.HitSource.asked g.H.HitSource.standing c.loop-hit.self c.ready.new.self r)
         c.in_default.is c.ready.ensures.after in
     let some = c.poll_some.ensures.polled (ap is_some c.in-Some-poll_some.is) in
     let polls = subst (λ x. PollsAll g.H.HitSource.asked g.H.HitSource.standing some.budget x.sources
@@ -80,7 +80,7 @@ loop-hit-preserved g c =
 
 pub returns-in-Some-clause-begins : goal.returns-in-Some-clause-begins
 returns-in-Some-clause-begins g c =
-    let gives = subst (λ r. Gives g.H.HitSource.asked g.H.HitSource.standing c.loop-hit.self c.ready.new.self r)
+    let gives = subst (λ r. GivesReady g.H.HitSource.asked g.H.HitSource.standing c.loop-hit.self c.ready.new.self r)
         c.in-Some.is c.ready.ensures.after in
     let next = c.in-Some.ensures.gives in
     let left = waited_left g.H.HitSource.asked g.H.HitSource.standing c.args.self.now c.loop-hit.self c.args.meters.now
@@ -94,7 +94,7 @@ returns-in-Some-clause-begins g c =
 
 pub returns-in-Some-clause-within : goal.returns-in-Some-clause-within
 returns-in-Some-clause-within g c = λ near was.
-    let gives = subst (λ r. Gives g.H.HitSource.asked g.H.HitSource.standing c.loop-hit.self c.ready.new.self r)
+    let gives = subst (λ r. GivesReady g.H.HitSource.asked g.H.HitSource.standing c.loop-hit.self c.ready.new.self r)
         c.in-Some.is c.ready.ensures.after in
     let rises : IfSome c.loop-hit.self.last (λ last. last ≤ c.in-Some.hit.dist) =
         subst (λ r. IfSome r (λ hit. IfSome c.loop-hit.self.last (λ last. last ≤ hit.dist)))
@@ -108,7 +108,7 @@ pub returns-in_default-poll_some-clause-within : goal.returns-in_default-poll_so
 returns-in_default-poll_some-clause-within g c = λ near was.
     let laws = g.met.H.HitSource g.world.𝓛 g.world.𝓜 g.world.𝓡 ((λ s x. x), (λ x. x), (λ x. x), λ x. x) in
     let stayed : c.ready.new.self ≡ c.loop-hit.self =
-        subst (λ r. Gives g.H.HitSource.asked g.H.HitSource.standing c.loop-hit.self c.ready.new.self r)
+        subst (λ r. GivesReady g.H.HitSource.asked g.H.HitSource.standing c.loop-hit.self c.ready.new.self r)
         c.in_default.is c.ready.ensures.after in
     let is = subst (λ x. IsGathering (seen g.H.HitSource.asked g.H.HitSource.standing x))
         stayed c.ready.ensures.holds in
