@@ -103,6 +103,7 @@ impl<H: HitSource> Gather<H> {
         ensures none_left { result ≡ None → some_due (seen H.asked H.standing self.old) ≡ false
             → next_hit (seen H.asked H.standing self.old) ≡ None }
         ensures after { GivesReady H.asked H.standing self.old self.new result }
+        ensures shards { length self.new.sources ≡ length self.old.sources }
         // For the loops of `next` and `more`.
         ensures holds { IsGathering (seen H.asked H.standing self.new) }
         ensures rises { IfSome result (λ hit. IfSome self.old.last (λ last. last ≤ hit.dist)) }
@@ -134,6 +135,7 @@ impl<H: HitSource> Gather<H> {
         ensures stays { result ≡ None → self.new ≡ self.old }
         ensures ledgers { result ≡ None → meters.new ≡ meters.old }
         // Else it was polled, on its own ledger.
+        ensures shards { length self.new.sources ≡ length self.old.sources }
         ensures polls { IfSome result (PollsOne H.asked H.standing budget shard
             self.old self.new meters.old meters.new) }
         ensures begins { BeginsForNext H.asked H.standing self.old self.new }
@@ -160,6 +162,7 @@ impl<H: HitSource> Gather<H> {
         ensures no_step { some_due (seen H.asked H.standing self.old) ≡ false
             → meters.new ≡ meters.old }
         // Else each one that is due was polled once, on its own ledger.
+        ensures shards { length self.new.sources ≡ length self.old.sources }
         ensures polled { some_due (seen H.asked H.standing self.old) ≡ true
             → PollsAll H.asked H.standing budget
             self.old.sources self.new.sources meters.old meters.new }
@@ -212,6 +215,7 @@ impl<H: HitSource> Gather<H> {
         requires budget { 1 ≤ budget }
         ensures gives { result ≡ next_hit (seen H.asked H.standing self.old) }
         ensures gave { Gave H.asked H.standing self.old self.new meters.old meters.new result }
+        ensures shards { length self.new.sources ≡ length self.old.sources }
         // No source begins a radius above the distance of the hit.
         ensures begins { BeginsUpTo H.standing (distance_of result)
             self.old.sources self.new.sources }
@@ -243,6 +247,7 @@ impl<H: HitSource> Gather<H> {
         requires budget { 1 ≤ budget }
         ensures more { result ≡ has_more (seen H.asked H.standing self.old) }
         ensures waited { Waited H.asked H.standing self.old self.new meters.old meters.new }
+        ensures shards { length self.new.sources ≡ length self.old.sources }
         // Where every row is a hit, and there are as many as the limit, nothing is read.
         ensures near { reaches_by_rows (seen H.asked H.standing self.old) ≡ true
             → self.new ≡ self.old }
@@ -274,6 +279,7 @@ impl<H: HitSource> Gather<H> {
             ≡ ((H.asked (slice_index_or self.old.sources shard d)).plan self.old.last).1 }
         ensures vector { (d : H) → H.planned (slice_index_or self.new.sources shard d)
             ≡ ((H.asked (slice_index_or self.old.sources shard d)).plan self.old.last).0 }
+        ensures shards { length self.new.sources ≡ length self.old.sources }
         ensures looks { Looks H.asked H.standing self.old self.new }
     {
         let last = self.last;
@@ -293,6 +299,7 @@ impl<H: HitSource> Gather<H> {
     pub fn cost(&mut self) -> (u64, u64)
         ensures reads { result.0 ≡ all_reads H.standing self.old }
         ensures bound { result.1 ≡ all_bounds H.asked self.old }
+        ensures shards { length self.new.sources ≡ length self.old.sources }
         ensures looks { Looks H.asked H.standing self.old self.new }
         // Where no source began a radius above the last hit's distance, it reads within the bound.
         ensures within { BegunWithin H.standing self.old.last self.old.sources
