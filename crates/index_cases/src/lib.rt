@@ -11,8 +11,6 @@ mod counts;
 #[cfg(test)]
 mod entries;
 #[cfg(test)]
-mod gathers;
-#[cfg(test)]
 mod layouts;
 #[cfg(test)]
 mod meters;
