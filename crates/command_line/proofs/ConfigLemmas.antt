@@ -2,7 +2,8 @@
 use Rattle.std.proofs.Common.{◌≡◌, ℕ, ◌*◌, ◌/◌, ◌≤◌, Option, Some, None, IfSome, unwrap_or, refl, sym, subst, arith, lit≤}
 use Rattle.std.proofs.lemmas.Bool.{le-leb}
 use Rattle.part_layout.specs.Contiguous.{CanBeCut}
-use Rattle.command_line.specs.CommandWords.{config, IsConfig}
+use Rattle.part_layout.specs.Ranges.{IsConfig}
+use Rattle.command_line.specs.CommandWords.{config}
 use Rattle.command_line.specs.GivenValues.{entry_number_or, IsNumberOf, IsEntryOf}
 use Rattle.command_line.specs.declared.command_option.CommandOption.TheVariants.{Bits, Input}
 use Rattle.command_line.specs.declared.given.Entry.{Entry}
@@ -44,9 +45,12 @@ config_within bits parts input of_bits cut of_input = record {
   greatest_bits = of_bits.1;
   whole_bytes = of_bits.2;
   cut = cut;
-  one_shard = refl;
-  room_of_64 = refl;
-  all_entries = refl;
+  some_shards = lit≤ tt;
+  few_shards = lit≤ tt;
+  some_room = lit≤ tt;
+  small_room = lit≤ tt;
+  some_entries = lit≤ tt;
+  few_entries = lit≤ tt;
   least_input = of_input.0;
   greatest_input = of_input.1;
 }

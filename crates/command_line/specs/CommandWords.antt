@@ -1,25 +1,20 @@
 -- The words of the command line, which are numbered from 1: what they ask for, or the place of the first one at fault.
-use Rattle.std.specs.Prelude.{◌≡◌, ℕ, ◌+◌, ◌/◌, ◌%◌, ◌≤◌, ◌==◌, not, if◌then◌else◌, Bool, List, [], ◌∷◌, take, drop, position, codes, Option, Some, None, is_some, unwrap_or, Result, Ok, Err}
+use Rattle.std.specs.Prelude.{◌≡◌, ℕ, ◌+◌, ◌/◌, ◌==◌, not, if◌then◌else◌, Bool, List, [], ◌∷◌, take, drop, position, codes, Option, Some, None, is_some, unwrap_or, Result, Ok, Err}
 use Rattle.std.specs.List.{list_all}
 use Rattle.std.specs.Option.{option_map, option_and_then}
 use Rattle.std.specs.Str.{bytes_eq}
-use Rattle.part_layout.specs.Contiguous.{CanBeCut, can_be_cut}
+use Rattle.hamming_model.specs.declared.limits.TheConstants.{ENTRIES_MOST}
+use Rattle.part_layout.specs.Contiguous.{can_be_cut}
 use Rattle.part_layout.specs.declared.config.Config.{Config}
 use Rattle.command_line.specs.CommandOptions.{name_of, option_named, number, is_value}
 use Rattle.command_line.specs.declared.command_option.CommandOption.{CommandOption}
 use Rattle.command_line.specs.declared.command_option.CommandOption.TheVariants.{Bits, Parts, Input}
 
--- what a session may be asked to be
-pub record IsConfig (config : Config) : Type 0 where
-  pub least_bits : 8 ≤ config.bits
-  pub greatest_bits : config.bits ≤ 256
-  pub whole_bytes : config.bits % 8 ≡ 0
-  pub cut : CanBeCut config.bits config.parts
+-- what no option gives: one shard, a room of 64, and all the entries that there may be
+pub record IsPinned (config : Config) : Type 0 where
   pub one_shard : config.shards ≡ 1
   pub room_of_64 : config.room ≡ 64
-  pub all_entries : config.entries ≡ 1048576
-  pub least_input : 1 ≤ config.input
-  pub greatest_input : config.input ≤ 4294967296
+  pub all_entries : config.entries ≡ ENTRIES_MOST
 
 -- an option as it is written: its name and its place, and its value, if the words don't end before it, with the place of that
 pub record Written : Type 0 where
@@ -95,7 +90,7 @@ number_or option default settings = unwrap_or (option_and_then (number_given opt
 
 -- a session of so many bits and parts, with an input of so many bytes
 abbrev pub config : ℕ → ℕ → ℕ → Config
-config bits parts input = record { bits = bits; parts = parts; shards = 1; room = 64; entries = 1048576; input = input }
+config bits parts input = record { bits = bits; parts = parts; shards = 1; room = 64; entries = ENTRIES_MOST; input = input }
 
 -- the parts that were given, judged against the bits
 abbrev pub parts_for : ℕ → Written → Result ℕ ℕ

@@ -2,7 +2,8 @@
 
 ghost use Rattle.std.specs.Prelude.{◌≡◌, ◌==◌, ◌<◌, ◌-◌, [], length, map, position, string_bytes, option_copied, IfSome, IfOk};
 ghost use Rattle.std.specs.Option.{option_map};
-ghost use Rattle.command_line.specs.CommandWords.{asked, asked_after, written, parted, IsConfig};
+ghost use Rattle.part_layout.specs.Ranges.{IsConfig};
+ghost use Rattle.command_line.specs.CommandWords.{asked, asked_after, written, parted, IsPinned};
 ghost use Rattle.command_line.specs.GivenValues.{next_in, after_next};
 
 use crate::given::Given;
@@ -22,7 +23,8 @@ use part_layout::Config;
 /// against the bits.
 pub fn read_words(words: &[String]) -> Result<Config, usize>
     ensures value { result ≡ asked (map string_bytes words.now) }
-    ensures within { IfOk result (λ config. IsConfig config) }
+    ensures within { IfOk result IsConfig }
+    ensures pinned { IfOk result IsPinned }
 {
     match words {
         [] => Err(1),
@@ -39,7 +41,8 @@ pub fn read_words(words: &[String]) -> Result<Config, usize>
 // What the words after the command ask for, the first of them being word 2.
 fn read_options(options: &[String]) -> Result<Config, usize>
     ensures value { result ≡ asked_after [] (written 2 (map string_bytes options.now)) }
-    ensures within { IfOk result (λ config. IsConfig config) }
+    ensures within { IfOk result IsConfig }
+    ensures pinned { IfOk result IsPinned }
 {
     let mut given = Given {
         bits: None,

@@ -2,12 +2,14 @@
 
 ghost use Rattle.std.specs.Prelude.{◌≡◌, ◌+◌, ◌≤◌, ℕ, List, option_copied, IfOk};
 ghost use Rattle.part_layout.specs.Contiguous.{CanBeCut};
-ghost use Rattle.command_line.specs.CommandWords.{Written, setting, config_of, IsConfig};
+ghost use Rattle.part_layout.specs.Ranges.{IsConfig};
+ghost use Rattle.command_line.specs.CommandWords.{Written, setting, config_of, IsPinned};
 ghost use Rattle.command_line.specs.GivenValues.{entry_at, entry_number_or, entry_parts_or, put, size, kept, kept_after, IsNumberOf, IsEntryOf, AreEntries};
 ghost use Rattle.command_line.specs.declared.command_option.CommandOption.TheVariants.{Bits, Parts};
 
 use crate::CommandOption;
-use part_layout::{Config, Layout};
+use hamming_model::ENTRIES_MOST;
+use part_layout::{Config, INPUT_MOST, Layout};
 
 // What one option was given.
 #[derive(Clone, Copy, Debug, PartialEq, Eq)]
@@ -99,7 +101,8 @@ impl Given {
     pub(crate) fn config(self) -> Result<Config, usize>
         requires { AreEntries self }
         ensures value { (settings : List Written) → self ≡ kept settings → result ≡ config_of settings }
-        ensures within { IfOk result (λ config. IsConfig config) }
+        ensures within { IfOk result IsConfig }
+        ensures pinned { IfOk result IsPinned }
     {
         let bits = number_or(self.bits, 64);
         let parts = parts_or(bits, self.parts)?;
@@ -108,8 +111,8 @@ impl Given {
             parts: parts as u32,
             shards: 1,
             room: 64,
-            entries: 1_048_576,
-            input: number_or(self.input, 4_294_967_296),
+            entries: ENTRIES_MOST,
+            input: number_or(self.input, INPUT_MOST),
         })
     }
 }

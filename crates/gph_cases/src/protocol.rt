@@ -1,9 +1,10 @@
 //! Lines as requests, and replies as lines.
 
-ghost use Rattle.std.specs.Prelude.{◌≤◌, length};
+ghost use Rattle.std.specs.Prelude.{◌≡◌, ◌≤◌, length};
 
+use hamming_model::ENTRIES_MOST;
 use line_io::LineBuf;
-use part_layout::LayoutText;
+use part_layout::{Config, INPUT_MOST, LayoutText};
 use query_protocol::{Bad, Reply, Request, Tag, ThresholdList, read_line, write_hit};
 use std::test::Fail;
 
@@ -93,7 +94,7 @@ fn told(read: &Option<Request<1>>) -> (&[u8], &[u8], u64, u64) {
         Some(Request::Range { tag, tau, code }) => {
             (b"range", tag.bytes(), u64::from(*tau), code.words()[0])
         }
-        Some(Request::Next { tag, count }) => (b"next", tag.bytes(), u64::from(*count), 0),
+        Some(Request::Next { tag, n }) => (b"next", tag.bytes(), u64::from(*n), 0),
         Some(Request::Cost { tag }) => (b"cost", tag.bytes(), 0, 0),
         Some(Request::Plan { tag, shard }) => (b"plan", tag.bytes(), u64::from(*shard), 0),
         Some(Request::Layout { shard }) => (b"layout", b"", u64::from(*shard), 0),
@@ -101,11 +102,25 @@ fn told(read: &Option<Request<1>>) -> (&[u8], &[u8], u64, u64) {
     }
 }
 
+// A server of so many shards, for codes of eight bits.
+fn of_shards(shards: u32) -> Config
+    ensures { result.bits ≡ 8 }
+{
+    Config {
+        bits: 8,
+        parts: 1,
+        shards,
+        room: 64,
+        entries: ENTRIES_MOST,
+        input: INPUT_MOST,
+    }
+}
+
 // Whether a line is the request, with the given number of shards.
 fn is_request(line: &[u8], shards: u32, word: &[u8], tag: &[u8], number: u64, code: u64) -> bool
     requires { length line.now ≤ 4096 }
 {
-    match read_line::<1>(8, shards, line) {
+    match read_line::<1>(&of_shards(shards), line) {
         Ok(read) => {
             let (read_word, read_tag, read_number, read_code) = told(&read);
             read_word == word && read_tag == tag && read_number == number && read_code == code << 56
@@ -118,7 +133,7 @@ fn is_request(line: &[u8], shards: u32, word: &[u8], tag: &[u8], number: u64, co
 fn is_fault(line: &[u8], shards: u32, number: u8, word: u8) -> bool
     requires { length line.now ≤ 4096 }
 {
-    match read_line::<1>(8, shards, line) {
+    match read_line::<1>(&of_shards(shards), line) {
         Ok(_) => false,
         Err(fault) => fault.number == number && fault.word == word,
     }

@@ -157,7 +157,7 @@ module _ (W : ℕ) (config : Config) (bytes output : List ℕ) (version : Conten
 
   -- ---- the line that ends the session
 
-  pub ended_line : (line : List ℕ) → asks_quit (reading config.bits config.shards line) ≡ true → (of_lines : List (List ℕ)) → of_lines ≡ ended_lines [] bytes ++ line ∷ []
+  pub ended_line : (line : List ℕ) → asks_quit (reading config line) ≡ true → (of_lines : List (List ℕ)) → of_lines ≡ ended_lines [] bytes ++ line ∷ []
       → (queries' : List (OpenQuery W)) → AllRead config (commits config standing.exchanges) queries' standing.state.queries → HasEnded config of_lines output (reads_of queries')
   ended_line line quits of_lines is queries' read =
       let run = solo_so_far.run in

@@ -9,6 +9,7 @@ use Rattle.hamming_model.specs.Codes.{bits_of, hex_code, padded, IsCode}
 use Rattle.query_protocol.specs.Words.{words, is_printable}
 use Rattle.query_protocol.specs.Forms.{key_of, radius_of, count_of, shard_of, code_of, tag_of, is_decimal}
 use Rattle.query_protocol.specs.Requests.{LineRequest, Add, Range, Next, Cost, Plan, Layout, Quit, request_word, add_of, range_of, next_of, cost_of, plan_of, layout_of, with_words, of_words, reading, stored_reading, bad}
+use Rattle.part_layout.specs.declared.config.Config.{Config}
 use Rattle.query_protocol.specs.declared.bad.Bad.{Bad}
 use Rattle.query_protocol.specs.declared.request.Request.{Request}
 use Rattle.query_protocol.specs.declared.request.Request.TheVariants as kept
@@ -222,45 +223,45 @@ layout_code : (bits shards : ℕ) (shard : Option ℕ) → HasCode bits (layout_
 layout_code bits shards None = tt
 layout_code bits shards (Some shard) = elim (nat_lt shard shards) as (λ t. HasCode bits (cond t (Ok (Some (Layout shard))) (Err (bad 6)))) [ true ↦ tt | false ↦ tt ]
 
-words_code : (bits shards : ℕ) → bits % 8 ≡ 0 → (word : Option RequestWord) (after : List (List ℕ)) → HasCode bits (with_words bits shards word after)
-words_code bits shards whole None after = tt
-words_code bits shards whole (Some AddWord) [] = tt
-words_code bits shards whole (Some AddWord) (key ∷ []) = tt
-words_code bits shards whole (Some AddWord) (key ∷ code ∷ []) =
-    add_code bits (key_of key) (code_of bits code) (code_if bits code whole (length code == bits / 4) (list_all (λ byte. nat_lt (digit_value byte) 16) code) refl)
-words_code bits shards whole (Some AddWord) (key ∷ code ∷ more ∷ rest) = tt
-words_code bits shards whole (Some RangeWord) [] = tt
-words_code bits shards whole (Some RangeWord) (tag ∷ []) = tt
-words_code bits shards whole (Some RangeWord) (tag ∷ tau ∷ []) = tt
-words_code bits shards whole (Some RangeWord) (tag ∷ tau ∷ code ∷ []) =
-    range_code bits (tag_of tag) (radius_of bits tau) (code_of bits code) (radius_if bits (digits_value 10 tau) (is_decimal 3 tau) (nat_le 0 (digits_value 10 tau)) (nat_le (digits_value 10 tau) bits) refl) (code_if bits code whole (length code == bits / 4) (list_all (λ byte. nat_lt (digit_value byte) 16) code) refl)
-words_code bits shards whole (Some RangeWord) (tag ∷ tau ∷ code ∷ more ∷ rest) = tt
-words_code bits shards whole (Some NextWord) [] = tt
-words_code bits shards whole (Some NextWord) (tag ∷ []) = tt
-words_code bits shards whole (Some NextWord) (tag ∷ count ∷ []) = next_code bits (tag_of tag) (count_of count)
-words_code bits shards whole (Some NextWord) (tag ∷ count ∷ more ∷ rest) = tt
-words_code bits shards whole (Some CostWord) [] = tt
-words_code bits shards whole (Some CostWord) (tag ∷ []) = cost_code bits (tag_of tag)
-words_code bits shards whole (Some CostWord) (tag ∷ more ∷ rest) = tt
-words_code bits shards whole (Some PlanWord) [] = tt
-words_code bits shards whole (Some PlanWord) (tag ∷ []) = tt
-words_code bits shards whole (Some PlanWord) (tag ∷ shard ∷ []) = plan_code bits shards (tag_of tag) (shard_of shard)
-words_code bits shards whole (Some PlanWord) (tag ∷ shard ∷ more ∷ rest) = tt
-words_code bits shards whole (Some LayoutWord) [] = tt
-words_code bits shards whole (Some LayoutWord) (shard ∷ []) = layout_code bits shards (shard_of shard)
-words_code bits shards whole (Some LayoutWord) (shard ∷ more ∷ rest) = tt
-words_code bits shards whole (Some QuitWord) [] = tt
-words_code bits shards whole (Some QuitWord) (more ∷ rest) = tt
+words_code : (config : Config) → config.bits % 8 ≡ 0 → (word : Option RequestWord) (after : List (List ℕ)) → HasCode config.bits (with_words config word after)
+words_code config whole None after = tt
+words_code config whole (Some AddWord) [] = tt
+words_code config whole (Some AddWord) (key ∷ []) = tt
+words_code config whole (Some AddWord) (key ∷ code ∷ []) =
+    add_code config.bits (key_of key) (code_of config.bits code) (code_if config.bits code whole (length code == config.bits / 4) (list_all (λ byte. nat_lt (digit_value byte) 16) code) refl)
+words_code config whole (Some AddWord) (key ∷ code ∷ more ∷ rest) = tt
+words_code config whole (Some RangeWord) [] = tt
+words_code config whole (Some RangeWord) (tag ∷ []) = tt
+words_code config whole (Some RangeWord) (tag ∷ tau ∷ []) = tt
+words_code config whole (Some RangeWord) (tag ∷ tau ∷ code ∷ []) =
+    range_code config.bits (tag_of tag) (radius_of config.bits tau) (code_of config.bits code) (radius_if config.bits (digits_value 10 tau) (is_decimal 3 tau) (nat_le 0 (digits_value 10 tau)) (nat_le (digits_value 10 tau) config.bits) refl) (code_if config.bits code whole (length code == config.bits / 4) (list_all (λ byte. nat_lt (digit_value byte) 16) code) refl)
+words_code config whole (Some RangeWord) (tag ∷ tau ∷ code ∷ more ∷ rest) = tt
+words_code config whole (Some NextWord) [] = tt
+words_code config whole (Some NextWord) (tag ∷ []) = tt
+words_code config whole (Some NextWord) (tag ∷ count ∷ []) = next_code config.bits (tag_of tag) (count_of count)
+words_code config whole (Some NextWord) (tag ∷ count ∷ more ∷ rest) = tt
+words_code config whole (Some CostWord) [] = tt
+words_code config whole (Some CostWord) (tag ∷ []) = cost_code config.bits (tag_of tag)
+words_code config whole (Some CostWord) (tag ∷ more ∷ rest) = tt
+words_code config whole (Some PlanWord) [] = tt
+words_code config whole (Some PlanWord) (tag ∷ []) = tt
+words_code config whole (Some PlanWord) (tag ∷ shard ∷ []) = plan_code config.bits config.shards (tag_of tag) (shard_of shard)
+words_code config whole (Some PlanWord) (tag ∷ shard ∷ more ∷ rest) = tt
+words_code config whole (Some LayoutWord) [] = tt
+words_code config whole (Some LayoutWord) (shard ∷ []) = layout_code config.bits config.shards (shard_of shard)
+words_code config whole (Some LayoutWord) (shard ∷ more ∷ rest) = tt
+words_code config whole (Some QuitWord) [] = tt
+words_code config whole (Some QuitWord) (more ∷ rest) = tt
 
-line_words_code : (bits shards : ℕ) → bits % 8 ≡ 0 → (all : List (List ℕ)) → HasCode bits (of_words bits shards all)
-line_words_code bits shards whole [] = tt
-line_words_code bits shards whole (word ∷ after) = words_code bits shards whole (request_word word) after
+line_words_code : (config : Config) → config.bits % 8 ≡ 0 → (all : List (List ℕ)) → HasCode config.bits (of_words config all)
+line_words_code config whole [] = tt
+line_words_code config whole (word ∷ after) = words_code config whole (request_word word) after
 
 chosen_code : (bits : ℕ) (test : Bool) (fault : Bad) (asked : Result (Option LineRequest) Bad) → HasCode bits asked → HasCode bits (cond test (Err fault) asked)
 chosen_code bits true fault asked h = tt
 chosen_code bits false fault asked h = h
 
-pub code_read : (bits shards : ℕ) → bits % 8 ≡ 0 → (line : List ℕ) → HasCode bits (reading bits shards line)
-code_read bits shards whole line =
-    chosen_code bits (nat_lt 4096 (length line)) (bad 1) _
-    (chosen_code bits (not (is_printable line)) (bad 2) (of_words bits shards (words line)) (line_words_code bits shards whole (words line)))
+pub code_read : (config : Config) → config.bits % 8 ≡ 0 → (line : List ℕ) → HasCode config.bits (reading config line)
+code_read config whole line =
+    chosen_code config.bits (nat_lt 4096 (length line)) (bad 1) _
+    (chosen_code config.bits (not (is_printable line)) (bad 2) (of_words config (words line)) (line_words_code config whole (words line)))

@@ -65,8 +65,8 @@ pub before_answered : (config : Config) (history : List JournalEntry) (s : State
     → (rest : List (List ℕ)) → before_quit config (map (λ (exchange : Exchange). exchange.line) exchanges ++ rest) ≡ map (λ (exchange : Exchange). exchange.line) exchanges ++ before_quit config rest
 before_answered config history s [] t run rest = refl
 before_answered config history s (exchange ∷ exchanges) t run rest =
-    let goes : asks_quit (reading config.bits config.shards exchange.line) ≡ false =
-    not_quit (reading config.bits config.shards exchange.line) config history s exchange.replies exchange.position run.0 run.1 in
+    let goes : asks_quit (reading config exchange.line) ≡ false =
+    not_quit (reading config exchange.line) config history s exchange.replies exchange.position run.0 run.1 in
     ap (λ b. cond b [] (exchange.line ∷ before_quit config (lines_of exchanges ++ rest))) goes
     ∙ ap (λ l. exchange.line ∷ l) (before_answered config history run.0 exchanges t run.2 rest)
 
@@ -74,11 +74,11 @@ pub quit_answered : (config : Config) (history : List JournalEntry) (s : State) 
     → (rest : List (List ℕ)) → has_quit config (map (λ (exchange : Exchange). exchange.line) exchanges ++ rest) ≡ has_quit config rest
 quit_answered config history s [] t run rest = refl
 quit_answered config history s (exchange ∷ exchanges) t run rest =
-    let goes : asks_quit (reading config.bits config.shards exchange.line) ≡ false =
-    not_quit (reading config.bits config.shards exchange.line) config history s exchange.replies exchange.position run.0 run.1 in
+    let goes : asks_quit (reading config exchange.line) ≡ false =
+    not_quit (reading config exchange.line) config history s exchange.replies exchange.position run.0 run.1 in
     ap (λ b. cond b true (has_quit config (lines_of exchanges ++ rest))) goes ∙ quit_answered config history run.0 exchanges t run.2 rest
 
-before_more_at : (config : Config) (line : List ℕ) (lines more : List (List ℕ)) (quits : Bool) → asks_quit (reading config.bits config.shards line) ≡ quits → has_quit config (line ∷ lines) ≡ true
+before_more_at : (config : Config) (line : List ℕ) (lines more : List (List ℕ)) (quits : Bool) → asks_quit (reading config line) ≡ quits → has_quit config (line ∷ lines) ≡ true
     → (has_quit config lines ≡ true → before_quit config (lines ++ more) ≡ before_quit config lines) → before_quit config ((line ∷ lines) ++ more) ≡ before_quit config (line ∷ lines)
 before_more_at config line lines more true is h go = rw is refl
 before_more_at config line lines more false is h go = rw is (ap (λ l. line ∷ l) (go (rw is at h)))
@@ -87,13 +87,13 @@ before_more_at config line lines more false is h go = rw is (ap (λ l. line ∷ 
 pub before_more : (config : Config) (lines more : List (List ℕ)) → has_quit config lines ≡ true → before_quit config (lines ++ more) ≡ before_quit config lines
 before_more config [] more h = cc
 before_more config (line ∷ lines) more h =
-    before_more_at config line lines more (asks_quit (reading config.bits config.shards line)) refl h (before_more config lines more)
+    before_more_at config line lines more (asks_quit (reading config line)) refl h (before_more config lines more)
 
-quit_more_at : (config : Config) (line : List ℕ) (lines more : List (List ℕ)) (quits : Bool) → asks_quit (reading config.bits config.shards line) ≡ quits → has_quit config (line ∷ lines) ≡ true
+quit_more_at : (config : Config) (line : List ℕ) (lines more : List (List ℕ)) (quits : Bool) → asks_quit (reading config line) ≡ quits → has_quit config (line ∷ lines) ≡ true
     → (has_quit config lines ≡ true → has_quit config (lines ++ more) ≡ true) → has_quit config ((line ∷ lines) ++ more) ≡ true
 quit_more_at config line lines more true is h go = rw is refl
 quit_more_at config line lines more false is h go = rw is (go (rw is at h))
 
 pub quit_more : (config : Config) (lines more : List (List ℕ)) → has_quit config lines ≡ true → has_quit config (lines ++ more) ≡ true
 quit_more config [] more h = cc
-quit_more config (line ∷ lines) more h = quit_more_at config line lines more (asks_quit (reading config.bits config.shards line)) refl h (quit_more config lines more)
+quit_more config (line ∷ lines) more h = quit_more_at config line lines more (asks_quit (reading config line)) refl h (quit_more config lines more)

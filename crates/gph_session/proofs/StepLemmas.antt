@@ -76,7 +76,7 @@ module _ (W : ℕ) (config : Config) (history : List JournalEntry) (s : State) (
     (line : List ℕ) (before after : Option (List ℕ)) where
   -- what the line asks
   abbrev asked_now : Result (Option LineRequest) Bad
-  asked_now = reading config.bits config.shards line
+  asked_now = reading config line
 
   -- a step that commits nothing
   quiet_by : (result : Result Turn Failed) (asked : Result (Option LineRequest) Bad) (replies : List Reply) (at : ℕ) (t : State) (version' : Contents) (queries' : List (OpenQuery W))
@@ -151,7 +151,7 @@ module _ (W : ℕ) (config : Config) (history : List JournalEntry) (s : State) (
     added_step added at version' result adds wrote =
         let kept = kept_add W asked_now key stored read in
         let code = kept.0 in
-        let is_code : IsCode config.bits code = subst (HasCode config.bits) kept.1 (code_read config.bits config.shards whole line) in
+        let is_code : IsCode config.bits code = subst (HasCode config.bits) kept.1 (code_read config whole line) in
         let entry : JournalEntry = record { who = 0; operation = journal.Add key code } in
         let exchange : Exchange = record { line = line; replies = reply.Added added at ∷ []; position = at } in
         let commit : commit_of config exchange ≡ entry ∷ [] = ap (λ r. committed 0 r (reply.Added added at ∷ [])) kept.1 in
@@ -259,7 +259,7 @@ module _ (W : ℕ) (config : Config) (history : List JournalEntry) (s : State) (
     opened_step opened at queries' result opens wrote =
         let kept = kept_range W asked_now tag tau stored read in
         let code = kept.0 in
-        let is_code : IsCode config.bits code = (subst (HasCode config.bits) kept.1 (code_read config.bits config.shards whole line)).0 in
+        let is_code : IsCode config.bits code = (subst (HasCode config.bits) kept.1 (code_read config whole line)).0 in
         let free : IsFree queries tag = opens.2 in
         let held = opens.4 in
         let begun : BeginsQuery version config.room tag tau stored held = opens.6 in

@@ -9,7 +9,8 @@ use Rattle.line_io.specs.Lines.{lines}
 use Rattle.gph_codes.specs.Allowed.{IsAllowed}
 use Rattle.part_layout.specs.declared.config.Config.{Config}
 use Rattle.part_layout.specs.Contiguous.{CanBeCut, contiguous, runs}
-use Rattle.command_line.specs.CommandWords.{IsConfig}
+use Rattle.part_layout.specs.Ranges.{IsConfig}
+use Rattle.command_line.specs.CommandWords.{IsPinned}
 use Rattle.shard_version.specs.Contents.{Contents}
 use Rattle.gph_session.specs.declared.open_query.OpenQuery.{OpenQuery}
 use Rattle.gph_session.specs.declared.outcome.Outcome.{Outcome}
@@ -62,12 +63,12 @@ parts_cut bits parts cut =
     let few = and_both (nat_le parts 64) (nat_le parts bits && nat_le bits (12 * parts)) some.1 in
     (leb-true 1 parts some.0, leb-true parts 64 few.0)
 
-pub is_ready : (W : ℕ) (config : Config) (version : Contents) → IsAllowed W config.bits → IsConfig config → version ≡ contents_of config [] → IsReady W config version
-is_ready W config version allowed is first = record {
+pub is_ready : (W : ℕ) (config : Config) (version : Contents) → IsAllowed W config.bits → IsConfig config → IsPinned config → version ≡ contents_of config [] → IsReady W config version
+is_ready W config version allowed is pinned first = record {
   allowed = allowed;
-  some_room = omega (arith, is.room_of_64);
-  small_room = omega (arith, is.room_of_64);
-  few_entries = omega (arith, is.all_entries);
+  some_room = omega (arith, pinned.room_of_64);
+  small_room = omega (arith, pinned.room_of_64);
+  few_entries = omega (arith, pinned.all_entries);
   one_shard = ap (λ (v : Contents). v.shards) first;
   laid = ap (λ (v : Contents). v.layout) first;
   few_parts = let cut = parts_cut config.bits config.parts is.cut in omega (arith, length_contiguous config.bits config.parts cut.0, cut.1);

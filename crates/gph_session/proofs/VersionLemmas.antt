@@ -15,12 +15,12 @@ use Rattle.hamming_model.specs.declared.hit.Hit.{Hit}
 use Rattle.hamming_model.proofs.RowLemmas.{rows_of_append}
 use Rattle.part_layout.specs.declared.config.Config.{Config}
 use Rattle.shard_version.specs.Contents.{Contents, after_entry}
-use Rattle.query_protocol.specs.Requests.{LineRequest, Add, Range, Next, Cost, Plan, Layout, Quit, stored_reading}
+use Rattle.query_protocol.specs.Requests.{IsFit, IsFitReading}
 use Rattle.query_protocol.specs.declared.bad.Bad.{Bad}
+use Rattle.query_protocol.specs.declared.request.Request.{Request}
 use Rattle.gph_session.specs.Ledger.{layout_of, IsPlanOf}
-use Rattle.gph_session.specs.Meaning.{contents_of, AsksOn, IsFit}
+use Rattle.gph_session.specs.Meaning.{contents_of, AsksOn}
 use Rattle.gph_session.specs.Changing.{own_code}
-use Rattle.gph_session.proofs.ReadingLemmas.{HasCode}
 
 -- ---- codes
 
@@ -102,13 +102,8 @@ asked_plan (ask.Near number code) config history a asks few = absurd asks
 
 -- ---- what a line asks, as words keep it
 
-pub fit_of : (W bits : ℕ) (asked : Result (Option LineRequest) Bad) → HasCode bits asked → IfOk (stored_reading W asked) (λ request. IfSome request (IsFit W bits))
-fit_of W bits (Err fault) h = tt
-fit_of W bits (Ok None) h = tt
-fit_of W bits (Ok (Some (Add key code))) h = padded_stands W bits code (padded (64 * W) code) h refl
-fit_of W bits (Ok (Some (Range tag tau code))) h = (padded_stands W bits code (padded (64 * W) code) h.0 refl, h.1)
-fit_of W bits (Ok (Some (Next tag count))) h = tt
-fit_of W bits (Ok (Some (Cost tag))) h = tt
-fit_of W bits (Ok (Some (Plan tag shard))) h = tt
-fit_of W bits (Ok (Some (Layout shard))) h = tt
-fit_of W bits (Ok (Some Quit)) h = tt
+-- what is read is fit
+pub fit_of : (W bits : ℕ) (given : Result (Option (Request W)) Bad) → IsFitReading W bits given → IfOk given (λ asked. IfSome asked (IsFit W bits))
+fit_of W bits (Err fault) fit = tt
+fit_of W bits (Ok None) fit = tt
+fit_of W bits (Ok (Some request)) fit = fit

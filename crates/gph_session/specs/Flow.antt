@@ -57,7 +57,7 @@ FlowIs (Err failed) W config bytes output version queries held = IsRefused confi
 abbrev pub TurnIs : Result Turn Failed → (W : ℕ) → Config → List JournalEntry → State → List ℕ → Option (List ℕ) → Option (List ℕ) → Contents → List (OpenQuery W) → Type 0
 TurnIs (Ok Goes) W config history s line before after version queries = OneStep {A = Turn} W config history s line before after (Ok Goes) version queries
 TurnIs (Ok Quits) W config history s line before after version queries =
-    (asks_quit (reading config.bits config.shards line) ≡ true) × Appends before after [] × AllRead config history queries s.queries
+    (asks_quit (reading config line) ≡ true) × Appends before after [] × AllRead config history queries s.queries
 TurnIs (Err failed) W config history s line before after version queries = OneStep {A = Turn} W config history s line before after (Err failed) version queries
 
 -- how the session ends where the input does

@@ -1,7 +1,6 @@
 -- How the session's fields mean a state. No public clause cites this module.
 use Rattle.std.specs.Prelude.{◌≡◌, ℕ, ◌≤◌, true, List, [], ◌∷◌, length, take}
 use Rattle.hamming_model.specs.Stored.{AreCodes}
-use Rattle.hamming_model.specs.Codes.{StandsFor}
 use Rattle.hamming_model.specs.History.{JournalEntry, rows_of}
 use Rattle.hamming_model.specs.Scan.{Ask}
 use Rattle.hamming_model.specs.Scan as ask
@@ -11,13 +10,10 @@ use Rattle.shard_query.specs.Opening.{AsksRange}
 use Rattle.part_layout.specs.declared.config.Config.{Config}
 use Rattle.part_layout.specs.Laid.{Laid}
 use Rattle.gph_codes.specs.Allowed.{IsAllowed}
-use Rattle.query_protocol.specs.declared.request.Request.{Request}
-use Rattle.query_protocol.specs.declared.request.Request.TheVariants as kept
 use Rattle.gph_session.specs.declared.open_query.OpenQuery.{OpenQuery}
 use Rattle.gph_session.specs.State.{Query, State}
 use Rattle.gph_session.specs.Ledger.{layout_of, IsBound}
 use Rattle.gph_session.specs.Held.{asked_of, standing_of}
-use Rattle.gph_session.specs.Changing.{own_code}
 
 -- the layout of a session's versions
 abbrev pub laid_of : Config → Laid
@@ -77,12 +73,6 @@ pub record Means (W : ℕ) (config : Config) (version : Contents) (queries : Lis
   pub keep : AllKeep config history queries s.queries
   pub position : s.position ≡ length history
   pub who : s.who ≡ 0
-
--- a request's code stands for one of so many bits, and its radius is at most that
-abbrev pub IsFit : (W bits : ℕ) → Request W → Type 0
-IsFit W bits (kept.Add key stored) = StandsFor W bits stored (own_code bits stored)
-IsFit W bits (kept.Range tag tau stored) = StandsFor W bits stored (own_code bits stored) × (tau ≤ bits)
-IsFit W bits other = Unit {0}
 
 -- what a session was asked to be fits its words, and its version has the one shard's layout
 pub record IsReady (W : ℕ) (config : Config) (version : Contents) : Type 0 where

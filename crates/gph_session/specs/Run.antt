@@ -25,7 +25,7 @@ committed who asked replies = []
 
 -- the entry that an exchange of session 0 committed, if it did
 abbrev pub commit_of : Config → Exchange → List JournalEntry
-commit_of config exchange = committed 0 (reading config.bits config.shards exchange.line) exchange.replies
+commit_of config exchange = committed 0 (reading config exchange.line) exchange.replies
 
 -- all that the exchanges committed
 abbrev pub commits : Config → List Exchange → List JournalEntry
@@ -77,9 +77,9 @@ asks_quit asked = false
 -- the lines before the first that ends the session
 abbrev pub before_quit : Config → List (List ℕ) → List (List ℕ)
 before_quit config [] = []
-before_quit config (line ∷ lines) = if asks_quit (reading config.bits config.shards line) then [] else line ∷ before_quit config lines
+before_quit config (line ∷ lines) = if asks_quit (reading config line) then [] else line ∷ before_quit config lines
 
 -- one of the lines ends the session
 abbrev pub has_quit : Config → List (List ℕ) → Bool
 has_quit config [] = false
-has_quit config (line ∷ lines) = if asks_quit (reading config.bits config.shards line) then true else has_quit config lines
+has_quit config (line ∷ lines) = if asks_quit (reading config line) then true else has_quit config lines

@@ -39,4 +39,4 @@ Answers (Ok (Some Quit)) config history s replies at t = ⊥
 
 -- one step of a session as it was asked to be, in a history
 abbrev pub Step : Config → List JournalEntry → State → Exchange → State → Type 0
-Step config history s exchange t = Answers (reading config.bits config.shards exchange.line) config history s exchange.replies exchange.position t
+Step config history s exchange t = Answers (reading config exchange.line) config history s exchange.replies exchange.position t

@@ -3,13 +3,13 @@
 ghost use Rattle.std.specs.Prelude.{◌≡◌, ◌*◌, ◌+◌, ◌≤◌, ℕ, List, [], ◌∷◌, IfOk, IfSome, Some, Ok};
 ghost use Rattle.std.specs.Arc.{arc_value};
 ghost use Rattle.hamming_model.specs.History.{JournalEntry};
-ghost use Rattle.query_protocol.specs.Requests.{reading, stored_reading};
+ghost use Rattle.query_protocol.specs.Requests.{reading, stored_reading, IsFit};
 ghost use Rattle.line_io.specs.Kept.{kept, TellsOf};
 ghost use Rattle.gph_codes.specs.Allowed.{IsAllowed};
-ghost use Rattle.command_line.specs.CommandWords.{IsConfig};
+ghost use Rattle.part_layout.specs.Ranges.{IsConfig};
 ghost use Rattle.gph_session.specs.State.{State};
 ghost use Rattle.gph_session.specs.Held.{reads_of};
-ghost use Rattle.gph_session.specs.Meaning.{Means, IsReady, IsFit, contents_of, laid_of};
+ghost use Rattle.gph_session.specs.Meaning.{Means, IsReady, contents_of, laid_of};
 ghost use Rattle.gph_session.specs.Writing.{IsCaused};
 ghost use Rattle.gph_session.specs.Flow.{TurnIs};
 
@@ -137,12 +137,7 @@ pub(crate) fn answer<const W: usize, K: Sink, L>(
     ensures ledger { steps.new + reads_of session.old.queries.items ≡ steps.old + reads_of session.new.queries.items }
     ensures cause { IsCaused (K.faults sink.old) (K.faults sink.new) result }
 {
-    match read_cut(
-        session.config.bits,
-        session.config.shards,
-        &session.cutter,
-        cut,
-    ) {
+    match read_cut(&session.config, &session.cutter, cut) {
         Err(fault) => say(&mut session.out, sink, &Reply::Bad(fault)),
         Ok(None) => Ok(Turn::Goes),
         Ok(Some(request)) => meet(session, request, sink, steps),
@@ -161,7 +156,7 @@ fn meet<const W: usize, K: Sink, L>(
     requires fit { IsFit W session.old.config.bits request }
     ensures answers { (history : List JournalEntry) (s : State) →
         Means W session.old.config (arc_value session.old.version).contents session.old.queries.items history s →
-        (line : List ℕ) → Ok (Some request.entry) ≡ stored_reading W (reading session.old.config.bits session.old.config.shards line) →
+        (line : List ℕ) → Ok (Some request.entry) ≡ stored_reading W (reading session.old.config line) →
         TurnIs result W session.old.config history s line (K.held sink.old) (K.held sink.new) (arc_value session.new.version).contents session.new.queries.items }
     ensures cutter { session.new.cutter ≡ session.old.cutter }
     ensures ready { IsReady W session.new.config (arc_value session.new.version).contents }
@@ -187,10 +182,10 @@ fn meet<const W: usize, K: Sink, L>(
             );
             say(&mut session.out, sink, &reply)
         }
-        Request::Next { tag, count } => give(
+        Request::Next { tag, n } => give(
             &mut session.queries,
             &tag,
-            count,
+            n,
             &mut session.out,
             sink,
             steps,
@@ -213,18 +208,17 @@ fn meet<const W: usize, K: Sink, L>(
 
 // What the line that was cut last asks.
 fn read_cut<const W: usize>(
-    bits: u32,
-    shards: u32,
+    config: &Config,
     cutter: &Cutter,
     cut: Cut,
 ) -> Result<Option<Request<W>>, Bad>
     requires few_words { W ≤ 8 }
-    requires allowed { IsAllowed W bits }
-    ensures reads { (line : List ℕ) → TellsOf (Some cut) cutter.now.line (line ∷ []) → result ≡ stored_reading W (reading bits shards line) }
-    ensures fit { IfOk result (λ asked. IfSome asked (IsFit W bits)) }
+    requires allowed { IsAllowed W config.now.bits }
+    ensures reads { (line : List ℕ) → TellsOf (Some cut) cutter.now.line (line ∷ []) → result ≡ stored_reading W (reading config.now line) }
+    ensures fit { IfOk result (λ asked. IfSome asked (IsFit W config.now.bits)) }
 {
     match cut {
-        Cut::Line => read_line(bits, shards, cutter.line()),
+        Cut::Line => read_line(config, cutter.line()),
         Cut::Long => Err(Bad::line_too_long()),
     }
 }

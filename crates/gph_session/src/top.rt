@@ -2,7 +2,8 @@
 
 ghost use Rattle.std.specs.Prelude.{◌≡◌, ℕ, ◌↔◌, ◌≤◌, map, string_bytes, Err};
 ghost use Rattle.gph_codes.specs.Allowed.{IsAllowed};
-ghost use Rattle.command_line.specs.CommandWords.{IsConfig, asked};
+ghost use Rattle.part_layout.specs.Ranges.{IsConfig};
+ghost use Rattle.command_line.specs.CommandWords.{IsPinned, asked};
 ghost use Rattle.gph_session.specs.Outcomes.{Untouched, IsDone, IsReadFault, IsWriteFault, IsInputLimit, ServesAs, ForConfig, IsComplete, IsUnread, ends};
 
 use crate::Outcome;
@@ -62,7 +63,8 @@ fn serve_any<S: Source, K: Sink, L>(
     sink: &mut K,
     meters: &mut Meters<L>,
 ) -> Outcome
-    requires { IsConfig config.now }
+    requires config { IsConfig config.now }
+    requires pinned { IsPinned config.now }
     ensures { ServesAs result config.now
         (ends (S.left source.old) (S.faults source.old)) (ends (S.left source.new) (S.faults source.new))
         (ends (K.held sink.old) (K.faults sink.old)) (ends (K.held sink.new) (K.faults sink.new)) meters.old meters.new }
@@ -81,6 +83,7 @@ fn serve_width<const W: usize, S: Source, K: Sink, L>(
     requires few_words { W ≤ 8 }
     requires allowed { IsAllowed W config.now.bits }
     requires config { IsConfig config.now }
+    requires pinned { IsPinned config.now }
     ensures { ServesAs result config.now
         (ends (S.left source.old) (S.faults source.old)) (ends (S.left source.new) (S.faults source.new))
         (ends (K.held sink.old) (K.faults sink.old)) (ends (K.held sink.new) (K.faults sink.new)) meters.old meters.new }

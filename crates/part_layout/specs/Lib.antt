@@ -3,5 +3,6 @@ pub mod Faults
 pub mod Grammar
 pub mod Inside
 pub mod Laid
+pub mod Ranges
 pub mod ReadOn
 pub mod Text

@@ -13,7 +13,7 @@ mod pieces;
 mod spelling;
 mod syntax;
 
-pub use config::Config;
+pub use config::{Config, INPUT_MOST};
 pub use laws::text_of_layouts;
 pub use layout::Layout;
 pub use layout_fault::LayoutFault;

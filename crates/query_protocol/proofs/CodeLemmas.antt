@@ -1,11 +1,12 @@
 -- A word as a code: the two ways to say that it has the form.
-use Rattle.std.proofs.Common.{◌≡◌, ℕ, ◌*◌, ◌/◌, ◌==◌, ◌&&◌, nat_lt, Bool, true, false, List, length, All, Some, None, option_map, refl, ap}
+use Rattle.std.proofs.Common.{◌≡◌, ℕ, ◌*◌, ◌/◌, ◌==◌, ◌&&◌, nat_lt, Bool, true, false, ◌-◌, List, length, take, replicate, All, Some, None, refl, sym, ap, subst, ◌∙◌}
 use Rattle.std.proofs.lemmas.Bool.Decides.{Decides-and, Decides-eqb, Decides-ltb, Decides-like, Decides-by_and}
+use Rattle.std.proofs.lemmas.List.{take_at}
 use Rattle.std.specs.Bool.{Decides}
 use Rattle.std.specs.Char.{digit_value}
 use Rattle.std.specs.List.{list_all}
 use Rattle.gph_codes.specs.Digits.{IsSpelled, IsHexDigit}
-use Rattle.hamming_model.specs.Codes.{hex_code, padded}
+use Rattle.hamming_model.specs.Codes.{hex_code, StandsFor}
 use Rattle.query_protocol.specs.Forms.{code_of}
 
 -- the test of the form
@@ -27,15 +28,24 @@ is_false : (test : Bool) → (test ≡ true → ⊥) → test ≡ false
 is_false true never = absurd (never refl)
 is_false false never = refl
 
+-- the first bits of what keeps a code are the code
+first_bits : (words bits : ℕ) (kept code : List ℕ) → StandsFor words bits kept code → take bits kept ≡ code
+first_bits words bits kept code stands =
+    ap (take bits) stands.is_padded ∙ take_at code (replicate (64 * words - length code) 0) bits stands.is_code.size
+
+-- so what keeps a code stands for its own first bits
+pub stands_for_own : (words bits : ℕ) (kept code : List ℕ) → StandsFor words bits kept code → StandsFor words bits kept (take bits kept)
+stands_for_own words bits kept code stands = subst (StandsFor words bits kept) (sym (first_bits words bits kept code stands)) stands
+
 -- a word that spells a code, with the code as words keep it
-pub kept_code : (words bits : ℕ) (word kept : List ℕ) → IsSpelled bits word → kept ≡ padded (64 * words) (hex_code word)
-    → Some kept ≡ option_map (padded (64 * words)) (code_of bits word)
-kept_code words bits word kept spelled same =
-    let passed : spells bits word ≡ true = (spells_tells bits word).1 spelled in rw passed (ap (λ code. Some code) same)
+pub kept_code : (words bits : ℕ) (word kept : List ℕ) → IsSpelled bits word → StandsFor words bits kept (hex_code word)
+    → Some (take bits kept) ≡ code_of bits word
+kept_code words bits word kept spelled stands =
+    let passed : spells bits word ≡ true = (spells_tells bits word).1 spelled in
+    rw passed (ap (λ code. Some code) (first_bits words bits kept (hex_code word) stands))
 
 -- a word that spells none
-pub no_code : (words bits : ℕ) (word : List ℕ) → (IsSpelled bits word → ⊥)
-    → None ≡ option_map (padded (64 * words)) (code_of bits word)
-no_code words bits word never =
+pub no_code : (bits : ℕ) (word : List ℕ) → (IsSpelled bits word → ⊥) → None ≡ code_of bits word
+no_code bits word never =
     let failed : spells bits word ≡ false = is_false (spells bits word) (λ passed. never ((spells_tells bits word).0 passed)) in
     rw failed

@@ -2,5 +2,6 @@ pub mod CodeLemmas
 pub mod FeedLemmas
 pub mod FormLemmas
 pub mod JoinedLemmas
+pub mod ReadingLemmas
 pub mod ThresholdLemmas
 pub mod WordLemmas

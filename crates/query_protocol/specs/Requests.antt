@@ -1,7 +1,8 @@
 -- What a line asks, or its first fault. Codes here have just their own bits.
-use Rattle.std.specs.Prelude.{ℕ, ◌*◌, not, nat_lt, if◌then◌else◌, List, [], ◌∷◌, length, codes, Option, Some, None, Result, Ok, Err}
+use Rattle.std.specs.Prelude.{◌≡◌, ℕ, ◌*◌, ◌≤◌, not, nat_lt, if◌then◌else◌, List, [], ◌∷◌, length, take, codes, Option, Some, None, Result, Ok, Err}
 use Rattle.std.specs.Str.{bytes_eq}
-use Rattle.hamming_model.specs.Codes.{padded}
+use Rattle.hamming_model.specs.Codes.{padded, StandsFor}
+use Rattle.part_layout.specs.declared.config.Config.{Config}
 use Rattle.query_protocol.specs.Words.{words, is_printable}
 use Rattle.query_protocol.specs.Forms.{key_of, radius_of, count_of, code_of, shard_of, tag_of}
 use Rattle.query_protocol.specs.declared.bad.Bad.{Bad}
@@ -19,6 +20,10 @@ pub data LineRequest : Type 0 where
   Plan : List ℕ → ℕ → LineRequest
   Layout : ℕ → LineRequest
   Quit : LineRequest
+
+-- what a line is read as: a request, nothing, or its first fault
+abbrev pub LineReading : Type 0
+LineReading = Result (Option LineRequest) Bad
 
 -- the request word that a word is
 abbrev pub request_word : List ℕ → Option RequestWord
@@ -40,76 +45,141 @@ abbrev pub bad_word : ℕ → Bad
 bad_word place = record { number = 5; word = place }
 
 -- a key and a code, each where its word has the form
-abbrev pub add_of : Option ℕ → Option (List ℕ) → Result (Option LineRequest) Bad
+abbrev pub add_of : Option ℕ → Option (List ℕ) → LineReading
 add_of None code = Err (bad_word 2)
 add_of (Some key) None = Err (bad_word 3)
 add_of (Some key) (Some code) = Ok (Some (Add key code))
 
 -- a tag, a radius and a code
-abbrev pub range_of : Option (List ℕ) → Option ℕ → Option (List ℕ) → Result (Option LineRequest) Bad
+abbrev pub range_of : Option (List ℕ) → Option ℕ → Option (List ℕ) → LineReading
 range_of None tau code = Err (bad_word 2)
 range_of (Some tag) None code = Err (bad_word 3)
 range_of (Some tag) (Some tau) None = Err (bad_word 4)
 range_of (Some tag) (Some tau) (Some code) = Ok (Some (Range tag tau code))
 
 -- a tag and how many hits
-abbrev pub next_of : Option (List ℕ) → Option ℕ → Result (Option LineRequest) Bad
-next_of None count = Err (bad_word 2)
+abbrev pub next_of : Option (List ℕ) → Option ℕ → LineReading
+next_of None n = Err (bad_word 2)
 next_of (Some tag) None = Err (bad_word 3)
-next_of (Some tag) (Some count) = Ok (Some (Next tag count))
+next_of (Some tag) (Some n) = Ok (Some (Next tag n))
 
 -- a tag
-abbrev pub cost_of : Option (List ℕ) → Result (Option LineRequest) Bad
+abbrev pub cost_of : Option (List ℕ) → LineReading
 cost_of None = Err (bad_word 2)
 cost_of (Some tag) = Ok (Some (Cost tag))
 
 -- a tag and a shard, which has to be one of so many
-abbrev pub plan_of : ℕ → Option (List ℕ) → Option ℕ → Result (Option LineRequest) Bad
+abbrev pub plan_of : ℕ → Option (List ℕ) → Option ℕ → LineReading
 plan_of shards None shard = Err (bad_word 2)
 plan_of shards (Some tag) None = Err (bad_word 3)
 plan_of shards (Some tag) (Some shard) = if nat_lt shard shards then Ok (Some (Plan tag shard)) else Err (bad 6)
 
 -- a shard, which has to be one of so many
-abbrev pub layout_of : ℕ → Option ℕ → Result (Option LineRequest) Bad
+abbrev pub layout_of : ℕ → Option ℕ → LineReading
 layout_of shards None = Err (bad_word 2)
 layout_of shards (Some shard) = if nat_lt shard shards then Ok (Some (Layout shard)) else Err (bad 6)
 
+-- the words after `add`
+abbrev pub add_asked : ℕ → List (List ℕ) → LineReading
+add_asked bits (key ∷ code ∷ []) = add_of (key_of key) (code_of bits code)
+add_asked bits after = Err (bad 4)
+
+-- the words after `range`
+abbrev pub range_asked : ℕ → List (List ℕ) → LineReading
+range_asked bits (tag ∷ tau ∷ code ∷ []) = range_of (tag_of tag) (radius_of bits tau) (code_of bits code)
+range_asked bits after = Err (bad 4)
+
+-- the words after `next`
+abbrev pub next_asked : List (List ℕ) → LineReading
+next_asked (tag ∷ n ∷ []) = next_of (tag_of tag) (count_of n)
+next_asked after = Err (bad 4)
+
+-- the words after `cost`
+abbrev pub cost_asked : List (List ℕ) → LineReading
+cost_asked (tag ∷ []) = cost_of (tag_of tag)
+cost_asked after = Err (bad 4)
+
+-- the words after `plan`
+abbrev pub plan_asked : ℕ → List (List ℕ) → LineReading
+plan_asked shards (tag ∷ shard ∷ []) = plan_of shards (tag_of tag) (shard_of shard)
+plan_asked shards after = Err (bad 4)
+
+-- the words after `layout`
+abbrev pub layout_asked : ℕ → List (List ℕ) → LineReading
+layout_asked shards (shard ∷ []) = layout_of shards (shard_of shard)
+layout_asked shards after = Err (bad 4)
+
+-- the words after `quit`
+abbrev pub quit_asked : List (List ℕ) → LineReading
+quit_asked [] = Ok (Some Quit)
+quit_asked after = Err (bad 4)
+
 -- a request word with the words after it
-abbrev pub with_words : ℕ → ℕ → Option RequestWord → List (List ℕ) → Result (Option LineRequest) Bad
-with_words bits shards None after = Err (bad 3)
-with_words bits shards (Some AddWord) (key ∷ code ∷ []) = add_of (key_of key) (code_of bits code)
-with_words bits shards (Some RangeWord) (tag ∷ tau ∷ code ∷ []) =
-    range_of (tag_of tag) (radius_of bits tau) (code_of bits code)
-with_words bits shards (Some NextWord) (tag ∷ count ∷ []) = next_of (tag_of tag) (count_of count)
-with_words bits shards (Some CostWord) (tag ∷ []) = cost_of (tag_of tag)
-with_words bits shards (Some PlanWord) (tag ∷ shard ∷ []) = plan_of shards (tag_of tag) (shard_of shard)
-with_words bits shards (Some LayoutWord) (shard ∷ []) = layout_of shards (shard_of shard)
-with_words bits shards (Some QuitWord) [] = Ok (Some Quit)
-with_words bits shards (Some word) after = Err (bad 4)
+abbrev pub with_words : Config → Option RequestWord → List (List ℕ) → LineReading
+with_words config None after = Err (bad 3)
+with_words config (Some AddWord) after = add_asked config.bits after
+with_words config (Some RangeWord) after = range_asked config.bits after
+with_words config (Some NextWord) after = next_asked after
+with_words config (Some CostWord) after = cost_asked after
+with_words config (Some PlanWord) after = plan_asked config.shards after
+with_words config (Some LayoutWord) after = layout_asked config.shards after
+with_words config (Some QuitWord) after = quit_asked after
 
 -- the words of a line: a line with no word asks nothing
-abbrev pub of_words : ℕ → ℕ → List (List ℕ) → Result (Option LineRequest) Bad
-of_words bits shards [] = Ok None
-of_words bits shards (word ∷ after) = with_words bits shards (request_word word) after
+abbrev pub of_words : Config → List (List ℕ) → LineReading
+of_words config [] = Ok None
+of_words config (word ∷ after) = with_words config (request_word word) after
 
--- a line, where codes have so many bits and there are so many shards: a request, nothing, or its first fault
-abbrev pub reading : ℕ → ℕ → List ℕ → Result (Option LineRequest) Bad
-reading bits shards line =
+-- a line: a request, nothing, or its first fault
+abbrev pub reading : Config → List ℕ → LineReading
+reading config line =
     if nat_lt 4096 (length line) then Err (bad 1) else
-    if not (is_printable line) then Err (bad 2) else of_words bits shards (words line)
+    if not (is_printable line) then Err (bad 2) else of_words config (words line)
 
 -- a request with its code as W words of 64 bits keep it
 abbrev pub stored : (W : ℕ) → LineRequest → Request W
 stored W (Add key code) = kept.Add key (padded (64 * W) code)
 stored W (Range tag tau code) = kept.Range tag tau (padded (64 * W) code)
-stored W (Next tag count) = kept.Next tag count
+stored W (Next tag n) = kept.Next tag n
 stored W (Cost tag) = kept.Cost tag
 stored W (Plan tag shard) = kept.Plan tag shard
 stored W (Layout shard) = kept.Layout shard
 stored W Quit = kept.Quit
 
 -- a reading with its code so
-abbrev pub stored_reading : (W : ℕ) → Result (Option LineRequest) Bad → Result (Option (Request W)) Bad
+abbrev pub stored_reading : (W : ℕ) → LineReading → Result (Option (Request W)) Bad
 stored_reading W (Ok None) = Ok None
 stored_reading W (Ok (Some request)) = Ok (Some (stored W request))
 stored_reading W (Err fault) = Err fault
+
+-- what a request asks, its code cut to so many bits
+abbrev pub unstored : {W : ℕ} → ℕ → Request W → LineRequest
+unstored bits (kept.Add key stored) = Add key (take bits stored)
+unstored bits (kept.Range tag tau stored) = Range tag tau (take bits stored)
+unstored bits (kept.Next tag n) = Next tag n
+unstored bits (kept.Cost tag) = Cost tag
+unstored bits (kept.Plan tag shard) = Plan tag shard
+unstored bits (kept.Layout shard) = Layout shard
+unstored bits kept.Quit = Quit
+
+-- a reading with its code so
+abbrev pub unstored_reading : {W : ℕ} → ℕ → Result (Option (Request W)) Bad → LineReading
+unstored_reading bits (Ok None) = Ok None
+unstored_reading bits (Ok (Some request)) = Ok (Some (unstored bits request))
+unstored_reading bits (Err fault) = Err fault
+
+-- a request's code stands for one of so many bits, and its radius is at most that
+abbrev pub IsFit : (W bits : ℕ) → Request W → Type 0
+IsFit W bits (kept.Add key stored) = StandsFor W bits stored (take bits stored)
+IsFit W bits (kept.Range tag tau stored) = StandsFor W bits stored (take bits stored) × (tau ≤ bits)
+IsFit W bits other = Unit {0}
+
+-- what is asked is fit, where anything is
+abbrev pub IsFitReading : (W bits : ℕ) → Result (Option (Request W)) Bad → Type 0
+IsFitReading W bits (Ok (Some request)) = IsFit W bits request
+IsFitReading W bits other = Unit {0}
+
+-- what is given is what a line asks, and its code is kept as such codes are
+pub record ReadsAs (W bits : ℕ) (given : Result (Option (Request W)) Bad) (line : LineReading) : Type 0 where
+  pub asked : unstored_reading bits given ≡ line
+  pub fit : IsFitReading W bits given

@@ -1,10 +1,10 @@
 //! The forms of words: what a word stands for, where it has the form.
 
-ghost use Rattle.std.specs.Prelude.{◌≡◌, ℕ, ◌≤◌, ◌<◌, ◌*◌, ◌^◌, nat_lt, length, option_map, IsTrue};
+ghost use Rattle.std.specs.Prelude.{◌≡◌, ℕ, ◌≤◌, nat_lt, length, take, option_map, IfSome, IsTrue};
 ghost use Rattle.std.specs.List.{list_all};
 ghost use Rattle.std.specs.Char.{digit_value};
 ghost use Rattle.std.specs.Str.Parse.{digits_value, AllDigits};
-ghost use Rattle.hamming_model.specs.Codes.{padded};
+ghost use Rattle.hamming_model.specs.Codes.{StandsFor};
 ghost use Rattle.gph_codes.specs.Allowed.{IsAllowed};
 ghost use Rattle.query_protocol.specs.Forms.{is_decimal, number_of, key_of, radius_of, count_of, code_of, shard_of, is_letter_or_digit, is_tag};
 ghost use Rattle.query_protocol.specs.declared.tag.TheConstants.{TAG_MOST};
@@ -15,7 +15,8 @@ use gph_codes::Code;
 /// The number that one to so many decimal digits write, where it is from `least` to `greatest`.
 pub fn number_of(digits: usize, least: u64, greatest: u64, word: &[u8]) -> Option<u64>
     requires { digits ≤ 20 }
-    ensures { result ≡ number_of digits least greatest word.now }
+    ensures value { result ≡ number_of digits least greatest word.now }
+    ensures within { IfSome result (λ number. number ≤ greatest) }
 {
     if !is_decimal(digits, word) {
         return None;
@@ -37,7 +38,8 @@ pub(crate) fn key_of(word: &[u8]) -> Option<u64>
 
 /// A radius of codes of so many bits.
 pub(crate) fn radius_of(bits: u32, word: &[u8]) -> Option<u32>
-    ensures { result ≡ radius_of bits word.now }
+    ensures value { result ≡ radius_of bits word.now }
+    ensures within { IfSome result (λ radius. radius ≤ bits) }
 {
     match number_of(3, 0, u64::from(bits), word) {
         None => None,
@@ -89,7 +91,8 @@ fn are_letters_or_digits(word: &[u8]) -> bool
 pub(crate) fn code_of<const W: usize>(bits: u32, word: &[u8]) -> Option<Code<W>>
     requires few_words { W ≤ 8 }
     requires allowed { IsAllowed W bits }
-    ensures { result ≡ option_map (padded (64 * W)) (code_of bits word.now) }
+    ensures value { option_map (take bits) result ≡ code_of bits word.now }
+    ensures fit { IfSome result (λ code. StandsFor W bits code (take bits code)) }
 {
     match Code::from_hex(bits, word) {
         Ok(code) => Some(code),

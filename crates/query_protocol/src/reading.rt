@@ -1,74 +1,65 @@
 //! A line as a request.
 
-ghost use Rattle.std.specs.Prelude.{◌≡◌, ℕ, ◌≤◌, Some, length};
+ghost use Rattle.std.specs.Prelude.{◌≡◌, ℕ, ◌≤◌, length};
 ghost use Rattle.gph_codes.specs.Allowed.{IsAllowed};
 ghost use Rattle.line_io.specs.declared.cutter.TheConstants.{LINE_MOST};
 ghost use Rattle.query_protocol.specs.Words.{words};
-ghost use Rattle.query_protocol.specs.Requests.{reading, of_words, stored_reading, request_word, with_words};
-ghost use Rattle.query_protocol.specs.declared.request.RequestWord.TheVariants.{AddWord, RangeWord, NextWord, CostWord, PlanWord, LayoutWord, QuitWord};
+ghost use Rattle.query_protocol.specs.Requests.{reading, of_words, stored_reading, request_word, with_words, add_asked, range_asked, next_asked, cost_asked, plan_asked, layout_asked, quit_asked, ReadsAs};
 
 use crate::forms::{code_of, count_of, key_of, radius_of, shard_of};
 use crate::words::{is_printable, next_word};
 use crate::{Bad, Request, RequestWord, Tag};
+use part_layout::Config;
 
-/// What a line asks, where codes have `bits` bits and there are `shards` shards, 1 to 16: None where the
-/// line has no word, else a request or the line's first fault. The line comes without its end; for a
-/// longer one see `Bad::line_too_long`.
+/// What a line asks of a server that was asked for so: None where the line has no word, else a request or the
+/// line's first fault. The line comes without its end; for a longer one see `Bad::line_too_long`.
 ///
 /// The faults, each judged where none before it was found: 2, a byte is no printable ASCII; 3, the first
 /// word is no request word; 4, the request has another number of words; 5, a word is not of its form;
 /// 6, there is no shard of this number.
-pub fn read_line<const W: usize>(
-    bits: u32,
-    shards: u32,
-    line: &[u8],
-) -> Result<Option<Request<W>>, Bad>
+pub fn read_line<const W: usize>(config: &Config, line: &[u8]) -> Result<Option<Request<W>>, Bad>
     requires few_words { W ≤ 8 }
-    requires allowed { IsAllowed W bits }
+    requires allowed { IsAllowed W config.now.bits }
     requires short { length line.now ≤ LINE_MOST }
-    ensures { result ≡ stored_reading W (reading bits shards line.now) }
+    ensures reads { ReadsAs W config.now.bits result (reading config.now line.now) }
+    ensures stored { result ≡ stored_reading W (reading config.now line.now) }
 {
     if !is_printable(line) {
         return Err(Bad::of_line(2));
     }
-    read_words(bits, shards, line)
+    read_words(config, line)
 }
 
 // The words of a line.
-fn read_words<const W: usize>(
-    bits: u32,
-    shards: u32,
-    line: &[u8],
-) -> Result<Option<Request<W>>, Bad>
+fn read_words<const W: usize>(config: &Config, line: &[u8]) -> Result<Option<Request<W>>, Bad>
     requires few_words { W ≤ 8 }
-    requires allowed { IsAllowed W bits }
-    ensures { result ≡ stored_reading W (of_words bits shards (words line.now)) }
+    requires allowed { IsAllowed W config.now.bits }
+    ensures { ReadsAs W config.now.bits result (of_words config.now (words line.now)) }
 {
     match next_word(line) {
         None => Ok(None),
-        Some((word, after)) => read_after(bits, shards, request_word(word), after),
+        Some((word, after)) => read_after(config, request_word(word), after),
     }
 }
 
 // A request word and the words after it.
 fn read_after<const W: usize>(
-    bits: u32,
-    shards: u32,
+    config: &Config,
     word: Option<RequestWord>,
     after: &[u8],
 ) -> Result<Option<Request<W>>, Bad>
     requires few_words { W ≤ 8 }
-    requires allowed { IsAllowed W bits }
-    ensures { result ≡ stored_reading W (with_words bits shards word (words after.now)) }
+    requires allowed { IsAllowed W config.now.bits }
+    ensures { ReadsAs W config.now.bits result (with_words config.now word (words after.now)) }
 {
     match word {
         None => Err(Bad::of_line(3)),
-        Some(RequestWord::AddWord) => read_add(bits, after),
-        Some(RequestWord::RangeWord) => read_range(bits, after),
+        Some(RequestWord::AddWord) => read_add(config.bits, after),
+        Some(RequestWord::RangeWord) => read_range(config.bits, after),
         Some(RequestWord::NextWord) => read_next(after),
         Some(RequestWord::CostWord) => read_cost(after),
-        Some(RequestWord::PlanWord) => read_plan(shards, after),
-        Some(RequestWord::LayoutWord) => read_layout(shards, after),
+        Some(RequestWord::PlanWord) => read_plan(config.shards, after),
+        Some(RequestWord::LayoutWord) => read_layout(config.shards, after),
         Some(RequestWord::QuitWord) => read_quit(after),
     }
 }
@@ -100,7 +91,7 @@ fn request_word(word: &[u8]) -> Option<RequestWord>
 fn read_add<const W: usize>(bits: u32, after: &[u8]) -> Result<Option<Request<W>>, Bad>
     requires few_words { W ≤ 8 }
     requires allowed { IsAllowed W bits }
-    ensures { (shards : ℕ) → result ≡ stored_reading W (with_words bits shards (Some AddWord) (words after.now)) }
+    ensures { ReadsAs W bits result (add_asked bits (words after.now)) }
 {
     let Some((key, after)) = next_word(after) else {
         return Err(Bad::of_line(4));
@@ -124,7 +115,7 @@ fn read_add<const W: usize>(bits: u32, after: &[u8]) -> Result<Option<Request<W>
 fn read_range<const W: usize>(bits: u32, after: &[u8]) -> Result<Option<Request<W>>, Bad>
     requires few_words { W ≤ 8 }
     requires allowed { IsAllowed W bits }
-    ensures { (shards : ℕ) → result ≡ stored_reading W (with_words bits shards (Some RangeWord) (words after.now)) }
+    ensures { ReadsAs W bits result (range_asked bits (words after.now)) }
 {
     let Some((tag, after)) = next_word(after) else {
         return Err(Bad::of_line(4));
@@ -152,12 +143,12 @@ fn read_range<const W: usize>(bits: u32, after: &[u8]) -> Result<Option<Request<
 
 // The words after `next`.
 fn read_next<const W: usize>(after: &[u8]) -> Result<Option<Request<W>>, Bad>
-    ensures { (bits shards : ℕ) → result ≡ stored_reading W (with_words bits shards (Some NextWord) (words after.now)) }
+    ensures { (bits : ℕ) → ReadsAs W bits result (next_asked (words after.now)) }
 {
     let Some((tag, after)) = next_word(after) else {
         return Err(Bad::of_line(4));
     };
-    let Some((count, after)) = next_word(after) else {
+    let Some((n, after)) = next_word(after) else {
         return Err(Bad::of_line(4));
     };
     if next_word(after).is_some() {
@@ -166,15 +157,15 @@ fn read_next<const W: usize>(after: &[u8]) -> Result<Option<Request<W>>, Bad>
     let Some(tag) = Tag::of(tag) else {
         return Err(Bad::of_word(2));
     };
-    let Some(count) = count_of(count) else {
+    let Some(n) = count_of(n) else {
         return Err(Bad::of_word(3));
     };
-    Ok(Some(Request::Next { tag, count }))
+    Ok(Some(Request::Next { tag, n }))
 }
 
 // The words after `cost`.
 fn read_cost<const W: usize>(after: &[u8]) -> Result<Option<Request<W>>, Bad>
-    ensures { (bits shards : ℕ) → result ≡ stored_reading W (with_words bits shards (Some CostWord) (words after.now)) }
+    ensures { (bits : ℕ) → ReadsAs W bits result (cost_asked (words after.now)) }
 {
     let Some((tag, after)) = next_word(after) else {
         return Err(Bad::of_line(4));
@@ -190,7 +181,7 @@ fn read_cost<const W: usize>(after: &[u8]) -> Result<Option<Request<W>>, Bad>
 
 // The words after `plan`.
 fn read_plan<const W: usize>(shards: u32, after: &[u8]) -> Result<Option<Request<W>>, Bad>
-    ensures { (bits : ℕ) → result ≡ stored_reading W (with_words bits shards (Some PlanWord) (words after.now)) }
+    ensures { (bits : ℕ) → ReadsAs W bits result (plan_asked shards (words after.now)) }
 {
     let Some((tag, after)) = next_word(after) else {
         return Err(Bad::of_line(4));
@@ -215,7 +206,7 @@ fn read_plan<const W: usize>(shards: u32, after: &[u8]) -> Result<Option<Request
 
 // The words after `layout`.
 fn read_layout<const W: usize>(shards: u32, after: &[u8]) -> Result<Option<Request<W>>, Bad>
-    ensures { (bits : ℕ) → result ≡ stored_reading W (with_words bits shards (Some LayoutWord) (words after.now)) }
+    ensures { (bits : ℕ) → ReadsAs W bits result (layout_asked shards (words after.now)) }
 {
     let Some((shard, after)) = next_word(after) else {
         return Err(Bad::of_line(4));
@@ -235,7 +226,7 @@ fn read_layout<const W: usize>(shards: u32, after: &[u8]) -> Result<Option<Reque
 
 // The words after `quit`.
 fn read_quit<const W: usize>(after: &[u8]) -> Result<Option<Request<W>>, Bad>
-    ensures { (bits shards : ℕ) → result ≡ stored_reading W (with_words bits shards (Some QuitWord) (words after.now)) }
+    ensures { (bits : ℕ) → ReadsAs W bits result (quit_asked (words after.now)) }
 {
     if next_word(after).is_some() {
         return Err(Bad::of_line(4));

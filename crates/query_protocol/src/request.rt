@@ -20,8 +20,8 @@ pub enum Request<const W: usize> {
     Add { key: u64, code: Code<W> },
     /// Opens a query for all codes at most `tau` positions away.
     Range { tag: Tag, tau: u32, code: Code<W> },
-    /// Asks for the next hits of a query, at most `count`.
-    Next { tag: Tag, count: u32 },
+    /// Asks for the next hits of a query, at most `n`.
+    Next { tag: Tag, n: u32 },
     /// Asks what a query has cost so far.
     Cost { tag: Tag },
     /// Asks for the thresholds of a query in a shard.

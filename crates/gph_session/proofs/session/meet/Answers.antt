@@ -24,7 +24,7 @@ returns-in-Range-clause-answers g c = λ history s means line asked.
 pub returns-in-Next-clause-answers : goal.returns-in-Next-clause-answers
 returns-in-Next-clause-answers g c = λ history s means line asked.
     next_turn g.row.W c.args.session.now.config history s (arc_value c.args.session.now.version).contents c.args.session.now.queries.items means line
-    (g.K.Sink.held c.args.sink.now) (g.K.Sink.held c.give.new.sink) c.requires.ready.some_room c.in-Next.tag c.in-Next.count
+    (g.K.Sink.held c.args.sink.now) (g.K.Sink.held c.give.new.sink) c.requires.ready.some_room c.in-Next.tag c.in-Next.n
     (ap (λ r. Ok (Some r)) (sym c.in-Next.is) ∙ asked) c.args.steps.now c.give.new.steps c.give.new.queries.items c.give.result c.give.ensures.gives c.give.ensures.goes
 
 pub returns-in-Cost-clause-answers : goal.returns-in-Cost-clause-answers
@@ -59,7 +59,7 @@ returns-in-Range-clause-ledger g c =
 
 pub returns-in-Next-clause-ledger : goal.returns-in-Next-clause-ledger
 returns-in-Next-clause-ledger g c =
-    ledger_given c.args.session.now.queries.items c.in-Next.tag c.in-Next.count (g.K.Sink.held c.args.sink.now) (g.K.Sink.held c.give.new.sink) c.args.steps.now c.give.new.steps c.give.result
+    ledger_given c.args.session.now.queries.items c.in-Next.tag c.in-Next.n (g.K.Sink.held c.args.sink.now) (g.K.Sink.held c.give.new.sink) c.args.steps.now c.give.new.steps c.give.result
     c.give.new.queries.items c.give.ensures.gives
 
 pub returns-in-Cost-clause-ledger : goal.returns-in-Cost-clause-ledger
