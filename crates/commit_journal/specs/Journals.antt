@@ -66,12 +66,16 @@ pub record Opens (old new : JournalState) (session : ℕ) (front : FrontState) :
 abbrev pub without_front : JournalState → ℕ → JournalState
 without_front state id = record state { live = map.remove state.live id }
 
--- what a journal knows of a front that it opened, at every later moment: its entries are the first of the history, and each live
--- front strictly below it stands in its list
-pub record KnowsFront (state : JournalState) (front : FrontState) : Type 0 where
-  pub begins : front.entries ≡ take (position_of front) state.history
-  pub within : position_of front ≤ length state.history
-  pub older : (position : ℕ) → StandsLive state.live position → position < position_of front → has_position front.older position ≡ true
+-- what is known of a front at every later moment, where these positions are live: its entries are the first of the history, and each
+-- live position strictly below it stands in its list
+pub record IsKnown (live : ℕ → Type 0) (history : List JournalEntry) (front : FrontState) : Type 0 where
+  pub begins : front.entries ≡ take (position_of front) history
+  pub within : position_of front ≤ length history
+  pub older : (position : ℕ) → live position → position < position_of front → has_position front.older position ≡ true
+
+-- what a journal knows of a front that it opened
+abbrev pub KnowsFront : JournalState → FrontState → Type 0
+KnowsFront state front = IsKnown (StandsLive state.live) state.history front
 
 -- every front that the first journal knows the second knows
 abbrev pub KeepsFronts : JournalState → JournalState → Type 0
