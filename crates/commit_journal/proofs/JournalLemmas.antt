@@ -1,6 +1,5 @@
 -- A journal with one entry more, with one front more and with one less.
-use Rattle.std.proofs.Common.{◌≡◌, ◌⊎◌, inl, inr, ⊎_elim, ℕ, ◌+◌, ◌<◌, ◌≤◌, Bool, true, false, cond, List, [], ◌∷◌, ◌++◌, length, take, Some, None, refl, sym, ap, ◌∙◌, arith, length-append, subst}
-use Rattle.std.specs.Cmp.{nat_cmp_total}
+use Rattle.std.proofs.Common.{◌≡◌, ⊎_elim, ℕ, ◌+◌, ◌<◌, ◌≤◌, Bool, true, false, cond, List, [], ◌∷◌, ◌++◌, length, Some, None, refl, sym, ap, ◌∙◌, arith, length-append, subst}
 use Rattle.std.specs.FinMap as map
 use Rattle.std.specs.BTreeMap.{insert_entry, is_at}
 use Rattle.std.specs.Map.{remove_entry}
@@ -12,8 +11,8 @@ use Rattle.slab.specs.Slab.{Slab, Updates}
 use Rattle.slab.specs.Slab as slab
 use Rattle.hamming_model.specs.History.{JournalEntry, IsLegal, changed, code_at, rows_of}
 use Rattle.hamming_model.specs.declared.limits.TheConstants.{ENTRIES_MOST, WORDS_MOST}
-use Rattle.commit_journal.specs.Fronts.{AreOlder, FrontState, Live, StandsLive, front_of, has_position, live_at, position_of}
-use Rattle.commit_journal.specs.Journals.{IsJournal, IsLive, JournalState, KeepsFronts, KnowsFront, Opens, empty_journal, with_entry, without_front}
+use Rattle.commit_journal.specs.Fronts.{AreOlder, FrontState, Live, StandsLive, front_of, live_at, position_of}
+use Rattle.commit_journal.specs.Journals.{IsLive, JournalState, KeepsFronts, KnowsFront, Opens, empty_journal, with_entry, without_front}
 use Rattle.commit_journal.specs.Kept.{IsKept, journal_of, live_of}
 use Rattle.commit_journal.proofs.LiveLemmas.{slab_at, slab_inserted, slab_removed, stands_closed, stands_opened}
 
@@ -131,7 +130,7 @@ module _ (history entries : List JournalEntry) (old new : Slab (ℕ × ℕ)) (ne
   slab_kept words rows kept = rw is_opened (kept_opened before id who words rows kept)
 
   pub slab_keeps : KeepsFronts before after
-  slab_keeps = rw is_opened (fronts_opened before id who)
+  slab_keeps = subst (KeepsFronts before) (sym is_opened) (fronts_opened before id who)
 
   module _ (older : List ℕ) (same : entries ≡ history) where
     abbrev made : FrontState
@@ -141,7 +140,8 @@ module _ (history entries : List JournalEntry) (old new : Slab (ℕ × ℕ)) (ne
     slab_lives = slab_at new id ∙ updates.changed ∙ ap (λ (n : ℕ). Some (who, n)) (number ∙ sym (ap length same))
 
     pub slab_knows : AreOlder (live_of old) position older → KnowsFront after made
-    slab_knows are = rw (is_opened, same) (knows_opened before id who older (rw (← number) are))
+    slab_knows are = subst (λ (state : JournalState). KnowsFront state made) (sym is_opened)
+        (rw same (knows_opened before id who older (rw (← number) are)))
 
     pub slab_opens : AreOlder (live_of old) position older → slab.get old id ≡ None → Opens before after who made
     slab_opens are vacant = record { fresh = slab_at old id ∙ vacant; who = refl; entries = same; older = rw (← number) are; after = is_opened }

@@ -1,5 +1,5 @@
 -- The entry stands in the chunk of its place.
-use Rattle.std.proofs.Common.{◌≡◌, ◌+◌, ◌*◌, ◌<◌, ◌/◌, ◌%◌, ◌∙◌, ap, arith, get_or, subst, sym, length, List}
+use Rattle.std.proofs.Common.{◌<◌, ◌/◌, ◌%◌, ◌∙◌, ap, arith, get_or, sym, length, List}
 use Rattle.std.proofs.lemmas.List.{get_or-map, length-map}
 use Rattle.hamming_model.specs.History.{JournalEntry}
 use Rattle.entry_log.specs.Entries.{kept_entry}

@@ -1,9 +1,8 @@
 -- Each chunk has as many entries.
-use Rattle.std.proofs.Common.{rules, ◌≡◌, ◌*◌, arith, length}
+use Rattle.std.proofs.Common.{rules, ◌≡◌, arith, length}
 use Rattle.std.proofs.lemmas.List.{length-map}
 use Rattle.entry_log.specs.Entries.{kept_entry}
 use Rattle.commit_journal.specs.Chunks.{chunk_items, joined}
-use Rattle.commit_journal.specs.declared.chunks.TheConstants.{CHUNK}
 use Rattle.commit_journal.proofs.ChunkLemmas.{length_joined}
 use Rattle.commit_journal.proofs.chunks.Chunks.len.Goals as goal
 

@@ -25,6 +25,6 @@ invariant_of-self-in_default-push g c =
     let absent = subst (λ (each : JournalState). code_at (rows_of each.history) c.args.key ≡ None) (sym c.self.view_is) c.requires.absent in
     let none = ap (λ (rows : List (ℕ × List ℕ)). code_at rows c.args.key) c.self.invariant.same_rows ∙ absent in
     let out = removed_inserted c.self.inside.rows.entries c.args.key c.args.code none in
-    let back : c.remove.new.self.entries ≡ c.self.inside.rows.entries =
-    c.remove.ensures.entries ∙ ap (remove_entry (is_at (nat_cmp c.args.key))) c.in-Ok.ensures.entries ∙ out in
+    let back : c.remove-row.new.self.entries ≡ c.self.inside.rows.entries =
+    c.remove-row.ensures.entries ∙ ap (remove_entry (is_at (nat_cmp c.args.key))) c.in-Ok.ensures.entries ∙ out in
     rw (back, c.in_default-push.ensures.unchanged) c.self.invariant

@@ -1,7 +1,7 @@
 -- One live front less.
-use Rattle.std.proofs.Common.{◌≡◌, ◌∙◌, ap, sym, subst}
+use Rattle.std.proofs.Common.{◌∙◌, ap, sym, subst}
 use Rattle.commit_journal.specs.Journals.{JournalState, KeepsFronts, without_front}
-use Rattle.commit_journal.specs.Kept.{IsKept, journal_of}
+use Rattle.commit_journal.specs.Kept.{journal_of}
 use Rattle.commit_journal.proofs.JournalLemmas.{fronts_closed, kept_closed, slab_closed}
 use Rattle.commit_journal.proofs.journal.Journal.close_front.Goals as goal
 
