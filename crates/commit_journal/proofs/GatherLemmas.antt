@@ -1,11 +1,11 @@
 -- The positions of live fronts, gathered one front after the other.
-use Rattle.std.proofs.Common.{◌≡◌, ◌⊎◌, inl, inr, ℕ, ◌<◌, ◌≤◌, ◌==◌, ◌||◌, Bool, true, false, List, [], ◌∷◌, Some, Contains, length, refl, sym, ap, subst, ◌∙◌, arith, eq-eqb, eqb-true}
+use Rattle.std.proofs.Common.{◌≡◌, ◌⊎◌, inl, inr, ℕ, ◌<◌, ◌≤◌, ◌==◌, ◌||◌, Bool, true, false, List, [], ◌∷◌, Option, Some, None, Contains, length, refl, sym, ap, subst, ◌∙◌, arith, eq-eqb, eqb-true}
 use Rattle.std.specs.List.{AllByRecursion}
 use Rattle.slab.specs.Slab.{Slab, entries, get}
 use Rattle.slab.proofs.SlabLemmas.{Contains-cons, Contains-cons_cases, Contains-entries}
-use Rattle.commit_journal.specs.Fronts.{AreOlder, Ascends, StandsLive, has_position}
+use Rattle.commit_journal.specs.Fronts.{AreOlder, Ascends, StandsAt, has_position, positions_of}
 use Rattle.commit_journal.specs.Kept.{AddsPosition, live_of}
-use Rattle.commit_journal.proofs.LiveLemmas.{slab_at}
+use Rattle.commit_journal.proofs.LiveLemmas.{second, slab_at}
 
 -- the live fronts that aren't gone over, each with its number
 abbrev Left : Type 0
@@ -15,7 +15,7 @@ Left = List (ℕ × (ℕ × ℕ))
 pub record Gathered (slab : Slab (ℕ × ℕ)) (position : ℕ) (older : List ℕ) (left : Left) : Type 0 where
   pub ascending : Ascends older
   pub below : AllByRecursion (λ other. other < position) older
-  pub only : (other : ℕ) → has_position older other ≡ true → StandsLive (live_of slab) other
+  pub only : (other : ℕ) → has_position older other ≡ true → StandsAt (positions_of (live_of slab)) other
   pub all : (id who other : ℕ) → get slab id ≡ Some (who, other) → other < position → (has_position older other ≡ true) ⊎ Contains left (id, (who, other))
   pub listed : (id who other : ℕ) → Contains left (id, (who, other)) → get slab id ≡ Some (who, other)
 
@@ -65,11 +65,7 @@ module _ (slab : Slab (ℕ × ℕ)) (position : ℕ) (older : List ℕ) (before 
     below = adds.below position gathered.below low;
     only = λ other has. elim (or_cases (has_position older other) (entry.1.1 == other) (sym (adds.has other) ∙ has)) [
       | inl old ↦ gathered.only other old
-      | inr same ↦ record {
-        id = entry.0;
-        who = entry.1.0;
-        stands = slab_at slab entry.0 ∙ stands_here ∙ ap (λ (at : ℕ). Some (entry.1.0, at)) (eqb-true entry.1.1 other same);
-      }
+      | inr same ↦ record { number = entry.0; stands = ap second (slab_at slab entry.0 ∙ stands_here) ∙ ap Some (eqb-true entry.1.1 other same) }
     ];
     all = λ id who other stands below. elim (gathered.all id who other stands below) [
       | inl has ↦ inl (adds.has other ∙ or_first (has_position older other) (entry.1.1 == other) has)
@@ -112,8 +108,14 @@ gathered_all slab position older left gathered none = record {
   ascending = gathered.ascending;
   below = gathered.below;
   only = gathered.only;
-  all = λ other stands below. elim (gathered.all stands.id stands.who other (sym (slab_at slab stands.id) ∙ stands.stands) below) [
-    | inl has ↦ has
-    | inr there ↦ absurd (let nothing = ap length none in omega (arith, there.1))
-  ];
+  all = λ other stands below. go stands.number other below (get slab stands.number) refl (ap second (sym (slab_at slab stands.number)) ∙ stands.stands);
 }
+  where
+    go : (id other : ℕ) → other < position → (found : Option (ℕ × ℕ)) → get slab id ≡ found → second found ≡ Some other → has_position older other ≡ true
+    go id other below None there h = cc
+    go id other below (Some pair) there h =
+        let same : pair.1 ≡ other = cc in
+        elim (gathered.all id pair.0 other (there ∙ ap (λ (n : ℕ). Some (pair.0, n)) same) below) [
+          | inl has ↦ has
+          | inr listed ↦ absurd (let nothing = ap length none in omega (arith, listed.1, nothing))
+        ]

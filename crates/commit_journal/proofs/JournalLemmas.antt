@@ -7,14 +7,15 @@ use Rattle.std.specs.Ordering.{nat_cmp, is_eq, match_ordering}
 use Rattle.std.specs.declared.cmp.Ordering.{Ordering}
 use Rattle.std.specs.declared.cmp.Ordering.TheVariants.{Less, Equal, Greater}
 use Rattle.std.proofs.lemmas.List.{take-append-le, take_all}
+use Rattle.std.proofs.lemmas.Option.{none-some}
 use Rattle.slab.specs.Slab.{Slab, Updates}
 use Rattle.slab.specs.Slab as slab
 use Rattle.hamming_model.specs.History.{JournalEntry, IsLegal, changed, code_at, rows_of}
 use Rattle.hamming_model.specs.declared.limits.TheConstants.{ENTRIES_MOST, WORDS_MOST}
-use Rattle.commit_journal.specs.Fronts.{AreOlder, FrontState, Live, StandsLive, front_of, live_at, position_of}
+use Rattle.commit_journal.specs.Fronts.{AreOlder, FrontState, Live, StandsAt, front_of, live_at, position_of, positions_of}
 use Rattle.commit_journal.specs.Journals.{IsLive, JournalState, KeepsFronts, KnowsFront, Opens, empty_journal, with_entry, without_front}
 use Rattle.commit_journal.specs.Kept.{IsKept, journal_of, live_of}
-use Rattle.commit_journal.proofs.LiveLemmas.{slab_at, slab_inserted, slab_removed, stands_closed, stands_opened}
+use Rattle.commit_journal.proofs.LiveLemmas.{second, slab_at, slab_inserted, slab_removed, stands_closed, stands_opened}
 
 -- ---- rows
 same_key : (key : ℕ) → nat_cmp key key ≡ Equal
@@ -90,7 +91,7 @@ module _ (state : JournalState) (id who : ℕ) where
       limited = kept.sound.limited;
       numbered = kept.sound.numbered;
       none_beyond = λ position stands. ⊎_elim (λ (here : length state.history ≡ position). omega (arith, here))
-          (λ (old : StandsLive state.live position). kept.sound.none_beyond position old) (stands_opened state.live id who (length state.history) position stands);
+          (λ (old : StandsAt (positions_of state.live) position). kept.sound.none_beyond position old) (stands_opened state.live id who (length state.history) position stands);
     };
     same_rows = kept.same_rows;
   }
@@ -101,7 +102,7 @@ module _ (state : JournalState) (id who : ℕ) where
     begins = knows.begins;
     within = knows.within;
     older = λ position stands below. ⊎_elim (λ (here : length state.history ≡ position). absurd (omega (arith, here, below, knows.within)))
-        (λ (old : StandsLive state.live position). knows.older position old below) (stands_opened state.live id who (length state.history) position stands);
+        (λ (old : StandsAt (positions_of state.live) position). knows.older position old below) (stands_opened state.live id who (length state.history) position stands);
   }
 
   -- and the new one
@@ -110,7 +111,7 @@ module _ (state : JournalState) (id who : ℕ) where
     begins = sym (take_all (length state.history) state.history (omega arith));
     within = omega arith;
     older = λ position stands below. ⊎_elim (λ (here : length state.history ≡ position). absurd (omega (arith, here, below)))
-        (λ (old : StandsLive state.live position). are.all position old below) (stands_opened state.live id who (length state.history) position stands);
+        (λ (old : StandsAt (positions_of state.live) position). are.all position old below) (stands_opened state.live id who (length state.history) position stands);
   }
 
 -- the same of a slab in which the front was put
@@ -181,7 +182,7 @@ kept_empty words limit few limited legal = record {
     few = omega arith;
     limited = limited;
     numbered = omega arith;
-    none_beyond = λ position stands. absurd (let none : live_at map.empty stands.id ≡ None = map.get-empty nat_cmp stands.id in let is = stands.stands in cc);
+    none_beyond = λ position stands. absurd (none-some position (sym (ap second (map.get-empty nat_cmp stands.number)) ∙ stands.stands));
   };
   same_rows = refl;
 }

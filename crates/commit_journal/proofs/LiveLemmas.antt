@@ -1,12 +1,13 @@
 -- The live fronts of a slab as a finite map, with one more and with one less.
 use Rattle.std.proofs.Common.{◌≡◌, ◌≢◌, ◌⊎◌, inl, inr, ℕ, zero, suc, ◌+◌, ◌<◌, ◌==◌, Bool, true, false, cond, List, [], ◌∷◌, get_or, Option, Some, None, refl, sym, ap, ◌∙◌, arith, eq-eqb, eqb-true, zero-add}
 use Rattle.std.specs.Cmp.{nat_cmp_total, unsigned_tied}
+use Rattle.std.specs.Prelude.{option_map}
 use Rattle.std.specs.FinMap.{FinMap, find, get, insert, remove, from_entries, get-from_entries, get-insert, get-remove, same_map, nat_cmp-IsAntisymmetric}
 use Rattle.std.specs.Ordering.{nat_cmp, eq_by_cmp}
 use Rattle.std.proofs.lemmas.Bool.{ne_eqb, eqb-false}
 use Rattle.slab.specs.Slab.{Slab, Updates, entries, entries_from}
 use Rattle.slab.specs.Slab as slab
-use Rattle.commit_journal.specs.Fronts.{Live, StandsLive}
+use Rattle.commit_journal.specs.Fronts.{Live, StandsAt, positions_of}
 
 -- the map of a slab
 abbrev map_of : {T : Type 0} → Slab T → FinMap nat_cmp T
@@ -72,19 +73,23 @@ module _ {T : Type 0} (old new : Slab T) (id : ℕ) where
   slab_removed updates = same_map nat_cmp_total nat_cmp-IsAntisymmetric _ _ (λ q. changed_at None updates q ∙ sym (after_remove (map_of old) id q))
 
 -- ---- the positions of live fronts
+abbrev pub second : Option (ℕ × ℕ) → Option ℕ
+second found = option_map (λ pair. pair.1) found
+
 module _ (live : Live) (id : ℕ) where
   -- one front more: its position, or that of one before it
-  pub stands_opened : (who position other : ℕ) → StandsLive (insert live id (who, position)) other → (position ≡ other) ⊎ StandsLive live other
-  stands_opened who position other stands = go (stands.id == id) (sym (after_insert live id (who, position) stands.id) ∙ stands.stands)
+  pub stands_opened : (who position other : ℕ) → StandsAt (positions_of (insert live id (who, position))) other → (position ≡ other) ⊎ StandsAt (positions_of live) other
+  stands_opened who position other stands =
+      go (stands.number == id) (sym (ap second (after_insert live id (who, position) stands.number)) ∙ stands.stands)
     where
-      go : (here : Bool) → cond here (Some (who, position)) (get live stands.id) ≡ Some (stands.who, other) → (position ≡ other) ⊎ StandsLive live other
-      go true h = inl (let same : (who, position) ≡ (stands.who, other) = cc in ap (λ (pair : ℕ × ℕ). pair.1) same)
-      go false h = inr (record { id = stands.id; who = stands.who; stands = h })
+      go : (here : Bool) → second (cond here (Some (who, position)) (get live stands.number)) ≡ Some other → (position ≡ other) ⊎ StandsAt (positions_of live) other
+      go true h = inl cc
+      go false h = inr (record { number = stands.number; stands = h })
 
   -- one front less: that of one before
-  pub stands_closed : (other : ℕ) → StandsLive (remove live id) other → StandsLive live other
-  stands_closed other stands = go (stands.id == id) (sym (after_remove live id stands.id) ∙ stands.stands)
+  pub stands_closed : (other : ℕ) → StandsAt (positions_of (remove live id)) other → StandsAt (positions_of live) other
+  stands_closed other stands = go (stands.number == id) (sym (ap second (after_remove live id stands.number)) ∙ stands.stands)
     where
-      go : (here : Bool) → cond here None (get live stands.id) ≡ Some (stands.who, other) → StandsLive live other
+      go : (here : Bool) → second (cond here None (get live stands.number)) ≡ Some other → StandsAt (positions_of live) other
       go true h = cc
-      go false h = record { id = stands.id; who = stands.who; stands = h }
+      go false h = record { number = stands.number; stands = h }

@@ -1,5 +1,5 @@
 -- Fronts: what a contract sees of one, and the live ones of a journal.
-use Rattle.std.specs.Prelude.{◌≡◌, ◌==◌, ℕ, ◌<◌, Bool, true, List, [], ◌∷◌, length, Option, Some, refl}
+use Rattle.std.specs.Prelude.{◌≡◌, ◌==◌, ℕ, ◌<◌, Bool, true, List, [], ◌∷◌, length, Option, Some, option_map, refl}
 use Rattle.std.specs.Coded.{Coded, code_by, coded×, coded_list, coded_ℕ}
 use Rattle.std.specs.FinMap as map
 use Rattle.std.specs.List.{AllByRecursion, list_any}
@@ -51,15 +51,18 @@ Live = map.FinMap nat_cmp (ℕ × ℕ)
 abbrev pub live_at : Live → ℕ → Option (ℕ × ℕ)
 live_at live id = map.get live id
 
--- a live front stands at this position
-pub record StandsLive (live : Live) (position : ℕ) : Type 0 where
-  pub id : ℕ
-  pub who : ℕ
-  pub stands : live_at live id ≡ Some (who, position)
+-- the position of a live front, by its number
+abbrev pub positions_of : Live → ℕ → Option ℕ
+positions_of live id = option_map (λ pair. pair.1) (live_at live id)
+
+-- a front that is live stands at this position, where the positions of the live ones are these, by number
+pub record StandsAt (live : ℕ → Option ℕ) (position : ℕ) : Type 0 where
+  pub number : ℕ
+  pub stands : live number ≡ Some position
 
 -- exactly the positions of the live fronts strictly below a position, ascending, each once
 pub record AreOlder (live : Live) (position : ℕ) (older : List ℕ) : Type 0 where
   pub ascending : Ascends older
   pub below : AllByRecursion (λ other. other < position) older
-  pub only : (other : ℕ) → has_position older other ≡ true → StandsLive live other
-  pub all : (other : ℕ) → StandsLive live other → other < position → has_position older other ≡ true
+  pub only : (other : ℕ) → has_position older other ≡ true → StandsAt (positions_of live) other
+  pub all : (other : ℕ) → StandsAt (positions_of live) other → other < position → has_position older other ≡ true

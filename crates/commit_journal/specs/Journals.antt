@@ -1,5 +1,5 @@
 -- What a contract sees of a journal, and what its calls make of it.
-use Rattle.std.specs.Prelude.{◌≡◌, ℕ, ◌<◌, ◌≤◌, true, List, [], ◌∷◌, ◌++◌, length, take, Some, None, refl}
+use Rattle.std.specs.Prelude.{◌≡◌, ℕ, ◌<◌, ◌≤◌, true, List, [], ◌∷◌, ◌++◌, length, take, Option, Some, None, refl}
 use Rattle.std.specs.Coded.{Coded, code_by, coded×, coded_ℕ}
 use Rattle.std.specs.FinMap as map
 use Rattle.hamming_model.specs.Coding.{history_code}
@@ -8,7 +8,7 @@ use Rattle.hamming_model.specs.declared.limits.TheConstants.{ENTRIES_MOST, SESSI
 use Rattle.entry_log.specs.Decisions.{decision_of}
 use Rattle.entry_log.specs.Entries.{kept_operation}
 use Rattle.entry_log.specs.declared.op.Op.{Op}
-use Rattle.commit_journal.specs.Fronts.{AreOlder, FrontState, Live, StandsLive, has_position, live_at, position_of}
+use Rattle.commit_journal.specs.Fronts.{AreOlder, FrontState, Live, StandsAt, has_position, live_at, position_of, positions_of}
 use Rattle.commit_journal.specs.declared.decided.Decided.{Decided}
 
 -- the history, its codes as words keep them; the live fronts; the number of the next session; how many entries there may be
@@ -34,7 +34,7 @@ pub record IsJournal (state : JournalState) : Type 0 where
   pub few : length state.history ≤ state.limit
   pub limited : state.limit ≤ ENTRIES_MOST
   pub numbered : state.next ≤ SESSIONS_MOST
-  pub none_beyond : (position : ℕ) → StandsLive state.live position → position ≤ length state.history
+  pub none_beyond : (position : ℕ) → StandsAt (positions_of state.live) position → position ≤ length state.history
 
 -- the entry of an operation of a session, with all bits that the words of its code keep
 abbrev pub entry_by : {W : ℕ} → ℕ → Op W → JournalEntry
@@ -66,16 +66,16 @@ pub record Opens (old new : JournalState) (session : ℕ) (front : FrontState) :
 abbrev pub without_front : JournalState → ℕ → JournalState
 without_front state id = record state { live = map.remove state.live id }
 
--- what is known of a front at every later moment, where these positions are live: its entries are the first of the history, and each
--- live position strictly below it stands in its list
-pub record IsKnown (live : ℕ → Type 0) (history : List JournalEntry) (front : FrontState) : Type 0 where
+-- what is known of a front at every later moment, where the live fronts have these positions: its entries are the first of the history,
+-- and each such position strictly below it stands in its list
+pub record IsKnown (live : ℕ → Option ℕ) (history : List JournalEntry) (front : FrontState) : Type 0 where
   pub begins : front.entries ≡ take (position_of front) history
   pub within : position_of front ≤ length history
-  pub older : (position : ℕ) → live position → position < position_of front → has_position front.older position ≡ true
+  pub older : (position : ℕ) → StandsAt live position → position < position_of front → has_position front.older position ≡ true
 
 -- what a journal knows of a front that it opened
 abbrev pub KnowsFront : JournalState → FrontState → Type 0
-KnowsFront state front = IsKnown (StandsLive state.live) state.history front
+KnowsFront state front = IsKnown (positions_of state.live) state.history front
 
 -- every front that the first journal knows the second knows
 abbrev pub KeepsFronts : JournalState → JournalState → Type 0

@@ -7,8 +7,10 @@ mod decided;
 mod entries;
 mod front;
 mod journal;
+mod laws;
 mod older;
 
 pub use decided::Decided;
 pub use front::Front;
 pub use journal::Journal;
+pub use laws::live_fronts_come_and_go;
