@@ -12,7 +12,7 @@ use Rattle.ball_walk.specs.Balls.{value_distance, values, values_near, is_near, 
 use Rattle.ball_walk.proofs.BallLemmas.{range_append}
 use Rattle.ball_walk.proofs.SumLemmas.{sum_near_more, sum_near_none}
 use Rattle.count_table.specs.Copies.{count_near}
-use Rattle.count_table.specs.Layout.{copies_apart}
+use Rattle.count_table.specs.Kept.{copies_apart}
 
 -- there are at most 4,096 values
 pub few_values : (width : ℕ) → width ≤ 12 → 2 ^ width ≤ 4096

@@ -1,5 +1,6 @@
-ghost use Rattle.std.specs.Prelude.{◌≡◌, ℕ, ◌+◌, ◌^◌, ◌<◌, ◌≤◌, IfOk, OnOk, OnErr, negsuc, ◌≤ℤ◌, replicate};
+ghost use Rattle.std.specs.Prelude.{◌≡◌, ℕ, ◌+◌, ◌^◌, ◌<◌, ◌≤◌, true, is_ok, IfOk, negsuc, ◌≤ℤ◌, replicate};
 ghost use Rattle.ball_walk.specs.Balls.{units_of};
+ghost use Rattle.hamming_model.specs.declared.limits.TheConstants.{ENTRIES_MOST, PART_WIDTH_MOST};
 ghost use Rattle.count_table.specs.Copies.{empty_table, copies_at, total_of, with_one, without_one, count_near, AreLevels};
 
 use crate::levels::{add_over, add_up, count_apart};
@@ -8,10 +9,7 @@ use read_meter::NoMemory;
 use std::alloc::Global;
 use std::marker::Model;
 
-/// How many copies a table may have in all.
-pub const MOST_COPIES: u32 = 1_048_576;
-
-/// How many copies of each value of one part there are, in all at most `MOST_COPIES`.
+/// How many copies of each value of one part there are, in all at most as many as a history has entries.
 ///
 /// From such counts the threshold allocation of GPH (ICDE 2018) learns what a radius costs.
 #[derive(Drop)]
@@ -24,7 +22,7 @@ pub struct Counts {
 
 impl Model for Counts {
     ghost use Rattle.count_table.specs.Copies.{CopyTable};
-    ghost use Rattle.count_table.specs.Layout.{IsKept};
+    ghost use Rattle.count_table.specs.Kept.{IsKept};
 
     ghost Value = { CopyTable };
 
@@ -41,7 +39,7 @@ impl Counts {
     /// `NoMemory` where there is no memory for `2^width` numbers.
     pub fn new(alloc: Global, width: u32) -> Result<Counts, NoMemory>
         requires some_width { 0 < width }
-        requires small_width { width ≤ 12 }
+        requires small_width { width ≤ PART_WIDTH_MOST }
         ensures empty { IfOk result (λ counts. counts ≡ empty_table width) }
         ensures width { IfOk result (λ counts. counts.width ≡ width) }
     {
@@ -71,16 +69,16 @@ impl Counts {
         })
     }
 
-    /// Adds a copy of a value, where there are fewer than `MOST_COPIES`.
+    /// Adds a copy of a value, where there is room for one more.
     ///
     /// # Errors
     ///
-    /// `NoMemory` where there is no memory for it, with all as it was.
+    /// None: a change takes no memory. `NoMemory` is for tables that take some.
     pub fn add(&mut self, value: u16) -> Result<(), NoMemory>
         requires in_width { value < 2 ^ self.old.width }
-        requires room { total_of self.old < MOST_COPIES }
-        ensures added { OnOk result (self.new ≡ with_one self.old value) }
-        ensures unchanged { OnErr result (self.new ≡ self.old) }
+        requires room { total_of self.old < ENTRIES_MOST }
+        ensures added { self.new ≡ with_one self.old value }
+        ensures no_refusal { is_ok result ≡ true }
     {
         let at = usize::from(value);
         self.copies[at] += 1;
@@ -92,11 +90,11 @@ impl Counts {
     ///
     /// # Errors
     ///
-    /// `NoMemory` where there is no memory for it, with all as it was.
+    /// None, as for `add`.
     pub fn remove(&mut self, value: u16) -> Result<(), NoMemory>
         requires { 0 < copies_at self.old value }
-        ensures removed { OnOk result (self.new ≡ without_one self.old value) }
-        ensures unchanged { OnErr result (self.new ≡ self.old) }
+        ensures removed { self.new ≡ without_one self.old value }
+        ensures no_refusal { is_ok result ≡ true }
     {
         let at = usize::from(value);
         self.copies[at] -= 1;
@@ -107,7 +105,7 @@ impl Counts {
     /// How many copies there are.
     pub fn total(&self) -> u32
         ensures total { result ≡ total_of self.now }
-        ensures few { result ≤ MOST_COPIES }
+        ensures few { result ≤ ENTRIES_MOST }
     {
         self.total
     }
@@ -137,7 +135,7 @@ impl Counts {
 
 // A zero for each value of this width.
 fn no_copies(alloc: Global, width: u32) -> Result<Vec<u32>, NoMemory>
-    requires { width ≤ 12 }
+    requires { width ≤ PART_WIDTH_MOST }
     ensures { IfOk result (λ copies. copies.items ≡ replicate (2 ^ width) 0) }
 {
     let bound = bound_of(width);
@@ -154,7 +152,7 @@ fn no_copies(alloc: Global, width: u32) -> Result<Vec<u32>, NoMemory>
 
 // How many values of this width there are.
 fn bound_of(width: u32) -> usize
-    requires { width ≤ 12 }
+    requires { width ≤ PART_WIDTH_MOST }
     ensures { result ≡ 2 ^ width }
 {
     1 << width

@@ -6,5 +6,5 @@ mod counts;
 mod laws;
 mod levels;
 
-pub use counts::{Counts, MOST_COPIES};
+pub use counts::Counts;
 pub use laws::{changes_follow_a_list, counts_are_those_of_a_list};

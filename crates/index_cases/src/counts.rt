@@ -2,7 +2,8 @@ ghost use Rattle.std.specs.Prelude.{◌≡◌, ◌^◌, ◌<◌, ◌≤◌};
 ghost use Rattle.count_table.specs.Copies.{with_one};
 
 use crate::plain::{after, differences};
-use count_table::{Counts, MOST_COPIES, changes_follow_a_list};
+use count_table::{Counts, changes_follow_a_list};
+use hamming_model::ENTRIES_MOST;
 use read_meter::NoMemory;
 use std::alloc::Global;
 use std::marker::Model;
@@ -14,7 +15,7 @@ fn add<R: Abort>(rt: &R, counts: &mut Counts, value: u16)
     requires in_width { value < 2 ^ counts.old.width }
     ensures { counts.new ≡ with_one counts.old value }
 {
-    assert!(rt; counts.total() < MOST_COPIES);
+    assert!(rt; u64::from(counts.total()) < ENTRIES_MOST);
     counts.add(value).expect(rt, "memory for a copy");
 }
 

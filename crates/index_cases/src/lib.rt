@@ -27,6 +27,8 @@ mod rows;
 #[cfg(test)]
 mod scan;
 #[cfg(test)]
+mod shards;
+#[cfg(test)]
 mod sources;
 #[cfg(test)]
 mod thresholds;

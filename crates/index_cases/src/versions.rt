@@ -5,6 +5,7 @@ use crate::plain::differences;
 use count_table::changes_follow_a_list;
 use entry_log::{Entry, Op};
 use gph_codes::Code;
+use hamming_model::ENTRIES_MOST;
 use part_layout::Layout;
 use read_meter::{Steps, upkeep};
 use search_model::stored_rows_search_alike;
@@ -49,7 +50,7 @@ pub(crate) fn add<const W: usize, R: Abort>(
     let bits = version.layout().bits();
     assert!(rt; bits as usize <= 64 * W);
     let code = Code::from_hex(bits, text).expect(rt, "a code");
-    assert!(rt; version.at() < 1_048_576 && !version.has_key(key));
+    assert!(rt; version.at() < u64::MAX && version.rows() < ENTRIES_MOST && !version.has_key(key));
     let entry = Entry {
         who: 7,
         op: Op::Add { key, code },
@@ -61,7 +62,7 @@ pub(crate) fn add<const W: usize, R: Abort>(
 fn delete<const W: usize, R: Abort>(rt: &R, version: Version<W>, key: u64) -> Version<W>
     requires few_words { W ≤ 8 }
 {
-    assert!(rt; version.at() < 1_048_576);
+    assert!(rt; version.at() < u64::MAX);
     let own = key % u64::from(version.shards()) == u64::from(version.shard());
     assert!(rt; !own || version.has_key(key));
     let entry: Entry<W> = Entry {

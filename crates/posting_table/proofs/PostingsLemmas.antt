@@ -1,40 +1,22 @@
--- Posting lists: one list set among all, a key looked for, and an entry taken out.
-use Rattle.std.proofs.Common.{◌≡◌, ◌≢◌, ℕ, zero, suc, ◌+◌, ◌-◌, ◌^◌, ◌<◌, ◌≤◌, ◌==◌, true, false, List, [], ◌∷◌, ◌++◌, length, take, map, set, get_or, replicate, refl, sym, ap, ◌∙◌, arith, eq-eqb, Vec, Global}
-use Rattle.std.specs.List.{swap_remove}
-use Rattle.std.proofs.lemmas.Bool.{ne_eqb, or_left, or_right}
-use Rattle.std.proofs.lemmas.List.{get_or-map, get_or-set_same, length-map, length-take, map-append, length-set, length-replicate, map-set, take_more}
+-- Posting lists: a key looked for, an entry taken out, and the lists of all values in their buckets.
+use Rattle.std.proofs.Common.{◌≡◌, ◌≢◌, ℕ, zero, suc, ◌+◌, ◌-◌, ◌*◌, ◌/◌, ◌%◌, ◌^◌, ◌<◌, ◌≤◌, ◌==◌, inl, inr, min, true, false, List, [], ◌∷◌, ◌++◌, length, take, map, set, get_or, replicate, refl, sym, ap, subst, ◌∙◌, arith, eq-eqb, length-append, All, Global, Result, Ok, Err}
+use Rattle.std.specs.Prelude.{OnErr, OnOk}
+use Rattle.std.specs.Arc.{arc_value}
+use Rattle.std.specs.declared.sync.Arc.{Arc}
+use Rattle.std.specs.List.{range_with_len, swap_remove}
+use Rattle.std.specs.List.Sorted.{IsPermutation}
+use Rattle.std.proofs.lemmas.Bool.{cases_eq, ne_eqb, or_left, or_right}
+use Rattle.std.proofs.lemmas.List.{get_or-map, get_or-replicate, get_or-set_same, get_or-set_other, length-map, length-set, length-replicate, map-append, map-set, take_more}
 use Rattle.std.proofs.lemmas.List.Elements.{All-replicate, All-set}
 use Rattle.std.proofs.lemmas.List.Folds.{list_any-append}
-use Rattle.std.proofs.lemmas.List.Sums.{sum_by-swap_remove}
+use Rattle.std.proofs.lemmas.List.FromFn.{fill_by_all, get_or-map-range_with_len, length-map-range_with_len}
+use Rattle.std.proofs.lemmas.List.Sorted.{IsPermutation-swap_remove, length_permutation}
 use Rattle.std.proofs.Math.Seq.{map-set_same}
-use Rattle.posting_table.specs.Kept.{IsKept}
-use Rattle.posting_table.specs.Tables.{Loses, Table, has_key, key_at, posting_list, with_list}
+use Rattle.posting_table.specs.Kept.{IsKept, buckets_of, list_in, lists_of, table_of, with_list_in}
+use Rattle.posting_table.specs.Shared.{LosesAt}
+use Rattle.posting_table.specs.Tables.{Loses, Table, empty_table, has_key, key_at, posting_list, with_entry, with_list}
 
--- the empty lists are kept
-pub IsKept-replicate : (width : ℕ) → 1 ≤ width → width ≤ 12 → IsKept width (replicate (2 ^ width) [])
-IsKept-replicate width some narrow = record {
-  some = some;
-  narrow = narrow;
-  number = length-replicate (2 ^ width) [];
-  short = All-replicate (λ list. length list ≤ 1048576) (2 ^ width) [] (omega arith);
-}
-
--- the lists with one set among them are kept
-pub IsKept-set : (width : ℕ) (lists : List (List (ℕ × List ℕ))) (value : ℕ) (list : List (ℕ × List ℕ)) → IsKept width lists
-    → length list ≤ 1048576 → IsKept width (set lists value list)
-IsKept-set width lists value list kept short = record {
-  some = kept.some;
-  narrow = kept.narrow;
-  number = length-set lists value list ∙ kept.number;
-  short = All-set (λ list. length list ≤ 1048576) lists value list short kept.short;
-}
-
--- the list of a value is short
-pub short_list : (width : ℕ) (lists : List (List (ℕ × List ℕ))) (value : ℕ) → IsKept width lists → value < 2 ^ width
-    → length (get_or lists value []) ≤ 1048576
-short_list width lists value kept below =
-    let number = kept.number in
-    kept.short value [] (omega arith)
+-- ---- a key among entries
 
 -- a key looked for in one entry more
 pub has_key-more : (entries : List (ℕ × List ℕ)) (place key : ℕ) (entry : ℕ × List ℕ) → place < length entries
@@ -56,92 +38,257 @@ has_key-at (entry ∷ entries) (suc place) key at =
 pub loses : (key place : ℕ) (entries : List (ℕ × List ℕ)) (gone : ℕ × List ℕ) → key_at entries place key → gone ≡ get_or entries place gone
     → Loses key entries (swap_remove entries place gone)
 loses key place entries gone at is =
-    let below = at.0 in
     let own : gone.0 ≡ key = ap (λ (entry : ℕ × List ℕ). entry.0) is ∙ at.1 gone in
     let whole : gone ≡ (key, gone.1) = ap (λ (first : ℕ). (first, gone.1)) own in
-    rw whole (record {
-      place = place;
+    record {
       code = gone.1;
-      in_list = below;
-      stood = sym (rw whole at is);
-      left = refl;
-      counts = λ f. (
-          let one = sum_by-swap_remove f entries place (key, gone.1) below in
-          let same : f (get_or entries place (key, gone.1)) ≡ f (key, gone.1) = ap f (sym (rw whole at is)) in
-          omega (arith, one, same)
-          );
-    })
+      others_stay =
+          subst (λ (entry : ℕ × List ℕ). IsPermutation entries (entry ∷ swap_remove entries place gone)) whole
+          (IsPermutation-swap_remove entries place gone at.0 is);
+    }
 
--- taking an entry out makes no list longer
-pub swap_remove_short : (entries : List (ℕ × List ℕ)) (place : ℕ) (gone : ℕ × List ℕ) → length (swap_remove entries place gone) ≤ length entries
-swap_remove_short entries place gone =
-    let changed = set entries place (get_or entries (length entries - 1) gone) in
-    let cut = length-take (length entries - 1) changed in
-    let long = length-set entries place (get_or entries (length entries - 1) gone) in
+-- whatever its key is
+pub loses_at : (place : ℕ) (entries : List (ℕ × List ℕ)) (gone : ℕ × List ℕ) → gone ≡ get_or entries place gone
+    → LosesAt entries (swap_remove entries place gone) place
+loses_at place entries gone is = record { of = λ key at. loses key place entries gone at is }
+
+-- a list that loses an entry is shorter
+pub loses_one : (key : ℕ) (old new : List (ℕ × List ℕ)) → Loses key old new → length new ≤ length old
+loses_one key old new lost =
+    let one = length_permutation old ((key, lost.code) ∷ new) lost.others_stay in
     omega arith
 
--- ---- a table seen in its lists
+-- ---- lists in buckets
 
--- what a list holds
-abbrev pub items_of : Vec (ℕ × List ℕ) Global → List (ℕ × List ℕ)
-items_of list = list.items
+module _ (width value : ℕ) (buckets : List (List (List (ℕ × List ℕ)))) (kept : IsKept width buckets) (below : value < 2 ^ width) where
+  -- the bucket of a value is there
+  pub bucket_there : value % 256 < length buckets
+  bucket_there = let number = kept.number in omega arith
 
--- lists seen by what each holds
-abbrev pub table_of : ℕ → List (Vec (ℕ × List ℕ) Global) → Table
-table_of width lists = record { width = width; lists = map items_of lists }
-
-module _ (width : ℕ) (lists : List (Vec (ℕ × List ℕ) Global)) (table : Table) (value : ℕ) (kept : IsKept width (map items_of lists))
-    (seen : table_of width lists ≡ table) (below : value < 2 ^ table.width) where
-  -- each value has a list
-  pub in_lists : value < length lists
-  in_lists =
-      let same : width ≡ table.width = ap (λ (t : Table). t.width) seen in
-      let number = kept.number in
-      let long = length-map lists items_of in
-      let inside : value < 2 ^ width = rw same below in
+  -- and the value's list in it
+  pub list_there : value / 256 < length (get_or buckets (value % 256) [])
+  list_there =
+      let enough = kept.enough in
+      let sized : length (get_or buckets (value % 256) []) ≡ kept.each = kept.sized (value % 256) [] bucket_there in
       omega arith
 
-  module _ (own : Vec (ℕ × List ℕ) Global) (is : own ≡ get_or lists value own) where
-    -- the entries of a value are those of its list
-    pub own_list : posting_list table value ≡ own.items
-    own_list = rw (← seen) (get_or-map items_of lists value own [] in_lists ∙ ap items_of (sym is))
+  -- the list of a value is that of the table
+  pub list_of_value : get_or (lists_of buckets (2 ^ width)) value [] ≡ list_in buckets value
+  list_of_value = get_or-map-range_with_len (list_in buckets) 0 (2 ^ width) value value [] below (omega arith)
 
-    -- a list is short
-    pub own_short : length own.items ≤ 1048576
-    own_short =
-        let long = length-map lists items_of in
-        let here = in_lists in
-        rw (← own_list, ← seen) (kept.short value [] (omega arith))
+  module _ (list : List (ℕ × List ℕ)) where
+    changed_bucket : get_or (with_list_in buckets value list) (value % 256) [] ≡ set (get_or buckets (value % 256) []) (value / 256) list
+    changed_bucket = get_or-set_same buckets (value % 256) (set (get_or buckets (value % 256) []) (value / 256) list) [] bucket_there
 
-    -- one list that is changed changes the table there
-    pub table_changed : (new : Vec (ℕ × List ℕ) Global) (entries : List (ℕ × List ℕ)) → new.items ≡ entries
-        → table_of width (set lists value new) ≡ with_list table value entries
-    table_changed new entries held = rw (← seen, map-set items_of lists value new, held) refl
+    own_changed : list_in (with_list_in buckets value list) value ≡ list
+    own_changed =
+        ap (λ (bucket : List (List (ℕ × List ℕ))). get_or bucket (value / 256) []) changed_bucket
+        ∙ get_or-set_same (get_or buckets (value % 256) []) (value / 256) list [] list_there
 
-    -- a list that holds what it held changes nothing
-    pub table_same : (new : Vec (ℕ × List ℕ) Global) → new.items ≡ own.items → table_of width (set lists value new) ≡ table
-    table_same new held =
-        let before : items_of new ≡ items_of (get_or lists value own) = held ∙ ap items_of is in
-        rw (map-set_same items_of lists value new own before) seen
+    other_same : (other : ℕ) → other ≢ value → list_in (with_list_in buckets value list) other ≡ list_in buckets other
+    other_same other apart = elim (cases_eq (other % 256) (value % 256)) [
+      | inr elsewhere ↦
+          ap (λ (bucket : List (List (ℕ × List ℕ))). get_or bucket (other / 256) [])
+          (get_or-set_other buckets (value % 256) (other % 256) (set (get_or buckets (value % 256) []) (value / 256) list) [] elsewhere)
+      | inl here ↦
+          let round : other / 256 ≢ value / 256 = λ same. apart (omega (arith, here, same)) in
+          ap (λ (place : ℕ). get_or (get_or (with_list_in buckets value list) place []) (other / 256) []) here
+          ∙ ap (λ (bucket : List (List (ℕ × List ℕ))). get_or bucket (other / 256) []) changed_bucket
+          ∙ get_or-set_other (get_or buckets (value % 256) []) (value / 256) (other / 256) list [] round
+          ∙ ap (λ (place : ℕ). get_or (get_or buckets place []) (other / 256) []) (sym here)
+    ]
 
-    -- the list that was changed
-    pub list_changed : (new : Vec (ℕ × List ℕ) Global) → posting_list (table_of width (set lists value new)) value ≡ new.items
-    list_changed new =
-        let long = length-map lists items_of in
-        let here = in_lists in
-        let inside : value < length (map items_of lists) = omega arith in
-        rw (map-set items_of lists value new) (get_or-set_same (map items_of lists) value new.items [] inside)
+    each_changed : (other : ℕ) → other < 2 ^ width → get_or (set (lists_of buckets (2 ^ width)) value list) other [] ≡ list_in (with_list_in buckets value list) other
+    each_changed other low = elim (cases_eq other value) [
+      | inl same ↦
+          let inside : value < length (lists_of buckets (2 ^ width)) = omega (arith, below, length-map-range_with_len (list_in buckets) 0 (2 ^ width)) in
+          ap (λ (place : ℕ). get_or (set (lists_of buckets (2 ^ width)) value list) place []) same
+          ∙ get_or-set_same (lists_of buckets (2 ^ width)) value list [] inside
+          ∙ sym (ap (list_in (with_list_in buckets value list)) same ∙ own_changed)
+      | inr apart ↦
+          get_or-set_other (lists_of buckets (2 ^ width)) value other list [] apart
+          ∙ get_or-map-range_with_len (list_in buckets) 0 (2 ^ width) other other [] low (omega arith) ∙ sym (other_same other apart)
+    ]
 
-    -- the lists with one changed are kept
-    pub kept_changed : (new : Vec (ℕ × List ℕ) Global) → length new.items ≤ 1048576 → IsKept width (map items_of (set lists value new))
-    kept_changed new short = rw (map-set items_of lists value new) (IsKept-set width (map items_of lists) value new.items kept short)
+    -- the list of one value changes the lists there
+    pub lists_changed : lists_of (with_list_in buckets value list) (2 ^ width) ≡ set (lists_of buckets (2 ^ width)) value list
+    lists_changed =
+        let long = length-set (lists_of buckets (2 ^ width)) value list ∙ length-map-range_with_len (list_in buckets) 0 (2 ^ width) in
+        sym (fill_by_all (list_in (with_list_in buckets value list)) (set (lists_of buckets (2 ^ width)) value list) (2 ^ width) [] long each_changed)
 
--- one list more is copied
-pub copied_more : (done lists : List (Vec (ℕ × List ℕ) Global)) (i : ℕ) (own copied : Vec (ℕ × List ℕ) Global) → i < length lists
-    → own ≡ get_or lists i own → copied.items ≡ own.items → map items_of done ≡ take i (map items_of lists)
-    → map items_of (done ++ copied ∷ []) ≡ take (i + 1) (map items_of lists)
-copied_more done lists i own copied below is same before =
-    let long = length-map lists items_of in
-    let inside : i < length (map items_of lists) = omega arith in
-    let item : copied.items ≡ get_or (map items_of lists) i [] = same ∙ ap items_of is ∙ sym (get_or-map items_of lists i own [] below) in
-    rw (map-append items_of done (copied ∷ []), before, take_more (map items_of lists) i [] inside, item) refl
+    -- and the buckets are kept
+    pub kept_with_list : length list ≤ 1048576 → IsKept width (with_list_in buckets value list)
+    kept_with_list short = record {
+      some = kept.some;
+      narrow = kept.narrow;
+      number = length-set buckets (value % 256) (set (get_or buckets (value % 256) []) (value / 256) list) ∙ kept.number;
+      each = kept.each;
+      enough = kept.enough;
+      sized =
+          All-set (λ bucket. length bucket ≡ kept.each) buckets (value % 256) (set (get_or buckets (value % 256) []) (value / 256) list)
+          (length-set (get_or buckets (value % 256) []) (value / 256) list ∙ kept.sized (value % 256) [] bucket_there) kept.sized;
+      short =
+          subst (λ (lists : List (List (ℕ × List ℕ))). All (λ each. length each ≤ 1048576) lists) (sym lists_changed)
+          (All-set (λ each. length each ≤ 1048576) (lists_of buckets (2 ^ width)) value list short kept.short);
+    }
+
+-- ---- empty buckets
+
+-- no list of no entries has one
+none_listed : (number value : ℕ) → get_or (replicate {A = List (ℕ × List ℕ)} number []) value [] ≡ []
+none_listed zero value = refl
+none_listed (suc number) zero = refl
+none_listed (suc number) (suc value) = none_listed number value
+
+none_in : (number each value : ℕ) → value % 256 < number → list_in (replicate number (replicate each [])) value ≡ []
+none_in number each value below =
+    ap (λ (bucket : List (List (ℕ × List ℕ))). get_or bucket (value / 256) []) (get_or-replicate number (value % 256) (replicate each []) [] below)
+    ∙ none_listed each (value / 256)
+
+module _ (width number values : ℕ) (all : values ≡ 2 ^ width) (is : number ≡ min values 256) where
+  abbrev each : ℕ
+  each = (values + 256 - 1) / 256
+
+  rest_below : (value : ℕ) → value < 2 ^ width → value % 256 < number
+  rest_below value below = omega arith
+
+  none_in_buckets : lists_of (replicate number (replicate each [])) (2 ^ width) ≡ replicate (2 ^ width) []
+  none_in_buckets = sym (fill_by_all (list_in (replicate number (replicate each []))) (replicate (2 ^ width) []) (2 ^ width) []
+      (length-replicate (2 ^ width) []) (λ value below. none_listed (2 ^ width) value ∙ sym (none_in number each value (rest_below value below))))
+
+  module _ (shared : List (Arc (List (List (ℕ × List ℕ))) Global)) (made : buckets_of shared ≡ replicate number (replicate ((values + 256 - 1) / 256) [])) where
+    -- empty buckets have empty lists
+    pub none_of : table_of width shared ≡ empty_table width
+    none_of = ap (λ (lists : List (List (ℕ × List ℕ))). let t : Table = record { width = width; lists = lists } in t)
+        (ap (λ (buckets : List (List (List (ℕ × List ℕ)))). lists_of buckets (2 ^ width)) made ∙ none_in_buckets)
+
+    -- and are kept
+    pub kept_none : 1 ≤ width → width ≤ 12 → IsKept width (buckets_of shared)
+    kept_none some narrow = subst (λ (buckets : List (List (List (ℕ × List ℕ)))). IsKept width buckets) (sym made) (record {
+      some = some;
+      narrow = narrow;
+      number = length-replicate number (replicate each []) ∙ omega arith;
+      each = each;
+      enough = omega arith;
+      sized = All-replicate (λ bucket. length bucket ≡ each) number (replicate each []) (length-replicate each []);
+      short =
+          subst (λ (lists : List (List (ℕ × List ℕ))). All (λ list. length list ≤ 1048576) lists) (sym none_in_buckets)
+          (All-replicate (λ list. length list ≤ 1048576) (2 ^ width) [] (omega arith));
+    })
+
+-- ---- a table in shared buckets
+
+-- the bucket of a value of a table
+pub record IsBucketOf (width : ℕ) (shared : List (Arc (List (List (ℕ × List ℕ))) Global)) (table : Table) (value : ℕ)
+    (own : Arc (List (List (ℕ × List ℕ))) Global) : Type 0 where
+  pub kept : IsKept width (buckets_of shared)
+  pub seen : table_of width shared ≡ table
+  pub below : value < 2 ^ table.width
+  pub stands : own ≡ get_or shared (value % 256) own
+
+module _ {width : ℕ} {shared : List (Arc (List (List (ℕ × List ℕ))) Global)} {table : Table} {value : ℕ} {own : Arc (List (List (ℕ × List ℕ))) Global}
+    (is : IsBucketOf width shared table value own) where
+  within : value < 2 ^ width
+  within =
+      let same : 2 ^ width ≡ 2 ^ table.width = ap (λ (t : Table). 2 ^ t.width) is.seen in
+      let below = is.below in
+      omega arith
+
+  in_lists : value < length (lists_of (buckets_of shared) (2 ^ width))
+  in_lists = omega (arith, within, length-map-range_with_len (list_in (buckets_of shared)) 0 (2 ^ width))
+
+  in_shared : value % 256 < length shared
+  in_shared =
+      let long = length-map shared (λ bucket. arc_value bucket) in
+      omega (arith, long, bucket_there width value (buckets_of shared) is.kept within)
+
+  own_bucket : get_or (buckets_of shared) (value % 256) [] ≡ arc_value own
+  own_bucket = get_or-map (λ bucket. arc_value bucket) shared (value % 256) own [] in_shared ∙ ap (λ bucket. arc_value bucket) (sym is.stands)
+
+  -- the value's list is there
+  pub in_own : value / 256 < length (arc_value own)
+  in_own = omega (arith, ap length own_bucket, list_there width value (buckets_of shared) is.kept within)
+
+  -- and is the table's
+  pub own_list : get_or (arc_value own) (value / 256) [] ≡ posting_list table value
+  own_list =
+      ap (λ (bucket : List (List (ℕ × List ℕ))). get_or bucket (value / 256) []) (sym own_bucket)
+      ∙ sym (list_of_value width value (buckets_of shared) is.kept within) ∙ ap (λ (t : Table). posting_list t value) is.seen
+
+  -- a bucket as it is lent has it
+  pub list_lent : (bucket : List (List (ℕ × List ℕ))) → bucket ≡ arc_value own → get_or bucket (value / 256) [] ≡ posting_list table value
+  list_lent bucket same = ap (λ (one : List (List (ℕ × List ℕ))). get_or one (value / 256) []) same ∙ own_list
+
+  -- it is short
+  pub own_short : length (get_or (arc_value own) (value / 256) []) ≤ 1048576
+  own_short =
+      let inside = in_lists in
+      subst (λ (list : List (ℕ × List ℕ)). length list ≤ 1048576) (sym own_list)
+      (subst (λ (t : Table). length (posting_list t value) ≤ 1048576) is.seen (is.kept.short value [] inside))
+
+  module _ (new : Arc (List (List (ℕ × List ℕ))) Global) (list : List (ℕ × List ℕ)) (changed : arc_value new ≡ set (arc_value own) (value / 256) list) where
+    new_buckets : buckets_of (set shared (value % 256) new) ≡ with_list_in (buckets_of shared) value list
+    new_buckets =
+        map-set (λ bucket. arc_value bucket) shared (value % 256) new
+        ∙ ap (set (buckets_of shared) (value % 256)) (changed ∙ ap (λ (bucket : List (List (ℕ × List ℕ))). set bucket (value / 256) list) (sym own_bucket))
+
+    -- a bucket with another list of the value changes the table there
+    pub table_changed : table_of width (set shared (value % 256) new) ≡ with_list table value list
+    table_changed =
+        ap (λ (lists : List (List (ℕ × List ℕ))). let t : Table = record { width = width; lists = lists } in t)
+        (ap (λ (buckets : List (List (List (ℕ × List ℕ)))). lists_of buckets (2 ^ width)) new_buckets
+        ∙ lists_changed width value (buckets_of shared) is.kept within list)
+        ∙ ap (λ (t : Table). with_list t value list) is.seen
+
+    -- where the list is short it is kept
+    pub kept_changed : length list ≤ 1048576 → IsKept width (buckets_of (set shared (value % 256) new))
+    kept_changed short =
+        subst (λ (buckets : List (List (List (ℕ × List ℕ)))). IsKept width buckets) (sym new_buckets)
+        (kept_with_list width value (buckets_of shared) is.kept within list short)
+
+    -- and the list is the value's
+    pub list_changed : posting_list (table_of width (set shared (value % 256) new)) value ≡ list
+    list_changed =
+        ap (λ (t : Table). posting_list t value) table_changed
+        ∙ ap (λ (t : Table). posting_list (with_list t value list) value) (sym is.seen)
+        ∙ get_or-set_same (lists_of (buckets_of shared) (2 ^ width)) value list [] in_lists
+
+    -- the table is the old one with what is now the value's list
+    pub only_list_changed : table_of width (set shared (value % 256) new) ≡ with_list table value (posting_list (table_of width (set shared (value % 256) new)) value)
+    only_list_changed = table_changed ∙ ap (with_list table value) (sym list_changed)
+
+    -- what is told of the list in the bucket is so of the value's
+    pub list_told : (relation : List (ℕ × List ℕ) → List (ℕ × List ℕ) → Type 0) → relation (get_or (arc_value own) (value / 256) []) list
+        → relation (posting_list table value) (posting_list (table_of width (set shared (value % 256) new)) value)
+    list_told relation told = rw (← own_list, list_changed) told
+
+  module _ (new : Arc (List (List (ℕ × List ℕ))) Global) (same : arc_value new ≡ arc_value own) where
+    same_buckets : buckets_of (set shared (value % 256) new) ≡ buckets_of shared
+    same_buckets = map-set_same (λ bucket. arc_value bucket) shared (value % 256) new own (same ∙ ap (λ bucket. arc_value bucket) is.stands)
+
+    -- a bucket that is as it was changes nothing
+    pub table_same : table_of width (set shared (value % 256) new) ≡ table
+    table_same =
+        ap (λ (buckets : List (List (List (ℕ × List ℕ)))). let t : Table = record { width = width; lists = lists_of buckets (2 ^ width) } in t) same_buckets
+        ∙ is.seen
+
+    -- and is kept
+    pub kept_same : IsKept width (buckets_of (set shared (value % 256) new))
+    kept_same = subst (λ (buckets : List (List (List (ℕ × List ℕ)))). IsKept width buckets) (sym same_buckets) is.kept
+
+  -- a bucket in which an entry was added, or which is as it was
+  module _ (new : Arc (List (List (ℕ × List ℕ))) Global) (entry : ℕ × List ℕ) where
+    abbrev pushed : List (ℕ × List ℕ)
+    pushed = get_or (arc_value own) (value / 256) [] ++ entry ∷ []
+
+    -- adds it to the table
+    pub entry_added : arc_value new ≡ set (arc_value own) (value / 256) pushed → table_of width (set shared (value % 256) new) ≡ with_entry table value entry
+    entry_added changed = table_changed new pushed changed ∙ ap (λ (list : List (ℕ × List ℕ)). with_list table value (list ++ entry ∷ [])) own_list
+
+    -- and is kept
+    pub pushed_kept : {E : Type 0} (result : Result (Unit {0}) E) → length (posting_list table value) < 1048576
+        → OnOk result (arc_value new ≡ set (arc_value own) (value / 256) pushed) → OnErr result (arc_value new ≡ arc_value own)
+        → IsKept width (buckets_of (set shared (value % 256) new))
+    pushed_kept (Ok done) room added same =
+        kept_changed new pushed added (omega (arith, length-append (get_or (arc_value own) (value / 256) []) (entry ∷ []), ap length own_list, room))
+    pushed_kept (Err refused) room added same = kept_same new same

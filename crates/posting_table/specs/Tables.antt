@@ -1,7 +1,8 @@
 -- Posting tables: the entries (key, code) of each value of one part.
-use Rattle.std.specs.Prelude.{◌≡◌, ℕ, ◌+◌, ◌^◌, ◌<◌, ◌==◌, Bool, false, List, [], ◌∷◌, ◌++◌, Option, MatchOption, length, replicate, slice_index_or, slice_set, sum_by, refl}
+use Rattle.std.specs.Prelude.{◌≡◌, ℕ, ◌+◌, ◌^◌, ◌<◌, ◌==◌, Bool, false, List, [], ◌∷◌, ◌++◌, Option, MatchOption, length, replicate, slice_index_or, slice_set, refl}
 use Rattle.std.specs.Coded.{Coded, code_by, coded×, coded_list, coded_ℕ}
-use Rattle.std.specs.List.{list_any, swap_remove}
+use Rattle.std.specs.List.{list_any}
+use Rattle.std.specs.List.Sorted.{IsPermutation}
 
 -- the width of a part, and the list of entries of each of its values
 pub record Table : Type 0 where
@@ -38,14 +39,10 @@ has_key entries key = list_any (λ entry. entry.0 == key) entries
 abbrev pub key_at : List (ℕ × List ℕ) → ℕ → ℕ → Type 0
 key_at entries place key = (place < length entries) × ((other : ℕ × List ℕ) → (slice_index_or entries place other).0 ≡ key)
 
--- one entry of the key is gone: the last entry stands in its place, and each other entry as often as before
+-- one entry of the key is gone, and each other entry is there as often as before, in some order
 pub record Loses (key : ℕ) (old new : List (ℕ × List ℕ)) : Type 0 where
-  pub place : ℕ
   pub code : List ℕ
-  pub in_list : place < length old
-  pub stood : slice_index_or old place (key, code) ≡ (key, code)
-  pub left : new ≡ swap_remove old place (key, code)
-  pub counts : (f : ℕ × List ℕ → ℕ) → sum_by f old ≡ f (key, code) + sum_by f new
+  pub others_stay : IsPermutation old ((key, code) ∷ new)
 
 -- the list of a value in the first table loses an entry of the key, and is then that of the second
 abbrev pub LosesEntry : Table → Table → ℕ → ℕ → Type 0

@@ -2,6 +2,8 @@
 //! Entries come and go one at a time, and no call gives a code without a step.
 #![tactic(auto)]
 
+mod bucket;
+mod changes;
 mod postings;
 
 pub use postings::Postings;

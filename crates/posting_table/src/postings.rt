@@ -1,15 +1,20 @@
 //! The posting lists of one part.
 
 ghost use Rattle.std.specs.Prelude.{◌≡◌, ◌+◌, ◌^◌, ◌<◌, ◌≤◌, true, false, length, slice_index_or, IfOk, OnOk, OnErr, Ok};
-ghost use Rattle.posting_table.specs.Tables.{FindsKey, LosesEntry, empty_table, has_key, posting_list, with_entry, with_list};
+ghost use Rattle.hamming_model.specs.declared.limits.TheConstants.{ENTRIES_MOST, PART_WIDTH_MOST};
+ghost use Rattle.posting_table.specs.Tables.{LosesEntry, empty_table, has_key, posting_list, with_entry, with_list};
 
+use crate::bucket::Bucket;
+use crate::changes::{push_in, remove_from};
 use gph_codes::Code;
 use read_meter::{NoMemory, Steps};
 use std::alloc::Global;
 use std::marker::Model;
+use std::sync::Arc;
 
-/// How many entries a posting list has at most: as many as a history may have.
-pub const ENTRIES: usize = 1_048_576;
+/// How many buckets the lists of a part are kept in, where it has that many values: the list of a value is in
+/// the bucket of its rest by this number.
+pub(crate) const BUCKETS: usize = 256;
 
 /// The posting lists of one part of a layout: for each value of the part the entries (key, code) of the
 /// codes that have it there. Seen as a table: the part's width, and the lists by value. The order of a
@@ -18,21 +23,21 @@ pub const ENTRIES: usize = 1_048_576;
 pub struct Postings<const W: usize> {
     alloc: Global,
     width: u32,
-    lists: Vec<Vec<(u64, Code<W>)>>,
+    // tables that are copies of one another have the buckets in common that neither has changed since
+    buckets: Vec<Arc<Bucket<W>>>,
 }
 
 impl<const W: usize> Model for Postings<W> {
-    ghost use Rattle.std.specs.Prelude.{map};
     ghost use Rattle.posting_table.specs.Tables.{Table, table_code};
-    ghost use Rattle.posting_table.specs.Kept.{IsKept};
+    ghost use Rattle.posting_table.specs.Kept.{IsKept, buckets_of, table_of};
 
     ghost Value = { Table };
 
     ghost coded = { table_code };
 
-    ghost view = { λ kept. record { width = kept.width; lists = map (λ list. list.items) kept.lists.items } };
+    ghost view = { λ kept. table_of kept.width kept.buckets.items };
 
-    ghost invariant = { λ kept. IsKept kept.width (map (λ list. list.items) kept.lists.items) };
+    ghost invariant = { λ kept. IsKept kept.width (buckets_of kept.buckets.items) };
 }
 
 impl<const W: usize> Postings<W> {
@@ -43,48 +48,54 @@ impl<const W: usize> Postings<W> {
     /// `NoMemory` where there is no memory for that many lists.
     pub fn new(alloc: Global, width: u32) -> Result<Postings<W>, NoMemory>
         requires some { 1 ≤ width }
-        requires narrow { width ≤ 12 }
+        requires narrow { width ≤ PART_WIDTH_MOST }
         ensures { IfOk result (λ table. table ≡ empty_table width) }
     {
-        let number = 1usize << width;
-        let Ok(mut lists) = Vec::with_capacity(alloc, number) else {
+        let values = 1usize << width;
+        let number = values.min(BUCKETS);
+        let Ok(mut buckets) = Vec::with_capacity(alloc, number) else {
             return Err(NoMemory);
         };
         for _i in 0..number {
-            let Ok(()) = lists.push(Vec::new(alloc)) else {
+            let bucket = Bucket::new(alloc, (values + BUCKETS - 1) / BUCKETS)?;
+            let Ok(shared) = Arc::new(alloc, bucket) else {
+                return Err(NoMemory);
+            };
+            let Ok(()) = buckets.push(shared) else {
                 return Err(NoMemory);
             };
         }
         Ok(Postings {
             alloc,
             width,
-            lists,
+            buckets,
         })
     }
 
-    /// An equal table of its own. Takes time and memory for every entry.
+    /// An equal table of its own: a change of either is none of the other. Takes time and memory for each
+    /// bucket and not for each entry.
     ///
     /// # Errors
     ///
-    /// `NoMemory` where there is no memory for the lists.
+    /// `NoMemory` where there is no memory for the buckets.
     pub fn copy(&self) -> Result<Postings<W>, NoMemory>
         ensures { IfOk result (λ copy. copy ≡ self.now) }
     {
-        let Ok(mut copies) = Vec::with_capacity(self.alloc, self.lists.len()) else {
+        let Ok(mut copies) = Vec::with_capacity(self.alloc, self.buckets.len()) else {
             return Err(NoMemory);
         };
-        for list in &self.lists {
-            let Ok(copied) = Vec::from_slice(self.alloc, list.as_slice()) else {
+        for bucket in &self.buckets {
+            let Ok(shared) = bucket.clone() else {
                 return Err(NoMemory);
             };
-            let Ok(()) = copies.push(copied) else {
+            let Ok(()) = copies.push(shared) else {
                 return Err(NoMemory);
             };
         }
         Ok(Postings {
             alloc: self.alloc,
             width: self.width,
-            lists: copies,
+            buckets: copies,
         })
     }
 
@@ -96,18 +107,16 @@ impl<const W: usize> Postings<W> {
     pub fn insert(&mut self, value: u16, key: u64, code: Code<W>) -> Result<(), NoMemory>
         requires in_width { value < 2 ^ self.old.width }
         requires absent { has_key (posting_list self.old value) key ≡ false }
-        requires room { length (posting_list self.old value) < 1048576 }
+        requires room { length (posting_list self.old value) < ENTRIES_MOST }
         ensures added { OnOk result (self.new ≡ with_entry self.old value (key, code.entry)) }
         ensures unchanged { OnErr result (self.new ≡ self.old) }
     {
-        let Ok(()) = self.lists[value as usize].push((key, code)) else {
-            return Err(NoMemory);
-        };
-        Ok(())
+        let bucket = &mut self.buckets[value as usize % BUCKETS];
+        push_in(bucket, value as usize / BUCKETS, key, code)
     }
 
     /// Removes the entry of a key from the list of a value, where it has one, and tells whether it had.
-    /// The last entry of the list takes its place. Looks at the entries of that list one by one.
+    /// Looks at the entries of that list one by one.
     ///
     /// # Errors
     ///
@@ -120,33 +129,23 @@ impl<const W: usize> Postings<W> {
         ensures absent { result ≡ Ok false → self.new ≡ self.old }
         ensures unchanged { OnErr result (self.new ≡ self.old) }
     {
-        let Some(place) = self.place_of(value, key) else {
+        let (bucket, at) = (value as usize % BUCKETS, value as usize / BUCKETS);
+        let Some(place) = self.buckets[bucket].place_of(at, key) else {
             return Ok(false);
         };
-        self.lists[value as usize].swap_remove(place);
+        let Ok(()) = remove_from(&mut self.buckets[bucket], at, place) else {
+            return Err(NoMemory);
+        };
         Ok(true)
-    }
-
-    // The place of the first entry of a key in the list of a value.
-    fn place_of(&self, value: u16, key: u64) -> Option<usize>
-        requires { value < 2 ^ self.now.width }
-        ensures { FindsKey (posting_list self.now value) key result }
-    {
-        for (place, entry) in self.lists[value as usize].iter().enumerate() {
-            if entry.0 == key {
-                return Some(place);
-            }
-        }
-        None
     }
 
     /// How many entries the list of a value has.
     pub fn len(&self, value: u16) -> u32
         requires { value < 2 ^ self.now.width }
         ensures number { result ≡ length (posting_list self.now value) }
-        ensures bound { result ≤ 1048576 }
+        ensures bound { result ≤ ENTRIES_MOST }
     {
-        self.lists[value as usize].len() as u32
+        self.buckets[value as usize % BUCKETS].len(value as usize / BUCKETS) as u32
     }
 
     /// The entry at a place in the list of a value, for one step.
@@ -157,6 +156,6 @@ impl<const W: usize> Postings<W> {
         ensures step { steps.new ≡ steps.old + 1 }
     {
         steps.tick();
-        self.lists[value as usize][i as usize]
+        self.buckets[value as usize % BUCKETS].list(value as usize / BUCKETS)[i as usize]
     }
 }

@@ -1,6 +1,7 @@
 -- An entry of the shard: what the calls ask on its way, and that the version which they leave is kept, in the words of the version before.
-use Rattle.std.proofs.Common.{◌≡◌, ℕ, ◌+◌, ◌*◌, ◌%◌, ◌<◌, ◌≤◌, true, List, ◌∷◌, ◌++◌, get_or, length, map, take, drop, suc, sym, ap, subst, ◌∙◌}
+use Rattle.std.proofs.Common.{◌≡◌, ℕ, ◌+◌, ◌*◌, ◌%◌, ◌<◌, ◌≤◌, true, List, ◌∷◌, ◌++◌, get_or, length, map, take, drop, suc, sym, ap, subst, ◌∙◌, arith}
 use Rattle.std.specs.Prelude.{None, is_some}
+use Rattle.std.proofs.lemmas.List.{length-map}
 use Rattle.hamming_model.specs.Codes.{StandsFor}
 use Rattle.hamming_model.specs.History.{code_at}
 use Rattle.part_layout.specs.Laid.{Laid}
@@ -12,18 +13,19 @@ use Rattle.shard_version.proofs.PartLemmas.{AddsValue, CountsValue, RemovesValue
 use Rattle.shard_version.proofs.KeptLemmas.{CountsAll, each_has, each_takes, kept_with_row, kept_without_row, place_inside, row_there, rows_with_row, rows_without_row, stands_own}
 
 module _ {W : ℕ} (shard shards at : ℕ) (layout : Laid) (stored : List (ℕ × List ℕ)) (tables : List (PartTable W)) (kept : IsKept (contents_of shard shards at layout stored) stored tables)
-    (self : Contents) (seen : contents_of shard shards at layout stored ≡ self) (key place : ℕ) (rows : List (ℕ × List ℕ)) (same : rows ≡ stored) (found : IsPlace rows key place)
-    (room : self.at < 1048576) where
+    (self : Contents) (seen : contents_of shard shards at layout stored ≡ self) (key place : ℕ) (rows : List (ℕ × List ℕ)) (same : rows ≡ stored) (found : IsPlace rows key place) where
   placed : IsPlace stored key place
   placed = subst (λ (others : List (ℕ × List ℕ)). IsPlace others key place) same found
 
-  fits : at < 1048576
-  fits = subst (λ (contents : Contents). contents.at < 1048576) (sym seen) room
-
-  module _ (code : List ℕ) (absent : code_at self.rows key ≡ None) (stands : StandsFor W self.layout.bits code (take self.layout.bits code)) (own : key % self.shards ≡ self.shard)
+  module _ (room : length self.rows < 1048576) (code : List ℕ) (absent : code_at self.rows key ≡ None) (stands : StandsFor W self.layout.bits code (take self.layout.bits code)) (own : key % self.shards ≡ self.shard)
       (lent : Laid) (is : lent ≡ layout) where
     none : code_at (map (unpadded layout.bits) stored) key ≡ None
     none = ap (λ (contents : Contents). code_at contents.rows key) seen ∙ absent
+
+    fits : length stored < 1048576
+    fits =
+        let few = subst (λ (contents : Contents). length contents.rows < 1048576) (sym seen) room in
+        omega (arith, length-map stored (unpadded layout.bits), few)
 
     stand : StandsFor W layout.bits code (take layout.bits code)
     stand = subst (λ (contents : Contents). StandsFor W contents.layout.bits code (take contents.layout.bits code)) (sym seen) stands
@@ -70,7 +72,7 @@ module _ {W : ℕ} (shard shards at : ℕ) (layout : Laid) (stored : List (ℕ �
         pub kept_deleted : RemovesValue → (new : List (PartTable W)) → AreChanged (Lost lent key (take lent.bits row.1)) tables new (length tables) → IsKept (contents_of shard shards (at + 1) layout left) left new
         kept_deleted removed new changed =
             subst (λ (others : List (ℕ × List ℕ)). IsKept (contents_of shard shards (at + 1) layout others) others new) (sym cut)
-            (kept_without_row shard shards at layout stored tables kept key place placed some row.1 stood new fits removed
+            (kept_without_row shard shards at layout stored tables kept key place placed some row.1 stood new removed
             (subst (λ (laid : Laid). AreChanged (Lost laid key (take laid.bits row.1)) tables new (length tables)) is changed))
 
         -- and is seen as the version before without the row

@@ -1,5 +1,5 @@
 -- The rows of one shard change with each entry as the shard's own do.
-use Rattle.std.proofs.Common.{◌≡◌, ℕ, ◌+◌, ◌%◌, ◌<◌, ◌==◌, nat_lt, Bool, true, false, cond, List, [], ◌∷◌, ◌++◌, length, filter, refl, sym, ap, subst, ◌∙◌, arith, eq-eqb, eqb-true, length-append, append_assoc}
+use Rattle.std.proofs.Common.{◌≡◌, ℕ, ◌+◌, ◌%◌, ◌<◌, ◌≤◌, ◌==◌, nat_lt, Bool, true, false, cond, List, [], ◌∷◌, ◌++◌, length, filter, refl, sym, ap, subst, ◌∙◌, arith, eq-eqb, eqb-true, length-append, append_assoc}
 use Rattle.std.specs.Prelude.{is_some}
 use Rattle.std.specs.List.{AllByRecursion}
 use Rattle.std.specs.List.Sorted.{IsStrictlySortedBy}
@@ -10,12 +10,13 @@ use Rattle.std.specs.BTreeMap.{insert_entry, is_at}
 use Rattle.std.specs.Map.{keys_of, remove_entry}
 use Rattle.std.proofs.lemmas.List.{append-nil}
 use Rattle.std.proofs.lemmas.Map.Entries.{lookup-filter-keys}
-use Rattle.hamming_model.specs.History.{Operation, JournalEntry, Add, Delete, Fits, changed, code_at, rows_of, shard_rows}
+use Rattle.hamming_model.specs.History.{Operation, JournalEntry, Add, Delete, Fits, changed, code_at, rows_from, rows_of, shard_rows}
 use Rattle.hamming_model.proofs.RowLemmas.{rows_of_append, rows_ascend}
 use Rattle.entry_log.specs.Meaning.{key_of}
 use Rattle.part_layout.specs.Laid.{Laid}
 use Rattle.shard_version.specs.Contents.{Contents, changed_in, after_entry, empty_of}
 use Rattle.shard_version.specs.Prefixes.{after_entries, prefix_of}
+use Rattle.shard_version.proofs.PartLemmas.{filter_short}
 use Rattle.shard_version.proofs.PlaceLemmas.{all_above, all_weaker, inserted_between, less_below}
 
 same_key : (a b : ℕ) → nat_cmp a b ≡ Equal → a ≡ b
@@ -155,7 +156,7 @@ entries_append version [] more = refl
 entries_append version (entry ∷ history) more = entries_append (after_entry version entry) history more
 
 -- the version that comes after that of a history
-prefix_step : (shard shards : ℕ) (layout : Laid) (history : List JournalEntry) (entry : JournalEntry)
+pub prefix_step : (shard shards : ℕ) (layout : Laid) (history : List JournalEntry) (entry : JournalEntry)
     → after_entry (prefix_of shard shards layout history) entry ≡ prefix_of shard shards layout (history ++ entry ∷ [])
 prefix_step shard shards layout history entry =
     let long : length history + 1 ≡ length (history ++ entry ∷ []) = sym (length-append history (entry ∷ [])) in
@@ -172,6 +173,38 @@ prefix_from shard shards layout history (entry ∷ more) =
 -- entries from the first on leave the version of their history
 pub prefix_reached : (shard shards : ℕ) (layout : Laid) (history : List JournalEntry) → after_entries (empty_of shard shards layout) history ≡ prefix_of shard shards layout history
 prefix_reached shard shards layout history = prefix_from shard shards layout [] history
+
+-- a row more or a code changed
+few_inserted : (rows : List (ℕ × List ℕ)) (key : ℕ) (code : List ℕ) → length (insert_entry nat_cmp rows key code) ≤ length rows + 1
+few_inserted [] key code = omega arith
+few_inserted (row ∷ rows) key code = go (nat_cmp key row.0) (few_inserted rows key code)
+  where
+    go : (o : Ordering) → length (insert_entry nat_cmp rows key code) ≤ length rows + 1
+        → length (match_ordering o ((key, code) ∷ row ∷ rows) ((row.0, code) ∷ rows) (row ∷ insert_entry nat_cmp rows key code)) ≤ length (row ∷ rows) + 1
+    go Less rest = omega arith
+    go Equal rest = omega arith
+    go Greater rest = omega arith
+
+-- a row less or none
+few_removed : (rows : List (ℕ × List ℕ)) (test : ℕ → Bool) → length (remove_entry test rows) ≤ length rows
+few_removed [] test = omega arith
+few_removed (row ∷ rows) test = go (test row.0) (few_removed rows test)
+  where
+    go : (here : Bool) → length (remove_entry test rows) ≤ length rows → length (cond here rows (row ∷ remove_entry test rows)) ≤ length (row ∷ rows)
+    go true rest = omega arith
+    go false rest = omega arith
+
+few_changed : (rows : List (ℕ × List ℕ)) (operation : Operation) → length (changed rows operation) ≤ length rows + 1
+few_changed rows (Add key code) = few_inserted rows key code
+few_changed rows (Delete key) = omega (arith, few_removed rows (is_at (nat_cmp key)))
+
+few_from : (rows : List (ℕ × List ℕ)) (history : List JournalEntry) → length (rows_from rows history) ≤ length rows + length history
+few_from rows [] = omega arith
+few_from rows (entry ∷ history) = omega (arith, few_changed rows entry.operation, few_from (changed rows entry.operation) history)
+
+-- a history has at most one row of a shard for each entry
+pub few_rows : (shard shards : ℕ) (history : List JournalEntry) → length (shard_rows shard shards (rows_of history)) ≤ length history
+few_rows shard shards history = omega (arith, filter_short (λ (row : ℕ × List ℕ). row.0 % shards == shard) (rows_of history), few_from [] history)
 
 -- the shard's rows have the codes of its keys
 code_of_shard : (shard shards : ℕ) (rows : List (ℕ × List ℕ)) (key : ℕ) → key % shards ≡ shard → code_at (shard_rows shard shards rows) key ≡ code_at rows key

@@ -61,13 +61,12 @@ counts_width version part = refl
 -- no row is in more than one list, and no list has more rows than there are
 takes_row : {W : ℕ} (version : Contents) (front back : List (ℕ × List ℕ)) (key : ℕ) (stored : List ℕ) (part : ℕ) (table : PartTable W)
     → StandsFor W version.layout.bits stored (take version.layout.bits stored) → version.rows ≡ front ++ back → AllByRecursion (λ row. row.0 ≢ key) (front ++ back)
-    → IsVersion version → version.at < 1048576 → CountsAll → IsPartTable version part table → TakesRow table (part_value (take version.layout.bits stored) (part_at version.layout part)) key
+    → IsVersion version → length version.rows < 1048576 → CountsAll → IsPartTable version part table → TakesRow table (part_value (take version.layout.bits stored) (part_at version.layout part)) key
 takes_row version front back key stored part table stands rows_are apart sound room all own =
     let fits = value_fits version front back key stored part stands in
     let wide : 2 ^ table.postings.width ≡ 2 ^ length (part_at version.layout part) = ap (λ n. 2 ^ n) own.postings.width in
     let counted : 2 ^ table.counts.width ≡ 2 ^ length (part_at version.layout part) = ap (λ n. 2 ^ n) (ap (λ (counts : CopyTable). counts.width) own.counts ∙ counts_width version part) in
     let short = list_short version front back key stored part stands table.postings rows_are own.postings own.size in
-    let few = sound.from_entries in
     let total = all (length (part_at version.layout part)) (part_values version.rows (part_at version.layout part)) (values_in_width version.layout.bits version.rows (part_at version.layout part) sound.codes) in
     let same : total_of table.counts ≡ total_of (counts_of version part) = ap (λ (counts : CopyTable). total_of counts) own.counts in
     let long = length-map version.rows (λ (row : ℕ × List ℕ). part_value row.1 (part_at version.layout part)) in
@@ -160,20 +159,23 @@ module _ {W : ℕ} (shard shards at : ℕ) (layout : Laid) (stored : List (ℕ �
       apart = all_append (λ row. row.0 ≢ key) front back (all_weaker (λ row. row.0 < key) (λ row. row.0 ≢ key) (λ row h e. omega arith) front front_below)
           (all_weaker (λ row. key < row.0) (λ row. row.0 ≢ key) (λ row h e. omega arith) back back_above)
 
+      few : length stored < 1048576 → length (map (unpadded layout.bits) stored) < 1048576
+      few room = omega (arith, length-map stored (unpadded layout.bits), room)
+
       -- each part takes the row
-      pub each_takes : at < 1048576 → CountsAll → EachTakes layout tables key (take layout.bits stored_code)
+      pub each_takes : length stored < 1048576 → CountsAll → EachTakes layout tables key (take layout.bits stored_code)
       each_takes room all = record {
         each = λ part other below.
-            takes_row seen front back key stored_code part (get_or tables part other) stands rows_cut apart kept.sound room all (kept.each part other below);
+            takes_row seen front back key stored_code part (get_or tables part other) stands rows_cut apart kept.sound (few room) all (kept.each part other below);
       }
 
-      new_sound : at < 1048576 → key % shards ≡ shard → IsVersion (next_with seen (front ++ (key, code) ∷ back))
+      new_sound : length stored < 1048576 → key % shards ≡ shard → IsVersion (next_with seen (front ++ (key, code) ∷ back))
       new_sound room own =
           let rows = map (unpadded layout.bits) stored in
           let there : insert_entry nat_cmp rows key code ≡ front ++ (key, code) ∷ back = ap (λ (others : List (ℕ × List ℕ)). insert_entry nat_cmp others key code) rows_cut ∙ inserted_between front back key code front_below back_above in
           let long = ap (λ (others : List (ℕ × List ℕ)). length others) there in
           let more = length_inserted rows key code absent in
-          let few = kept.sound.from_entries in
+          let short = few room in
           let all_own : AllByRecursion (λ row. row.0 % shards ≡ shard) (front ++ back) = subst (λ (others : List (ℕ × List ℕ)). AllByRecursion (λ row. row.0 % shards ≡ shard) others) rows_cut kept.sound.own_keys in
           record {
             laid = kept.sound.laid;
@@ -182,12 +184,11 @@ module _ {W : ℕ} (shard shards at : ℕ) (layout : Laid) (stored : List (ℕ �
             codes = subst (λ (others : List (ℕ × List ℕ)). AreCodeRows layout.bits others) there (codes_inserted layout.bits rows key code kept.sound.codes stands.is_code);
             ascending = subst (λ (others : List (ℕ × List ℕ)). IsStrictlySortedBy nat_cmp (keys_of others)) there (ascends_inserted rows key code kept.sound.ascending);
             own_keys = all_append (λ row. row.0 % shards ≡ shard) front ((key, code) ∷ back) (all_front (λ row. row.0 % shards ≡ shard) front back all_own) (own, all_back (λ row. row.0 % shards ≡ shard) front back all_own);
-            from_entries = omega arith;
-            few_entries = omega arith;
+            few_rows = omega arith;
           }
 
       -- a version with the row in its tables and at its place is kept
-      pub kept_with_row : (new : List (PartTable W)) → at < 1048576 → key % shards ≡ shard → AddsValue → AreChanged (Taken layout key stored_code (take layout.bits stored_code)) tables new (length tables)
+      pub kept_with_row : (new : List (PartTable W)) → length stored < 1048576 → key % shards ≡ shard → AddsValue → AreChanged (Taken layout key stored_code (take layout.bits stored_code)) tables new (length tables)
           → IsKept (contents_of shard shards (at + 1) layout (take place stored ++ (key, stored_code) ∷ drop place stored)) (take place stored ++ (key, stored_code) ∷ drop place stored) new
       kept_with_row new room own added changed =
           let after : next_with seen (front ++ (key, code) ∷ back) ≡ contents_of shard shards (at + 1) layout (take place stored ++ (key, stored_code) ∷ drop place stored) =
@@ -270,13 +271,13 @@ module _ {W : ℕ} (shard shards at : ℕ) (layout : Laid) (stored : List (ℕ �
               has_row seen front past key stored_code part (get_or tables part other) stands_own full_cut present (kept.each part other below);
         }
 
-        left_sound : at < 1048576 → IsVersion (next_with seen (front ++ past))
-        left_sound room =
+        left_sound : IsVersion (next_with seen (front ++ past))
+        left_sound =
             let rows = map (unpadded layout.bits) stored in
             let there : remove_entry (is_at (nat_cmp key)) rows ≡ front ++ past = sym rows_without_row ∙ left_cut in
             let long = ap (λ (others : List (ℕ × List ℕ)). length others) there in
             let fewer = length_removed rows key present in
-            let few = kept.sound.from_entries in
+            let short = kept.sound.few_rows in
             let all_own : AllByRecursion (λ row. row.0 % shards ≡ shard) (front ++ (key, own_code) ∷ past) = subst (λ (others : List (ℕ × List ℕ)). AllByRecursion (λ row. row.0 % shards ≡ shard) others) full_cut kept.sound.own_keys in
             record {
               laid = kept.sound.laid;
@@ -285,19 +286,18 @@ module _ {W : ℕ} (shard shards at : ℕ) (layout : Laid) (stored : List (ℕ �
               codes = subst (λ (others : List (ℕ × List ℕ)). AreCodeRows layout.bits others) there (codes_removed layout.bits rows key kept.sound.codes);
               ascending = subst (λ (others : List (ℕ × List ℕ)). IsStrictlySortedBy nat_cmp (keys_of others)) there (ascends_removed rows key kept.sound.ascending);
               own_keys = all_append (λ row. row.0 % shards ≡ shard) front past (all_front (λ row. row.0 % shards ≡ shard) front ((key, own_code) ∷ past) all_own) (all_back (λ row. row.0 % shards ≡ shard) front ((key, own_code) ∷ past) all_own).1;
-              from_entries = omega arith;
-              few_entries = omega arith;
+              few_rows = omega arith;
             }
 
         -- a version with the row out of its tables and its place is kept
-        pub kept_without_row : (new : List (PartTable W)) → at < 1048576 → RemovesValue → AreChanged (Lost layout key (take layout.bits stored_code)) tables new (length tables)
+        pub kept_without_row : (new : List (PartTable W)) → RemovesValue → AreChanged (Lost layout key (take layout.bits stored_code)) tables new (length tables)
             → IsKept (contents_of shard shards (at + 1) layout (take place stored ++ drop (suc place) stored)) (take place stored ++ drop (suc place) stored) new
-        kept_without_row new room removed changed =
+        kept_without_row new removed changed =
             let after : next_with seen (front ++ past) ≡ contents_of shard shards (at + 1) layout (take place stored ++ drop (suc place) stored) = ap (next_with seen) (sym left_cut) in
             let stand : ℕ × List ℕ → Type 0 = λ row. StandsFor W layout.bits row.1 (take layout.bits row.1) in
             let number = changed.number in
             subst (λ (version : Contents). IsKept version (take place stored ++ drop (suc place) stored) new) after (record {
-              sound = left_sound room;
+              sound = left_sound;
               few_words = kept.few_words;
               room = kept.room;
               stored_codes = all_append stand (take place stored) (drop (suc place) stored) (all_front stand (take place stored) ((key, stored_code) ∷ drop (suc place) stored) all_stored)
@@ -344,8 +344,7 @@ kept_empty shard shards layout tables laid own few words room counts empty = rec
     codes = tt;
     ascending = tt;
     own_keys = tt;
-    from_entries = omega arith;
-    few_entries = omega arith;
+    few_rows = omega arith;
   };
   few_words = words;
   room = room;

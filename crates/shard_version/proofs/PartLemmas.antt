@@ -1,10 +1,11 @@
 -- The tables of one part, when a row comes or goes.
 use Rattle.std.proofs.Common.{◌≡◌, ◌≢◌, ℕ, ◌+◌, ◌^◌, ◌<◌, ◌≤◌, ◌==◌, Bool, true, false, cond, List, [], ◌∷◌, ◌++◌, length, map, filter, get_or, count_by, nat_lt, sum_by, take, refl, sym, ap, subst, ◌∙◌, arith, eq-eqb, eqb-true, All}
-use Rattle.std.specs.List.{AllByRecursion, swap_remove}
+use Rattle.std.specs.List.{AllByRecursion}
+use Rattle.std.specs.List.Sorted.{IsPermutation}
 use Rattle.std.proofs.lemmas.Bool.{ne_eqb, eqb-false}
 use Rattle.std.proofs.lemmas.List.{get_or-set_same, get_or-set_other, length-map, map-append}
 use Rattle.std.proofs.lemmas.List.Elements.{All-tail, All-from_recursion, recursion_from_All}
-use Rattle.std.proofs.lemmas.List.Sorted.{All-permutation, IsPermutation-swap_remove}
+use Rattle.std.proofs.lemmas.List.Sorted.{All-permutation, IsPermutation-sym, sum_by-IsPermutation}
 use Rattle.std.proofs.lemmas.List.Sums.{sum_by-cons, sum_by-append}
 use Rattle.hamming_model.specs.Codes.{StandsFor, IsCode}
 use Rattle.hamming_model.specs.Layouts.{part_count, part_distance, part_value}
@@ -30,12 +31,13 @@ all_filter P test (x ∷ xs) all = go (test x) (all_filter P test xs all.1)
     go true rest = (all.0, rest)
     go false rest = rest
 
-all_without : {X : Type 0} (P : X → Type 0) (xs : List X) (place : ℕ) (x : X) → place < length xs → get_or xs place x ≡ x → AllByRecursion P xs → AllByRecursion P (swap_remove xs place x)
-all_without P xs place x within is all =
-    recursion_from_All P (swap_remove xs place x) (All-tail P x (swap_remove xs place x)
-    (All-permutation P xs (x ∷ swap_remove xs place x) (IsPermutation-swap_remove xs place x within (sym is)) (All-from_recursion P xs all)))
+-- what is true of each element is so of those that stay
+all_left : {X : Type 0} (P : X → Type 0) (xs ys : List X) (x : X) → IsPermutation xs (x ∷ ys) → AllByRecursion P xs → AllByRecursion P ys
+all_left P xs ys x stay all =
+    recursion_from_All P ys (All-tail P x ys (All-permutation P xs (x ∷ ys) stay (All-from_recursion P xs all)))
 
-filter_short : {X : Type 0} (test : X → Bool) (xs : List X) → length (filter test xs) ≤ length xs
+-- a test lets through no more than all
+pub filter_short : {X : Type 0} (test : X → Bool) (xs : List X) → length (filter test xs) ≤ length xs
 filter_short test [] = omega arith
 filter_short test (x ∷ xs) = go (test x) (filter_short test xs)
   where
@@ -207,11 +209,14 @@ module _ {W : ℕ} (version : Contents) (front back : List (ℕ × List ℕ)) (k
       other_list : (v : ℕ) → v ≢ value → posting_list new v ≡ posting_list table v
       other_list v other = ap (λ (t : Table). posting_list t v) others ∙ get_or-set_other table.lists value v (posting_list new value) [] other
 
+      without_it : (f : ℕ × List ℕ → ℕ) → sum_by f (posting_list table value) ≡ f (key, loses.code) + sum_by f (posting_list new value)
+      without_it f = sum_by-IsPermutation f ((key, loses.code) ∷ posting_list new value) (posting_list table value) (IsPermutation-sym _ _ loses.others_stay) ∙ sum_by-cons f (key, loses.code) (posting_list new value)
+
       own_list : HasSame (map (unpadded bits) (posting_list new value)) (rows_with (front ++ back) positions value)
       own_list = same_without key (unpadded bits (key, loses.code)) row (map (unpadded bits) (posting_list new value)) (rows_with (front ++ back) positions value) refl refl
           (all_filter (λ other. other.0 ≢ key) (λ other. part_value other.1 positions == value) (front ++ back) apart)
           (λ f. (
-          let counted = loses.counts (λ entry. f (unpadded bits entry)) in
+          let counted = without_it (λ entry. f (unpadded bits entry)) in
           let before = sum_map f (unpadded bits) (posting_list table value) in
           let after = sum_map f (unpadded bits) (posting_list new value) in
           let full = full_sums value value_fits f in
@@ -227,8 +232,8 @@ module _ {W : ℕ} (version : Contents) (front back : List (ℕ × List ℕ)) (k
       left_codes : (v : ℕ) → (same : Bool) → (v == value) ≡ same → AreStored W bits (posting_list new v)
       left_codes v false e = subst (λ (list : List (ℕ × List ℕ)). AreStored W bits list) (sym (other_list v (eqb-false v value e))) (postings.codes v)
       left_codes v true e =
-          let own : AreStored W bits (posting_list new value) = subst (λ (list : List (ℕ × List ℕ)). AreStored W bits list) (sym loses.left)
-          (all_without (λ entry. StandsFor W bits entry.1 (take bits entry.1)) (posting_list table value) loses.place (key, loses.code) loses.in_list loses.stood (postings.codes value)) in
+          let own : AreStored W bits (posting_list new value) =
+              all_left (λ entry. StandsFor W bits entry.1 (take bits entry.1)) (posting_list table value) (posting_list new value) (key, loses.code) loses.others_stay (postings.codes value) in
           subst (λ (u : ℕ). AreStored W bits (posting_list new u)) (sym (eqb-true v value e)) own
 
       -- the posting lists without the row's entry are those of the rows without the row

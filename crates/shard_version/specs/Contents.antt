@@ -5,11 +5,11 @@ use Rattle.std.specs.List.{AllByRecursion}
 use Rattle.std.specs.List.Sorted.{IsStrictlySortedBy}
 use Rattle.std.specs.Map.{keys_of}
 use Rattle.std.specs.Ordering.{nat_cmp}
-use Rattle.hamming_model.specs.History.{Operation, JournalEntry, Fits, changed}
+use Rattle.hamming_model.specs.declared.limits.TheConstants.{ENTRIES_MOST, SHARDS_MOST}
+use Rattle.hamming_model.specs.History.{Operation, JournalEntry, Add, Delete, Fits, changed}
 use Rattle.hamming_model.specs.Stored.{AreCodeRows}
 use Rattle.entry_log.specs.Meaning.{key_of}
 use Rattle.part_layout.specs.Laid.{Laid, IsLaid, laid_code}
-use Rattle.shard_version.specs.declared.version.TheConstants.{ENTRIES}
 
 -- the shard of so many, the number of entries taken in, the layout, and the rows: key and code, ascending by key
 pub record Contents : Type 0 where
@@ -45,13 +45,17 @@ after_entry version entry =
 abbrev pub FitsShard : Contents → Operation → Type 0
 FitsShard version operation = key_of operation % version.shards ≡ version.shard → Fits version.rows operation
 
+-- there is room for the row that an operation of the version's own shard adds
+abbrev pub HasRoomFor : Contents → Operation → Type 0
+HasRoomFor version (Add key code) = key % version.shards ≡ version.shard → length version.rows < ENTRIES_MOST
+HasRoomFor version (Delete key) = Unit {0}
+
 -- what is true of every version
 pub record IsVersion (version : Contents) : Type 0 where
   pub laid : IsLaid version.layout
   pub own_shard : version.shard < version.shards
-  pub few_shards : version.shards ≤ 16
+  pub few_shards : version.shards ≤ SHARDS_MOST
   pub codes : AreCodeRows version.layout.bits version.rows
   pub ascending : IsStrictlySortedBy nat_cmp (keys_of version.rows)
   pub own_keys : AllByRecursion (λ row. row.0 % version.shards ≡ version.shard) version.rows
-  pub from_entries : length version.rows ≤ version.at
-  pub few_entries : version.at ≤ ENTRIES
+  pub few_rows : length version.rows ≤ ENTRIES_MOST

@@ -4,6 +4,7 @@ use Rattle.std.specs.BTreeMap.{insert_entry, is_at}
 use Rattle.std.specs.List.{AllByRecursion}
 use Rattle.std.specs.Map.{remove_entry}
 use Rattle.std.specs.Ordering.{nat_cmp}
+use Rattle.hamming_model.specs.declared.limits.TheConstants.{ENTRIES_MOST, WORDS_MOST}
 use Rattle.hamming_model.specs.Layouts.{part_value}
 use Rattle.part_layout.specs.Laid.{Laid, part_at}
 use Rattle.posting_table.specs.Tables.{LosesEntry, has_key, posting_list, with_entry, with_list}
@@ -14,7 +15,6 @@ use Rattle.search_model.specs.Reading.{unpadded}
 use Rattle.shard_version.specs.Contents.{Contents, IsVersion}
 use Rattle.shard_version.specs.Tables.{ArePostings, AreStored, Tabled, counts_of}
 use Rattle.shard_version.specs.declared.part_table.PartTable.{PartTable}
-use Rattle.shard_version.specs.declared.version.TheConstants.{ENTRIES}
 
 -- the contents that callers see: the codes of the rows without their zeros
 abbrev pub contents_of : ℕ → ℕ → ℕ → Laid → List (ℕ × List ℕ) → Contents
@@ -46,7 +46,7 @@ pub record IsPartTable {W : ℕ} (version : Contents) (part : ℕ) (table : Part
 -- rows, posting lists and counts agree: each kept code stands for the row's, and each part has tables of these rows
 pub record IsKept {W : ℕ} (version : Contents) (stored : List (ℕ × List ℕ)) (tables : List (PartTable W)) : Type 0 where
   pub sound : IsVersion version
-  pub few_words : W ≤ 8
+  pub few_words : W ≤ WORDS_MOST
   pub room : version.layout.bits ≤ 64 * W
   pub stored_codes : AreStored W version.layout.bits stored
   pub number : length tables ≡ length version.layout.parts
@@ -69,8 +69,8 @@ pub record TakesRow {W : ℕ} (table : PartTable W) (value key : ℕ) : Type 0 w
   pub in_width : value < 2 ^ table.postings.width
   pub counted : value < 2 ^ table.counts.width
   pub absent : has_key (posting_list table.postings value) key ≡ false
-  pub room : length (posting_list table.postings value) < ENTRIES
-  pub few : total_of table.counts < ENTRIES
+  pub room : length (posting_list table.postings value) < ENTRIES_MOST
+  pub few : total_of table.counts < ENTRIES_MOST
 
 -- the tables with one row more
 abbrev pub with_row : {W : ℕ} → PartTable W → ℕ → ℕ × List ℕ → PartTable W

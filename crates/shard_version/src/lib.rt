@@ -5,8 +5,10 @@
 mod laws;
 mod part_table;
 mod places;
+mod prepared;
 mod tables;
 mod version;
 
 pub use laws::{counts_are_of_the_rows, versions_follow_the_history};
-pub use version::{ENTRIES, Version};
+pub use prepared::Prepared;
+pub use version::Version;

@@ -1,12 +1,13 @@
 //! The tables of one shard after the first entries of a history.
 
-ghost use Rattle.std.specs.Prelude.{◌≡◌, ℕ, ◌+◌, ◌*◌, ◌%◌, ◌==◌, ◌<◌, ◌≤◌, length, min, take, true, None, is_some, IfOk, OnErr, OnOk};
+ghost use Rattle.std.specs.Prelude.{◌≡◌, ℕ, ◌+◌, ◌*◌, ◌%◌, ◌^◌, ◌==◌, ◌<◌, ◌≤◌, length, min, take, true, None, is_some, IfOk, OnErr, OnOk};
 ghost use Rattle.std.specs.Arc.{arc_value};
+ghost use Rattle.hamming_model.specs.declared.limits.TheConstants.{ENTRIES_MOST, SHARDS_MOST, WORDS_MOST};
 ghost use Rattle.hamming_model.specs.Codes.{StandsFor};
 ghost use Rattle.hamming_model.specs.History.{code_at};
 ghost use Rattle.entry_log.specs.Entries.{entry_of};
 ghost use Rattle.entry_log.specs.Meaning.{MeansEntry};
-ghost use Rattle.shard_version.specs.Contents.{IsVersion, FitsShard, after_entry, empty_of};
+ghost use Rattle.shard_version.specs.Contents.{IsVersion, FitsShard, HasRoomFor, after_entry, empty_of};
 ghost use Rattle.shard_version.specs.Kept.{next_with, with_added, with_deleted};
 ghost use Rattle.shard_version.specs.Tables.{AreFirst, ArePostings, AreStored, HasTables, counts_of, table_at};
 
@@ -22,9 +23,6 @@ use read_meter::{NoMemory, Steps};
 use std::alloc::Global;
 use std::marker::Model;
 use std::sync::Arc;
-
-/// The most entries that a version takes in: as many as a journal may have.
-pub const ENTRIES: u64 = 1_048_576;
 
 /// The rows of one shard after the first entries of a history, with a posting table and counts for each
 /// part of a layout. A change of a copy isn't seen in the version that it was copied from.
@@ -67,10 +65,10 @@ impl<const W: usize> Version<W> {
         shards: u32,
         layout: Arc<Layout>,
     ) -> Result<Version<W>, NoMemory>
-        requires few_words { W ≤ 8 }
+        requires few_words { W ≤ WORDS_MOST }
         requires room { (arc_value layout).bits ≤ 64 * W }
         requires own_shard { shard < shards }
-        requires few_shards { shards ≤ 16 }
+        requires few_shards { shards ≤ SHARDS_MOST }
         ensures { IfOk result (λ version. version.contents ≡ empty_of shard shards (arc_value layout)) }
     {
         changes_follow_a_list();
@@ -120,10 +118,11 @@ impl<const W: usize> Version<W> {
     ///
     /// `NoMemory` where there is no memory for one row more.
     pub fn apply(self, entry: &Entry<W>) -> Result<Version<W>, NoMemory>
-        requires few_words { W ≤ 8 }
-        requires room { self.contents.at < ENTRIES }
+        requires few_words { W ≤ WORDS_MOST }
+        requires counted { self.contents.at + 1 < 2 ^ 64 }
         requires means { MeansEntry self.contents.layout.bits entry.now (entry_of self.contents.layout.bits entry.now) }
         requires fits { FitsShard self.contents (entry_of self.contents.layout.bits entry.now).operation }
+        requires room { HasRoomFor self.contents (entry_of self.contents.layout.bits entry.now).operation }
         ensures { IfOk result (λ version. version.contents ≡ after_entry self.entry.contents (entry_of self.entry.contents.layout.bits entry.now)) }
     {
         match entry.op {
@@ -142,7 +141,7 @@ impl<const W: usize> Version<W> {
 
     // The version after an entry that changes no row.
     fn passed(mut self) -> Version<W>
-        requires { self.contents.at < ENTRIES }
+        requires { self.contents.at + 1 < 2 ^ 64 }
         ensures { result.contents ≡ next_with self.entry.contents self.entry.contents.rows }
     {
         self.at += 1;
@@ -151,7 +150,8 @@ impl<const W: usize> Version<W> {
 
     // The version after an entry that adds a row.
     fn with_row(mut self, key: u64, code: Code<W>) -> Result<Version<W>, NoMemory>
-        requires room { self.contents.at < ENTRIES }
+        requires counted { self.contents.at + 1 < 2 ^ 64 }
+        requires room { length self.contents.rows < ENTRIES_MOST }
         requires own { key % self.contents.shards ≡ self.contents.shard }
         requires code { StandsFor W self.contents.layout.bits code (take self.contents.layout.bits code) }
         requires absent { code_at self.contents.rows key ≡ None }
@@ -170,7 +170,7 @@ impl<const W: usize> Version<W> {
 
     // The version after an entry that deletes a row.
     fn without_row(mut self, key: u64) -> Result<Version<W>, NoMemory>
-        requires room { self.contents.at < ENTRIES }
+        requires counted { self.contents.at + 1 < 2 ^ 64 }
         requires present { is_some (code_at self.contents.rows key) ≡ true }
         ensures { IfOk result (λ version. version.contents ≡ with_deleted self.entry.contents key) }
     {

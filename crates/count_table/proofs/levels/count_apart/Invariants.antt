@@ -1,5 +1,5 @@
 use Rattle.std.proofs.Common.{◌≡◌, ℕ, ◌<◌, get_or, length}
-use Rattle.count_table.specs.Layout.{copies_apart}
+use Rattle.count_table.specs.Kept.{copies_apart}
 use Rattle.count_table.proofs.levels.count_apart.Given as goal
 
 abbrev pub invariant-loop-other : goal.invariant-loop-other

@@ -1,5 +1,6 @@
-use Rattle.std.proofs.Common.{◌≡◌, map, take}
+use Rattle.std.proofs.Common.{◌≡◌, take}
+use Rattle.posting_table.specs.Kept.{buckets_of}
 use Rattle.posting_table.proofs.postings.Postings.copy.Given as goal
 
-abbrev pub invariant-loop-list : goal.invariant-loop-list
-invariant-loop-list g l = map (λ list. list.items) l.copies.items ≡ take l.list-index (map (λ list. list.items) l.self-inside.lists.items)
+abbrev pub invariant-loop-bucket : goal.invariant-loop-bucket
+invariant-loop-bucket g l = buckets_of l.copies.items ≡ take l.bucket-index (buckets_of l.self-inside.buckets.items)

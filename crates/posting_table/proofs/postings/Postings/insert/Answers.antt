@@ -1,35 +1,44 @@
-use Rattle.std.proofs.Common.{◌∙◌, ◌++◌, ◌∷◌, [], ap, sym, arith, length, length-append}
-use Rattle.posting_table.specs.Tables.{posting_list}
-use Rattle.posting_table.proofs.PostingsLemmas.{kept_changed, own_list, own_short, table_changed, table_same}
+use Rattle.std.proofs.Common.{rules}
+use Rattle.std.proofs.lemmas.Result.{on_ok_weaker, on_err_weaker}
+use Rattle.posting_table.proofs.PostingsLemmas.{IsBucketOf, entry_added, in_own, pushed_kept, table_same}
 use Rattle.posting_table.proofs.postings.Postings.insert.Goals as goal
+
+pub push_in-requires : goal.push_in-requires
+push_in-requires g c =
+    let is : IsBucketOf c.self.inside.width c.self.inside.buckets.items c.args.self.now c.args.value c.index_mut-bucket.result.now = record {
+      kept = c.self.invariant;
+      seen = c.self.view_is;
+      below = c.requires.in_width;
+      stands = c.index_mut-bucket.ensures.value;
+    } in
+    (search rules, (search rules, in_own is))
 
 pub invariant_of-self : goal.invariant_of-self
 invariant_of-self g c =
-    let short = own_short c.self.inside.width c.self.inside.lists.items c.args.self.now c.args.value c.self.invariant c.self.view_is
-    c.requires.in_width c.index_mut.result.now c.index_mut.ensures.value in
-    let long = ap length c.in_default.ensures.items in
-    kept_changed c.self.inside.width c.self.inside.lists.items c.args.self.now c.args.value c.self.invariant c.self.view_is
-    c.requires.in_width c.index_mut.result.now c.index_mut.ensures.value c.push.new.self (omega arith)
-
-pub returns-in_default-clause-unchanged : goal.returns-in_default-clause-unchanged
-returns-in_default-clause-unchanged g c =
-    table_same c.self.inside.width c.self.inside.lists.items c.args.self.now c.args.value c.self.invariant c.self.view_is
-    c.requires.in_width c.index_mut.result.now c.index_mut.ensures.value c.push.new.self c.in_default.ensures.items
-
-pub invariant_of-self-2 : goal.invariant_of-self-2
-invariant_of-self-2 g c =
-    let own = own_list c.self.inside.width c.self.inside.lists.items c.args.self.now c.args.value c.self.invariant c.self.view_is
-    c.requires.in_width c.index_mut.result.now c.index_mut.ensures.value in
-    let before = ap length own in
-    let long = ap length c.in-Ok.ensures.items in
-    let one = length-append c.index_mut.result.now.items ((c.args.key, c.args.code) ∷ []) in
-    kept_changed c.self.inside.width c.self.inside.lists.items c.args.self.now c.args.value c.self.invariant c.self.view_is
-    c.requires.in_width c.index_mut.result.now c.index_mut.ensures.value c.push.new.self (omega arith)
+    let is : IsBucketOf c.self.inside.width c.self.inside.buckets.items c.args.self.now c.args.value c.index_mut-bucket.result.now = record {
+      kept = c.self.invariant;
+      seen = c.self.view_is;
+      below = c.requires.in_width;
+      stands = c.index_mut-bucket.ensures.value;
+    } in
+    pushed_kept is c.push_in.new.bucket (c.args.key, c.args.code) c.push_in.result c.requires.room c.push_in.ensures.added c.push_in.ensures.unchanged
 
 pub returns-clause-added : goal.returns-clause-added
 returns-clause-added g c =
-    let own = own_list c.self.inside.width c.self.inside.lists.items c.args.self.now c.args.value c.self.invariant c.self.view_is
-    c.requires.in_width c.index_mut.result.now c.index_mut.ensures.value in
-    table_changed c.self.inside.width c.self.inside.lists.items c.args.self.now c.args.value c.self.invariant c.self.view_is
-    c.requires.in_width c.index_mut.result.now c.index_mut.ensures.value c.push.new.self (posting_list c.args.self.now c.args.value ++ (c.args.key, c.args.code) ∷ [])
-    (c.in-Ok.ensures.items ∙ ap (λ entries. entries ++ (c.args.key, c.args.code) ∷ []) (sym own))
+    let is : IsBucketOf c.self.inside.width c.self.inside.buckets.items c.args.self.now c.args.value c.index_mut-bucket.result.now = record {
+      kept = c.self.invariant;
+      seen = c.self.view_is;
+      below = c.requires.in_width;
+      stands = c.index_mut-bucket.ensures.value;
+    } in
+    on_ok_weaker c.push_in.result (entry_added is c.push_in.new.bucket (c.args.key, c.args.code)) c.push_in.ensures.added
+
+pub returns-clause-unchanged : goal.returns-clause-unchanged
+returns-clause-unchanged g c =
+    let is : IsBucketOf c.self.inside.width c.self.inside.buckets.items c.args.self.now c.args.value c.index_mut-bucket.result.now = record {
+      kept = c.self.invariant;
+      seen = c.self.view_is;
+      below = c.requires.in_width;
+      stands = c.index_mut-bucket.ensures.value;
+    } in
+    on_err_weaker c.push_in.result (table_same is c.push_in.new.bucket) c.push_in.ensures.unchanged

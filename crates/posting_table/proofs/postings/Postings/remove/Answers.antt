@@ -1,32 +1,114 @@
-use Rattle.std.proofs.Common.{ap, sym, arith, length}
-use Rattle.posting_table.proofs.PostingsLemmas.{has_key-at, kept_changed, list_changed, loses, own_list, own_short, swap_remove_short, table_changed}
+use Rattle.std.proofs.Common.{◌≡◌, ◌/◌, ◌≤◌, [], ap, sym, arith, get_or, length, List, ℕ}
+use Rattle.std.specs.Arc.{arc_value}
+use Rattle.posting_table.specs.Tables.{Loses, key_at, posting_list}
+use Rattle.posting_table.proofs.PostingsLemmas.{IsBucketOf, has_key-at, in_own, kept_changed, kept_same, list_lent, list_told, loses_one, only_list_changed, own_list, own_short, table_same}
 use Rattle.posting_table.proofs.postings.Postings.remove.Goals as goal
+
+pub place_of-requires : goal.place_of-requires
+place_of-requires g c =
+    let is : IsBucketOf c.self.inside.width c.self.inside.buckets.items c.args.self.now c.args.value c.index.result.now = record {
+      kept = c.self.invariant;
+      seen = c.self.view_is;
+      below = c.requires;
+      stands = c.index.ensures;
+    } in
+    (omega arith, omega (arith, ap length c.deref.ensures, in_own is))
+
+pub returns-in_default-clause-found : goal.returns-in_default-clause-found
+returns-in_default-clause-found g c =
+    let is : IsBucketOf c.self.inside.width c.self.inside.buckets.items c.args.self.now c.args.value c.index.result.now = record {
+      kept = c.self.invariant;
+      seen = c.self.view_is;
+      below = c.requires;
+      stands = c.index.ensures;
+    } in
+    sym (rw (list_lent is c.deref.result.now c.deref.ensures) at c.in_default.ensures)
 
 pub invariant_of-self : goal.invariant_of-self
 invariant_of-self g c =
-    let short = own_short c.self.inside.width c.self.inside.lists.items c.args.self.now c.args.value c.self.invariant c.self.view_is
-    c.requires c.index_mut.result.now c.index_mut.ensures.value in
-    let fewer = swap_remove_short c.index_mut.result.now.items c.in-Some.place c.swap_remove.result in
-    let long = ap length c.swap_remove.ensures.items in
-    kept_changed c.self.inside.width c.self.inside.lists.items c.args.self.now c.args.value c.self.invariant c.self.view_is
-    c.requires c.index_mut.result.now c.index_mut.ensures.value c.swap_remove.new.self (omega arith)
+    let is : IsBucketOf c.self.inside.width c.self.inside.buckets.items c.args.self.now c.args.value c.index_mut.result.now = record {
+      kept = c.self.invariant;
+      seen = c.self.view_is;
+      below = c.requires;
+      stands = c.index_mut.ensures.value;
+    } in
+    kept_same is c.remove_from.new.bucket c.in_default-remove_from.ensures.unchanged
+
+pub returns-in_default-remove_from-clause-others : goal.returns-in_default-remove_from-clause-others
+returns-in_default-remove_from-clause-others g c =
+    let is : IsBucketOf c.self.inside.width c.self.inside.buckets.items c.args.self.now c.args.value c.index_mut.result.now = record {
+      kept = c.self.invariant;
+      seen = c.self.view_is;
+      below = c.requires;
+      stands = c.index_mut.ensures.value;
+    } in
+    only_list_changed is c.remove_from.new.bucket (get_or (arc_value c.remove_from.new.bucket) (c.args.value / 256) []) c.remove_from.ensures.others
+
+pub returns-in_default-remove_from-clause-unchanged : goal.returns-in_default-remove_from-clause-unchanged
+returns-in_default-remove_from-clause-unchanged g c =
+    let is : IsBucketOf c.self.inside.width c.self.inside.buckets.items c.args.self.now c.args.value c.index_mut.result.now = record {
+      kept = c.self.invariant;
+      seen = c.self.view_is;
+      below = c.requires;
+      stands = c.index_mut.ensures.value;
+    } in
+    table_same is c.remove_from.new.bucket c.in_default-remove_from.ensures.unchanged
+
+pub invariant_of-self-2 : goal.invariant_of-self-2
+invariant_of-self-2 g c =
+    let is : IsBucketOf c.self.inside.width c.self.inside.buckets.items c.args.self.now c.args.value c.index.result.now = record {
+      kept = c.self.invariant;
+      seen = c.self.view_is;
+      below = c.requires;
+      stands = c.index.ensures;
+    } in
+    let changed : IsBucketOf c.self.inside.width c.self.inside.buckets.items c.args.self.now c.args.value c.index_mut.result.now = record {
+      kept = c.self.invariant;
+      seen = c.self.view_is;
+      below = c.requires;
+      stands = c.index_mut.ensures.value;
+    } in
+    let at : key_at (get_or (arc_value c.index_mut.result.now) (c.args.value / 256) []) c.in-Some.place c.args.key =
+    rw (own_list changed, ← list_lent is c.deref.result.now c.deref.ensures) c.in-Some.ensures in
+    let fewer = loses_one c.args.key _ _ (c.in-Ok.ensures.lost.of c.args.key at) in
+    kept_changed changed c.remove_from.new.bucket (get_or (arc_value c.remove_from.new.bucket) (c.args.value / 256) []) c.remove_from.ensures.others
+    (omega (arith, fewer, own_short changed))
 
 pub returns-clause-found : goal.returns-clause-found
-returns-clause-found g c = sym (has_key-at _ c.in-Some.place c.args.key c.in-Some.ensures)
+returns-clause-found g c =
+    let is : IsBucketOf c.self.inside.width c.self.inside.buckets.items c.args.self.now c.args.value c.index.result.now = record {
+      kept = c.self.invariant;
+      seen = c.self.view_is;
+      below = c.requires;
+      stands = c.index.ensures;
+    } in
+    sym (has_key-at (posting_list c.args.self.now c.args.value) c.in-Some.place c.args.key (rw (list_lent is c.deref.result.now c.deref.ensures) at c.in-Some.ensures))
 
 pub returns-clause-removed : goal.returns-clause-removed
 returns-clause-removed g c = λ _.
-    let own = own_list c.self.inside.width c.self.inside.lists.items c.args.self.now c.args.value c.self.invariant c.self.view_is
-    c.requires c.index_mut.result.now c.index_mut.ensures.value in
-    let new = list_changed c.self.inside.width c.self.inside.lists.items c.args.self.now c.args.value c.self.invariant c.self.view_is
-    c.requires c.index_mut.result.now c.index_mut.ensures.value c.swap_remove.new.self in
-    let at = rw own at c.in-Some.ensures in
-    rw (new, own, c.swap_remove.ensures.items)
-    (loses c.args.key c.in-Some.place c.index_mut.result.now.items c.swap_remove.result at c.swap_remove.ensures.value)
+    let is : IsBucketOf c.self.inside.width c.self.inside.buckets.items c.args.self.now c.args.value c.index.result.now = record {
+      kept = c.self.invariant;
+      seen = c.self.view_is;
+      below = c.requires;
+      stands = c.index.ensures;
+    } in
+    let changed : IsBucketOf c.self.inside.width c.self.inside.buckets.items c.args.self.now c.args.value c.index_mut.result.now = record {
+      kept = c.self.invariant;
+      seen = c.self.view_is;
+      below = c.requires;
+      stands = c.index_mut.ensures.value;
+    } in
+    let at : key_at (get_or (arc_value c.index_mut.result.now) (c.args.value / 256) []) c.in-Some.place c.args.key =
+    rw (own_list changed, ← list_lent is c.deref.result.now c.deref.ensures) c.in-Some.ensures in
+    list_told changed c.remove_from.new.bucket (get_or (arc_value c.remove_from.new.bucket) (c.args.value / 256) []) c.remove_from.ensures.others
+    (Loses c.args.key) (c.in-Ok.ensures.lost.of c.args.key at)
 
 pub returns-clause-others : goal.returns-clause-others
 returns-clause-others g c =
-    let new = list_changed c.self.inside.width c.self.inside.lists.items c.args.self.now c.args.value c.self.invariant c.self.view_is
-    c.requires c.index_mut.result.now c.index_mut.ensures.value c.swap_remove.new.self in
-    table_changed c.self.inside.width c.self.inside.lists.items c.args.self.now c.args.value c.self.invariant c.self.view_is
-    c.requires c.index_mut.result.now c.index_mut.ensures.value c.swap_remove.new.self _ (sym new)
+    let is : IsBucketOf c.self.inside.width c.self.inside.buckets.items c.args.self.now c.args.value c.index_mut.result.now = record {
+      kept = c.self.invariant;
+      seen = c.self.view_is;
+      below = c.requires;
+      stands = c.index_mut.ensures.value;
+    } in
+    only_list_changed is c.remove_from.new.bucket (get_or (arc_value c.remove_from.new.bucket) (c.args.value / 256) []) c.remove_from.ensures.others

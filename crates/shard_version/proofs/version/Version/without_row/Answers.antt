@@ -14,7 +14,7 @@ place_of-place-requires g c =
 pub index-requires : goal.index-requires
 index-requires g c =
     let here = inside _ _ _ _ c.self.inside.rows.items c.self.inside.tables.items c.self.invariant c.args.self.contents (ap (λ (version : Tabled). version.contents) c.self.view_is) c.args.key c.place_of-place.result _ c.deref.ensures.value
-    c.place_of-place.ensures c.requires.room c.requires.present in
+    c.place_of-place.ensures c.requires.present in
     search rules
 
 pub remove_from_each-requires : goal.remove_from_each-requires
@@ -24,23 +24,23 @@ remove_from_each-requires g c =
       (
         search rules,
         asks_to_delete _ _ _ _ c.self.inside.rows.items c.self.inside.tables.items c.self.invariant c.args.self.contents (ap (λ (version : Tabled). version.contents) c.self.view_is) c.args.key c.place_of-place.result _ c.deref.ensures.value
-            c.place_of-place.ensures c.requires.room c.requires.present c.index.result.now c.index.ensures _ c.deref-2.ensures c.changes_follow_a_list.ensures.present,
+            c.place_of-place.ensures c.requires.present c.index.result.now c.index.ensures _ c.deref-2.ensures c.changes_follow_a_list.ensures.present,
       ),
     )
 
 pub remove-requires : goal.remove-requires
 remove-requires g c =
     let here = inside _ _ _ _ c.self.inside.rows.items c.self.inside.tables.items c.self.invariant c.args.self.contents (ap (λ (version : Tabled). version.contents) c.self.view_is) c.args.key c.place_of-place.result _ c.deref.ensures.value
-    c.place_of-place.ensures c.requires.room c.requires.present in
+    c.place_of-place.ensures c.requires.present in
     search rules
 
 pub invariant_of-self : goal.invariant_of-self
 invariant_of-self g c =
     kept_deleted _ _ _ _ c.self.inside.rows.items c.self.inside.tables.items c.self.invariant c.args.self.contents (ap (λ (version : Tabled). version.contents) c.self.view_is) c.args.key c.place_of-place.result _ c.deref.ensures.value
-    c.place_of-place.ensures c.requires.room c.requires.present c.index.result.now c.index.ensures _ c.deref-2.ensures _ c.remove.ensures.items
+    c.place_of-place.ensures c.requires.present c.index.result.now c.index.ensures _ c.deref-2.ensures _ c.remove.ensures.items
     c.changes_follow_a_list.ensures.removed c.remove_from_each.new.tables.items c.in_ok-remove_from_each.ensures
 
 pub returns : goal.returns
 returns g c =
     seen_deleted _ _ _ _ c.self.inside.rows.items c.self.inside.tables.items c.self.invariant c.args.self.contents (ap (λ (version : Tabled). version.contents) c.self.view_is) c.args.key c.place_of-place.result _ c.deref.ensures.value
-    c.place_of-place.ensures c.requires.room c.requires.present c.index.result.now c.index.ensures _ c.deref-2.ensures _ c.remove.ensures.items
+    c.place_of-place.ensures c.requires.present c.index.result.now c.index.ensures _ c.deref-2.ensures _ c.remove.ensures.items
