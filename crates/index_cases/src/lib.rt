@@ -11,8 +11,6 @@ mod counts;
 #[cfg(test)]
 mod entries;
 #[cfg(test)]
-mod journals;
-#[cfg(test)]
 mod layouts;
 #[cfg(test)]
 mod meters;
@@ -26,8 +24,6 @@ mod range_tasks;
 mod rows;
 #[cfg(test)]
 mod scan;
-#[cfg(test)]
-mod shards;
 #[cfg(test)]
 mod sources;
 #[cfg(test)]
