@@ -1,6 +1,6 @@
 """docs/CLAIMS.md against the contracts: the edits, tests, calls and clauses that it names are there, and it names each public call
-that has a contract. A call is matched with its type: `Type::call`, and after it bare names of the same type; a bare name with no type
-before it is a function, or a method of a trait."""
+that has a contract. A call is matched with its type: `Type::call`, and after it bare names of the same type, or bare names of a
+`Type` that the cell names; a bare name with no type is a function, or a method of a trait."""
 
 import os
 import re
@@ -16,7 +16,7 @@ class Contracts:
     """The labels of the clauses of each function, by its crate, type and name."""
 
     def __init__(self, crates):
-        self.labels, self.public, self.trait_of = {}, {}, {}
+        self.labels, self.public, self.trait_of, self.types = {}, {}, {}, set()
         for crate in crates:
             top = text_of(f"crates/{crate}/src/lib.rt")
             for path in files(f"crates/{crate}/src", ".rt"):
@@ -32,6 +32,7 @@ class Contracts:
                 *traits, owner = (re.match(r"\w*", it.strip()).group(0) for it in block.group(2).split(" for "))
                 is_trait = block.group(1) == "trait"
                 trait = owner if is_trait else "".join(traits)
+                self.types.add(owner)
             head = FUNCTION.match(line)
             if head:
                 is_method = bool(head.group(1))
@@ -87,8 +88,9 @@ def look_at_claims(claims, crates):
         for word in re.findall(r"`([a-z0-9_]+)`", cells[5]):
             if word not in tests:
                 say("tests that docs/CLAIMS.md names and no crate has", "docs/CLAIMS.md", word)
-        meant, last_type = [], ""
-        for call in calls:
+        types = [it for it in calls if it in contracts.types]
+        meant, last_type = [], types[0] if types else ""
+        for call in (it for it in calls if it not in types):
             these, last_type = contracts.named(of_row, last_type, call)
             if not these:
                 say("calls that docs/CLAIMS.md names and no crate has", "docs/CLAIMS.md", f"{call} of {', '.join(of_row)}")

@@ -280,7 +280,7 @@ fn what_is_gathered_is_given_out_before_the_next_read(rt: HostRuntime) -> Result
     assert!(rt; has_count(&cell, 11));
     assert!(rt; takes(&mut sink, b"y"));
     assert!(rt; has_count(&cell, 4107));
-    assert!(rt; gathered.give_out());
+    assert!(rt; gathered.give_out().is_ok());
     assert!(rt; has_count(&cell, 4108));
     Ok(())
 }
@@ -301,6 +301,6 @@ fn a_failed_giving_out_fails_the_next_write_and_no_read(rt: HostRuntime) -> Resu
     assert!(rt; sink.write(b"more a").is_err());
     assert!(rt; gives(&mut source, &mut room, b""));
     assert!(rt; sink.write(b"more a").is_err());
-    assert!(rt; !gathered.give_out());
+    assert!(rt; gathered.give_out().is_err());
     Ok(())
 }

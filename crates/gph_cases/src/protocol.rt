@@ -5,7 +5,7 @@ ghost use Rattle.std.specs.Prelude.{◌≡◌, ◌≤◌, length};
 use hamming_model::ENTRIES_MOST;
 use line_io::LineBuf;
 use part_layout::{Config, INPUT_MOST, LayoutText};
-use query_protocol::{Bad, Reply, Request, Tag, ThresholdList, read_line, write_hit};
+use query_protocol::{Bad, Reply, Request, Tag, read_line, write_hit, write_layout, write_plan};
 use std::test::Fail;
 
 // A line, and what it is read as where codes have 8 bits and there is one shard: the word of the request, its tag, its number
@@ -232,30 +232,7 @@ fn each_reply_is_its_line(rt: HostRuntime) -> Result<(), Fail> {
             b"cost q16 reads 3 bound 20\n"
         )
     );
-    assert!(rt;
-        is_line(
-            Reply::Plan {
-                tag,
-                shard: 0,
-                cost: 4,
-                thresholds: ThresholdList::new(&[-1, 0, 12])
-            },
-            &mut line,
-            b"plan q16 0 cost 4 -1 0 12\n"
-        )
-    );
     assert!(rt; is_line(Reply::Open { tag, at: 0 }, &mut line, b"open q16 at 0\n"));
-    assert!(rt;
-        is_line(
-            Reply::Hit {
-                tag,
-                dist: 64,
-                key: 103
-            },
-            &mut line,
-            b"hit q16 64 103\n"
-        )
-    );
     assert!(rt; is_line(Reply::More { tag }, &mut line, b"more q16\n"));
     assert!(rt; is_line(Reply::Done { tag, count: 2 }, &mut line, b"done q16 2\n"));
     assert!(rt;
@@ -300,13 +277,22 @@ fn each_reply_is_its_line(rt: HostRuntime) -> Result<(), Fail> {
         )
     );
     assert!(rt; is_line(Reply::NoMemory, &mut line, b"nomem\n"));
+    Ok(())
+}
+
+#[test]
+fn a_hit_a_plan_and_a_layout_are_lines(rt: HostRuntime) -> Result<(), Fail> {
+    let tag = Tag::of(b"q16").ok_or("no tag")?;
+    let mut line = LineBuf::new(rt.alloc())?;
+    write_hit(&tag, 64, 103, &mut line);
+    assert!(rt; line.bytes() == b"hit q16 64 103\n".as_slice());
+    line.clear();
+    write_plan(&tag, 0, 4, &[-1, 0, 12], &mut line);
+    assert!(rt; line.bytes() == b"plan q16 0 cost 4 -1 0 12\n".as_slice());
     let mut bytes = [0u8; 2048];
     bytes[..15].copy_from_slice(b"0,1,2/3,4,5/6,7");
-    let text = LayoutText::new(bytes, 15);
-    let reply = Reply::Layout { shard: 12, text };
-    assert!(rt; is_line(reply, &mut line, b"layout 12 0,1,2/3,4,5/6,7\n"));
     line.clear();
-    write_hit(&tag, 4, 2, &mut line);
-    assert!(rt; line.bytes() == b"hit q16 4 2\n".as_slice());
+    write_layout(12, &LayoutText::new(bytes, 15), &mut line);
+    assert!(rt; line.bytes() == b"layout 12 0,1,2/3,4,5/6,7\n".as_slice());
     Ok(())
 }

@@ -1,8 +1,9 @@
 //! A code, kept in words of 64 bits.
 
-ghost use Rattle.std.specs.Prelude.{◌≡◌, ℕ, ◌+◌, ◌-◌, ◌*◌, ◌/◌, ◌%◌, ◌^◌, ◌<◌, ◌≤◌, ◌↔◌, List, All, length, ◌≢◌, Ok, Err, IsTrue, IsOk, IfOk, slice_index};
+ghost use Rattle.std.specs.Prelude.{◌≡◌, ℕ, ◌+◌, ◌-◌, ◌*◌, ◌/◌, ◌%◌, ◌^◌, ◌<◌, ◌≤◌, ◌↔◌, List, All, length, replicate, slice_set, ◌≢◌, Ok, Err, IsTrue, IsOk, IfOk, slice_index};
 ghost use Rattle.hamming_model.specs.Codes.{StandsFor, distance, hex_code};
 ghost use Rattle.gph_codes.specs.Allowed.{IsAllowed};
+ghost use Rattle.gph_codes.specs.Masks.{distance_under};
 ghost use Rattle.gph_codes.specs.Words.{word_bits};
 ghost use Rattle.gph_codes.specs.Digits.{IsHexDigit, IsLowerDigit, IsSpelled, IsFirstFault};
 ghost use Rattle.gph_codes.specs.declared.code_fault.CodeFault.TheVariants.{Length, Digit};
@@ -10,7 +11,7 @@ ghost use Rattle.hex.specs.declared.error.FromHexError.TheVariants.{InvalidHexCh
 
 use crate::CodeFault;
 use crate::bytes::{BUFFER, bytes_of, spell, words_from};
-use crate::distance::word_distance;
+use crate::distance::{word_distance, word_distance_under};
 use hex::FromHexError;
 use std::marker::Model;
 
@@ -38,6 +39,13 @@ impl<const W: usize> Model for Code<W> {
 }
 
 impl<const W: usize> Code<W> {
+    /// The code with 0 at each of the `64 * W` positions.
+    pub fn zeros() -> Code<W>
+        ensures { result ≡ replicate (64 * W) 0 }
+    {
+        Code { words: [0; W] }
+    }
+
     /// Reads a code of `bits` bits from hexadecimal digits of either case, four bits a digit, the
     /// first digit at positions 0 to 3. A text of another length is refused before its digits are.
     pub fn from_hex(bits: u32, text: &[u8]) -> Result<Code<W>, CodeFault>
@@ -92,6 +100,24 @@ impl<const W: usize> Code<W> {
     {
         self.words[j as usize / 64] >> (63 - j % 64) & 1 == 1
     }
+
+    /// Sets the bit at position `j` to 1.
+    pub fn set(&mut self, j: u32)
+        requires { j < 64 * W }
+        ensures { self.new ≡ slice_set self.old j 1 }
+    {
+        self.words[j as usize / 64] |= 1 << (63 - j % 64);
+    }
+}
+
+/// At how many of the positions where a mask has a one two codes differ. Counts the ones of the
+/// exclusive or of their words that the mask has too.
+pub fn dist_under<const W: usize>(mask: &Code<W>, a: &Code<W>, b: &Code<W>) -> u32
+    requires { W ≤ 8 }
+    ensures distance { result ≡ distance_under mask.now a.now b.now }
+    ensures few { result ≤ 64 * W }
+{
+    word_distance_under(&mask.words, &a.words, &b.words)
 }
 
 /// At how many positions two codes differ. Counts the ones of the exclusive or of their words.

@@ -8,6 +8,6 @@ mod code_fault;
 mod distance;
 mod width;
 
-pub use code::{Code, dist};
+pub use code::{Code, dist, dist_under};
 pub use code_fault::CodeFault;
-pub use distance::{distance_of_codes, one_code};
+pub use distance::{distance_of_codes, one_code, part_distance_is_under_the_mask};

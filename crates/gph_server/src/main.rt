@@ -59,7 +59,7 @@ fn outcome_of(rt: &HostRuntime) -> Outcome {
         &mut sink,
         &mut meters,
     );
-    if gathered.give_out() {
+    if gathered.give_out().is_ok() {
         outcome
     } else {
         Outcome::WriteFault

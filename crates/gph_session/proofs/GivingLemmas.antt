@@ -9,8 +9,8 @@ use Rattle.hamming_model.specs.declared.hit.Hit.{Hit}
 use Rattle.hit_source.specs.Sources.{Asked, Standing, IsLawful}
 use Rattle.hit_source.specs.Moves.{Pops, first_of}
 use Rattle.query_protocol.specs.Replies.{text, reply_line}
-use Rattle.query_protocol.specs.declared.reply.Reply.{Reply}
-use Rattle.query_protocol.specs.declared.reply.Reply.TheVariants as reply
+use Rattle.query_protocol.specs.Replies.{LineReply}
+use Rattle.query_protocol.specs.Replies as reply
 use Rattle.gph_session.specs.declared.open_query.OpenQuery.{OpenQuery}
 use Rattle.gph_session.specs.declared.session.Turn.{Turn}
 use Rattle.gph_session.specs.QuerySteps.{hit_replies, next_replies}
@@ -172,7 +172,7 @@ module _ {W : ℕ} (tag : List ℕ) (count : ℕ) (before after : OpenQuery W) (
     wrote = λ counted.
         let hits = (asked_of before).hits in
         let first = hit_replies tag (take count (drop before.given hits)) in
-        let last : Reply = cond (nat_lt (before.given + count) (length hits)) (reply.More tag) (reply.Done tag (length hits)) in
+        let last : LineReply = cond (nat_lt (before.given + count) (length hits)) (reply.More tag) (reply.Done tag (length hits)) in
         let part = subst (λ n. Writes {A = ℕ} held0 held1 (Err failed) (text (hit_replies tag (take count (drop n hits))))) (sym counted.given) (gives.written counted.room) in
         subst (Writes {A = Turn} held0 held1 (Err failed')) (sym (text_append first (last ∷ []))) (writes_front ℕ Turn held0 held1 failed failed' (text first) (text (last ∷ [])) part);
     given = λ counted. tt;
@@ -180,14 +180,14 @@ module _ {W : ℕ} (tag : List ℕ) (count : ℕ) (before after : OpenQuery W) (
 
   module _ (number : ℕ) (held2 : Option (List ℕ)) (result : Result Turn Failed) (gives : GivesHits (asked_of before) tag count (standing_of before) (standing_of after) held0 held1 from to (Ok number)) where
     -- the hits and then the last line
-    query_wrote : (last : Reply) → Writes held1 held2 result (reply_line last) → (counted : IsCounted before)
+    query_wrote : (last : LineReply) → Writes held1 held2 result (reply_line last) → (counted : IsCounted before)
         → last ≡ cond (nat_lt (before.given + count) (length (asked_of before).hits)) (reply.More tag) (reply.Done tag (length (asked_of before).hits))
         → Writes held0 held2 result (text (next_replies tag count before.given (asked_of before).hits))
     query_wrote last wrote counted is =
         let hits = (asked_of before).hits in
         let first = hit_replies tag (take count (drop before.given hits)) in
         let all = subst (λ n. Appends held0 held1 (text (hit_replies tag (take count (drop n hits))))) (sym counted.given) (gives.written counted.room) in
-        subst (Writes held0 held2 result) (ap (λ l. text first ++ l) (sym (append-nil (reply_line last))) ∙ sym (text_append first (last ∷ [])) ∙ ap (λ (r : Reply). text (first ++ r ∷ [])) is)
+        subst (Writes held0 held2 result) (ap (λ l. text first ++ l) (sym (append-nil (reply_line last))) ∙ sym (text_append first (last ∷ [])) ∙ ap (λ (r : LineReply). text (first ++ r ∷ [])) is)
         (writes_after held0 held1 held2 result (text first) (reply_line last) all wrote)
 
     -- the number that was given, which is within what is counted

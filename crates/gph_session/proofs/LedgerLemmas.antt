@@ -7,8 +7,8 @@ use Rattle.threshold_model.specs.Vectors.{IsLeast}
 use Rattle.part_layout.specs.declared.config.Config.{Config}
 use Rattle.line_io.specs.declared.source.Failed.{Failed}
 use Rattle.shard_version.specs.Contents.{Contents}
-use Rattle.query_protocol.specs.declared.reply.Reply.{Reply}
-use Rattle.query_protocol.specs.declared.reply.Reply.TheVariants as reply
+use Rattle.query_protocol.specs.Replies.{LineReply}
+use Rattle.query_protocol.specs.Replies as reply
 use Rattle.gph_session.specs.declared.session.Turn.{Turn}
 use Rattle.gph_session.specs.declared.open_query.OpenQuery.{OpenQuery}
 use Rattle.gph_session.specs.State.{Query}
@@ -97,7 +97,7 @@ ledger_changed old new tag before after from to changes ledger =
 
 -- ---- what each line does to the ledger
 
-pub ledger_told : {W : ℕ} (now : ℕ) (old : List (OpenQuery W)) (tag : List ℕ) (told : OpenQuery W → Reply) (this : Reply) (new : List (OpenQuery W)) → TellsOfQuery old tag told this new → now + reads_of old ≡ now + reads_of new
+pub ledger_told : {W : ℕ} (now : ℕ) (old : List (OpenQuery W)) (tag : List ℕ) (told : OpenQuery W → LineReply) (this : LineReply) (new : List (OpenQuery W)) → TellsOfQuery old tag told this new → now + reads_of old ≡ now + reads_of new
 ledger_told now old tag told this new (inl unknown) = ap (λ helds. now + reads_of helds) (sym unknown.1)
 ledger_told now old tag told this new (inr asked) = ledger_changed old new tag asked.0 asked.1 now now asked.2 (ap (λ s. now + s.reads) (sym asked.3.standing))
 
@@ -106,7 +106,7 @@ pub ledger_given : {W : ℕ} (old : List (OpenQuery W)) (tag : List ℕ) (count 
 ledger_given old tag count before after from to result new (inl unknown) = ap (λ n. n + reads_of old) unknown.2 ∙ ap (λ helds. from + reads_of helds) (sym unknown.1)
 ledger_given old tag count before after from to result new (inr given) = ledger_changed old new tag given.0 given.1 from to given.2 given.3.reads.ledger
 
-pub ledger_opened : {W : ℕ} (now : ℕ) (version : Contents) (room : ℕ) (old : List (OpenQuery W)) (tag : List ℕ) (tau : ℕ) (stored : List ℕ) (this : Reply) (new : List (OpenQuery W))
+pub ledger_opened : {W : ℕ} (now : ℕ) (version : Contents) (room : ℕ) (old : List (OpenQuery W)) (tag : List ℕ) (tau : ℕ) (stored : List ℕ) (this : LineReply) (new : List (OpenQuery W))
     → OpensAs version room old tag tau stored this new → now + reads_of old ≡ now + reads_of new
 ledger_opened {W} now version room old tag tau stored (reply.Open opened at) new opens =
     let held = opens.4 in

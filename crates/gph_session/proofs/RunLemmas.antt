@@ -6,7 +6,7 @@ use Rattle.part_layout.specs.declared.config.Config.{Config}
 use Rattle.query_protocol.specs.Requests.{LineRequest, Add, Range, Next, Cost, Plan, Layout, Quit, reading}
 use Rattle.query_protocol.specs.Replies.{text}
 use Rattle.query_protocol.specs.declared.bad.Bad.{Bad}
-use Rattle.query_protocol.specs.declared.reply.Reply.{Reply}
+use Rattle.query_protocol.specs.Replies.{LineReply}
 use Rattle.gph_session.specs.State.{State}
 use Rattle.gph_session.specs.Step.{Exchange, Step, Answers}
 use Rattle.gph_session.specs.Run.{Run, commit_of, commits, AreAlone, written, asks_quit, before_quit, has_quit}
@@ -45,7 +45,7 @@ alone_more config history (first ∷ exchanges) exchange alone at =
 -- ---- the lines that end a session
 
 -- what is answered doesn't end the session
-pub not_quit : (asked : Result (Option LineRequest) Bad) (config : Config) (history : List JournalEntry) (s : State) (replies : List Reply) (at : ℕ) (t : State)
+pub not_quit : (asked : Result (Option LineRequest) Bad) (config : Config) (history : List JournalEntry) (s : State) (replies : List LineReply) (at : ℕ) (t : State)
     → Answers asked config history s replies at t → asks_quit asked ≡ false
 not_quit (Err fault) config history s replies at t h = refl
 not_quit (Ok None) config history s replies at t h = refl

@@ -16,8 +16,8 @@ use Rattle.shard_version.specs.Contents.{Contents, after_entry}
 use Rattle.query_protocol.specs.Requests.{LineRequest, Add, Range, Next, Cost, Plan, Layout, reading, stored_reading, bad}
 use Rattle.query_protocol.specs.Replies.{text, reply_line}
 use Rattle.query_protocol.specs.declared.bad.Bad.{Bad}
-use Rattle.query_protocol.specs.declared.reply.Reply.{Reply}
-use Rattle.query_protocol.specs.declared.reply.Reply.TheVariants as reply
+use Rattle.query_protocol.specs.Replies.{LineReply}
+use Rattle.query_protocol.specs.Replies as reply
 use Rattle.gph_session.specs.declared.open_query.OpenQuery.{OpenQuery}
 use Rattle.gph_session.specs.declared.session.Turn.{Turn}
 use Rattle.gph_session.specs.declared.session.Turn.TheVariants.{Goes, Quits}
@@ -54,10 +54,10 @@ slice_get_at : (history : List JournalEntry) (entry : JournalEntry) (later : Lis
 slice_get_at [] entry later = refl
 slice_get_at (first ∷ history) entry later = slice_get_at history entry later
 
-text_one : (this : Reply) → text (this ∷ []) ≡ reply_line this
+text_one : (this : LineReply) → text (this ∷ []) ≡ reply_line this
 text_one this = append-nil (reply_line this)
 
-writes_one : (before after : Option (List ℕ)) (result : Result Turn Failed) (this : Reply) → Writes before after result (reply_line this) → Writes before after result (text (this ∷ []))
+writes_one : (before after : Option (List ℕ)) (result : Result Turn Failed) (this : LineReply) → Writes before after result (reply_line this) → Writes before after result (text (this ∷ []))
 writes_one before after result this w = subst (Writes before after result) (sym (text_one this)) w
 
 done_still : (more done : Bool) → done ≡ true → cond more done true ≡ true
@@ -79,7 +79,7 @@ module _ (W : ℕ) (config : Config) (history : List JournalEntry) (s : State) (
   asked_now = reading config line
 
   -- a step that commits nothing
-  quiet_by : (result : Result Turn Failed) (asked : Result (Option LineRequest) Bad) (replies : List Reply) (at : ℕ) (t : State) (version' : Contents) (queries' : List (OpenQuery W))
+  quiet_by : (result : Result Turn Failed) (asked : Result (Option LineRequest) Bad) (replies : List LineReply) (at : ℕ) (t : State) (version' : Contents) (queries' : List (OpenQuery W))
       → asked_now ≡ asked → committed 0 asked replies ≡ [] → at ≡ length history
       → ((later : List JournalEntry) → Answers asked config (history ++ later) s replies at t)
       → Writes before after result (text replies) → AllRead config history queries' t.queries → OnOk result (Means W config version' queries' history t)
@@ -100,7 +100,7 @@ module _ (W : ℕ) (config : Config) (history : List JournalEntry) (s : State) (
         means = subst (λ h. OnOk result (Means W config version' queries' h t)) (sym same) means';
       }
 
-  quiet : (result : Result Turn Failed) (asked : Result (Option LineRequest) Bad) (replies : List Reply) (at : ℕ) (t : State) (version' : Contents) (queries' : List (OpenQuery W))
+  quiet : (result : Result Turn Failed) (asked : Result (Option LineRequest) Bad) (replies : List LineReply) (at : ℕ) (t : State) (version' : Contents) (queries' : List (OpenQuery W))
       → asked_now ≡ asked → committed 0 asked replies ≡ [] → at ≡ length history
       → ((later : List JournalEntry) → Answers asked config (history ++ later) s replies at t)
       → Writes before after result (text replies) → Means W config version' queries' history t
@@ -198,17 +198,17 @@ module _ (W : ℕ) (config : Config) (history : List JournalEntry) (s : State) (
         }
 
     -- an add that is declined
-    declined : (why : Decision) (at : ℕ) (said this : Reply) (code : List ℕ) → at ≡ length history → decide (rows_of history) (length history) config.entries (journal.Add key code) ≡ why → this ≡ said
+    declined : (why : Decision) (at : ℕ) (said this : LineReply) (code : List ℕ) → at ≡ length history → decide (rows_of history) (length history) config.entries (journal.Add key code) ≡ why → this ≡ said
         → (later : List JournalEntry) → Declines config (history ++ later) s (journal.Add key code) why said (this ∷ []) at (record s { position = at })
     declined why at said this code at_is decided same later = record {
       not_before = omega (arith, at_is, means.position);
       within = omega (arith, at_is, length-append history later);
       decided = ap (λ h. decide (rows_of h) at config.entries (journal.Add key code)) (first later at at_is) ∙ ap (λ n. decide (rows_of history) n config.entries (journal.Add key code)) at_is ∙ decided;
-      said_is = ap (λ (r : Reply). r ∷ []) same;
+      said_is = ap (λ (r : LineReply). r ∷ []) same;
       position = refl;
     }
 
-    add_step : (this : Reply) (version' : Contents) (result : Result Turn Failed) → AddsAs version config.entries key stored this version'
+    add_step : (this : LineReply) (version' : Contents) (result : Result Turn Failed) → AddsAs version config.entries key stored this version'
         → Writes before after result (text (this ∷ [])) → OneStep {A = Turn} W config history s line before after result version' queries
     add_step (reply.Added added at) version' result adds wrote = added_step added at version' result adds wrote
     add_step (reply.Taken taken at) version' result adds wrote =
@@ -242,7 +242,7 @@ module _ (W : ℕ) (config : Config) (history : List JournalEntry) (s : State) (
     add_step (reply.Layout shard text) version' result adds wrote = absurd adds
     add_step (reply.Bad fault) version' result adds wrote = absurd adds
 
-    pub add_turn : (this : Reply) (version' : Contents) (result : Result Turn Failed) → AddsAs version config.entries key stored this version' → IfOk result (λ turn. turn ≡ Goes)
+    pub add_turn : (this : LineReply) (version' : Contents) (result : Result Turn Failed) → AddsAs version config.entries key stored this version' → IfOk result (λ turn. turn ≡ Goes)
         → Writes before after result (reply_line this) → TurnIs result W config history s line before after version' queries
     add_turn this version' result adds goes wrote =
         turn_is result W config history s line before after version' queries goes (add_step this version' result adds (writes_one before after result this wrote))
@@ -305,7 +305,7 @@ module _ (W : ℕ) (config : Config) (history : List JournalEntry) (s : State) (
         })
 
     -- an opening that is refused
-    unopened : (result : Result Turn Failed) (this : Reply) (queries' : List (OpenQuery W)) → queries' ≡ queries
+    unopened : (result : Result Turn Failed) (this : LineReply) (queries' : List (OpenQuery W)) → queries' ≡ queries
         → ((code : List ℕ) (later : List JournalEntry) → OpensUnlessUsed (query_of tag s.queries) (history ++ later) s tag (ask.Range tau code) (this ∷ []) s.position s)
         → Writes before after result (text (this ∷ [])) → OneStep {A = Turn} W config history s line before after result version queries'
     unopened result this queries' same answers wrote =
@@ -314,7 +314,7 @@ module _ (W : ℕ) (config : Config) (history : List JournalEntry) (s : State) (
         (quiet result (Ok (Some (Range tag tau kept.0))) (this ∷ []) s.position s version queries kept.1 refl means.position (answers kept.0) wrote means)
 
     -- a free tag, by whether as many queries are open as may be
-    where_free : (many : Bool) → IsFree queries tag → nat_le most_open (length s.queries) ≡ many → (h : List JournalEntry) (code : List ℕ) (this : Reply)
+    where_free : (many : Bool) → IsFree queries tag → nat_le most_open (length s.queries) ≡ many → (h : List JournalEntry) (code : List ℕ) (this : LineReply)
         → OpensUnlessMany many h s tag (ask.Range tau code) (this ∷ []) s.position s → OpensUnlessUsed (query_of tag s.queries) h s tag (ask.Range tau code) (this ∷ []) s.position s
     where_free many free is h code this opens =
         let closed : query_of tag s.queries ≡ None = not_open config history queries s.queries tag means.keep free in
@@ -335,7 +335,7 @@ module _ (W : ℕ) (config : Config) (history : List JournalEntry) (s : State) (
         (λ code later. where_free true full.1 many (history ++ later) code (reply.Bad fault)
         (record { said_is = ap (λ (f : Bad). reply.Bad f ∷ []) full.0; position = refl; same = refl })) wrote
 
-    open_step : (this : Reply) (queries' : List (OpenQuery W)) (result : Result Turn Failed) → OpensAs version config.room queries tag tau stored this queries'
+    open_step : (this : LineReply) (queries' : List (OpenQuery W)) (result : Result Turn Failed) → OpensAs version config.room queries tag tau stored this queries'
         → Writes before after result (text (this ∷ [])) → OneStep {A = Turn} W config history s line before after result version queries'
     open_step (reply.Open opened at) queries' result opens wrote = opened_step opened at queries' result opens wrote
     open_step (reply.Bad fault) queries' result opens wrote = refused_step fault queries' result opens.1 opens.0 wrote
@@ -353,7 +353,7 @@ module _ (W : ℕ) (config : Config) (history : List JournalEntry) (s : State) (
     open_step (reply.Plan name shard cost thresholds) queries' result opens wrote = absurd opens
     open_step (reply.Layout shard text) queries' result opens wrote = absurd opens
 
-    pub range_turn : (this : Reply) (queries' : List (OpenQuery W)) (result : Result Turn Failed) → OpensAs version config.room queries tag tau stored this queries' → IfOk result (λ turn. turn ≡ Goes)
+    pub range_turn : (this : LineReply) (queries' : List (OpenQuery W)) (result : Result Turn Failed) → OpensAs version config.room queries tag tau stored this queries' → IfOk result (λ turn. turn ≡ Goes)
         → Writes before after result (reply_line this) → TurnIs result W config history s line before after version queries'
     range_turn this queries' result opens goes wrote =
         turn_is result W config history s line before after version queries' goes (open_step this queries' result opens (writes_one before after result this wrote))
@@ -361,9 +361,9 @@ module _ (W : ℕ) (config : Config) (history : List JournalEntry) (s : State) (
   -- ---- `next`
 
   -- a question on a query, where the tag has none
-  unknown_step : (asked : LineRequest) (Answered : List JournalEntry → Query → State → List Reply → ℕ → State → Type 0) (tag : List ℕ) (queries' : List (OpenQuery W)) (result : Result Turn Failed)
+  unknown_step : (asked : LineRequest) (Answered : List JournalEntry → Query → State → List LineReply → ℕ → State → Type 0) (tag : List ℕ) (queries' : List (OpenQuery W)) (result : Result Turn Failed)
       → asked_now ≡ Ok (Some asked) → committed 0 (Ok (Some asked)) (reply.Bad (bad 8) ∷ []) ≡ []
-      → ((h : List JournalEntry) (replies : List Reply) (at : ℕ) (t : State) → IfOpen (query_of tag s.queries) (Answered h) s replies at t → Answers (Ok (Some asked)) config h s replies at t)
+      → ((h : List JournalEntry) (replies : List LineReply) (at : ℕ) (t : State) → IfOpen (query_of tag s.queries) (Answered h) s replies at t → Answers (Ok (Some asked)) config h s replies at t)
       → IsFree queries tag → queries' ≡ queries → Writes before after result (text (reply.Bad (bad 8) ∷ [])) → OneStep {A = Turn} W config history s line before after result version queries'
   unknown_step asked Answered tag queries' result is none answers free same wrote =
       let closed : query_of tag s.queries ≡ None = not_open config history queries s.queries tag means.keep free in
@@ -451,7 +451,7 @@ module _ (W : ℕ) (config : Config) (history : List JournalEntry) (s : State) (
   -- ---- `cost`
 
   module _ (tag : List ℕ) (read : Ok (Some (cost_kept W tag)) ≡ stored_reading W asked_now) where
-    costed_step : (this : Reply) (queries' : List (OpenQuery W)) (result : Result Turn Failed) (was is : OpenQuery W) → Changes queries queries' tag was is → IsSame was is
+    costed_step : (this : LineReply) (queries' : List (OpenQuery W)) (result : Result Turn Failed) (was is : OpenQuery W) → Changes queries queries' tag was is → IsSame was is
         → this ≡ reply.Cost tag (standing_of was).reads ((asked_of was).bound None) → Writes before after result (text (this ∷ [])) → OneStep {A = Turn} W config history s line before after result version queries'
     costed_step this queries' result was is changes same told wrote =
         let found = found_changed config history queries queries' s.queries tag was is means.keep changes in
@@ -472,13 +472,13 @@ module _ (W : ℕ) (config : Config) (history : List JournalEntry) (s : State) (
           given = given;
           within = reads_within config history was query keeps;
           not_less = keeps.told;
-          said_is = ap (λ (r : Reply). r ∷ []) told;
+          said_is = ap (λ (r : LineReply). r ∷ []) told;
           position = refl;
           told = refl;
         }))
         wrote (kept_by t queries' refl refl (subst (λ helds. AllKeep config history helds t.queries) (sym changes.new_is) keep'))
 
-    pub cost_turn : (this : Reply) (queries' : List (OpenQuery W)) (result : Result Turn Failed) → CostsAs queries tag this queries' → IfOk result (λ turn. turn ≡ Goes)
+    pub cost_turn : (this : LineReply) (queries' : List (OpenQuery W)) (result : Result Turn Failed) → CostsAs queries tag this queries' → IfOk result (λ turn. turn ≡ Goes)
         → Writes before after result (reply_line this) → TurnIs result W config history s line before after version queries'
     cost_turn this queries' result (inl unknown) goes wrote =
         turn_is result W config history s line before after version queries' goes
@@ -490,7 +490,7 @@ module _ (W : ℕ) (config : Config) (history : List JournalEntry) (s : State) (
   -- ---- `plan`
 
   module _ (few : length (layout_of config) ≤ 64) (tag : List ℕ) (shard : ℕ) (read : Ok (Some (plan_kept W tag shard)) ≡ stored_reading W asked_now) where
-    planned_step : (this : Reply) (queries' : List (OpenQuery W)) (result : Result Turn Failed) (was is : OpenQuery W) → Changes queries queries' tag was is → IsSame was is
+    planned_step : (this : LineReply) (queries' : List (OpenQuery W)) (result : Result Turn Failed) (was is : OpenQuery W) → Changes queries queries' tag was is → IsSame was is
         → this ≡ reply.Plan tag shard ((asked_of was).plan None).1 (take 64 ((asked_of was).plan None).0) → Writes before after result (text (this ∷ []))
         → OneStep {A = Turn} W config history s line before after result version queries'
     planned_step this queries' result was is changes same told wrote =
@@ -506,14 +506,14 @@ module _ (W : ℕ) (config : Config) (history : List JournalEntry) (s : State) (
           cost = plan.1;
           is_plan = subst (λ h. IsPlanOf query.ask config h (take 64 plan.0) plan.1) (sym (take-append-le query.position history later within))
               (asked_plan query.ask config (take query.position history) (asked_of was) keeps.asks few);
-          said_is = ap (λ (r : Reply). r ∷ []) told;
+          said_is = ap (λ (r : LineReply). r ∷ []) told;
           position = refl;
           same = refl;
         }))
         wrote (kept_by s queries' refl refl (subst (λ helds. AllKeep config history helds s.queries) (sym changes.new_is)
         (subst (AllKeep config history (changes.front ++ is ∷ changes.back)) (replaced_same tag query s.queries found.open_query) keep')))
 
-    pub plan_turn : (this : Reply) (queries' : List (OpenQuery W)) (result : Result Turn Failed) → PlansAs queries tag shard this queries' → IfOk result (λ turn. turn ≡ Goes)
+    pub plan_turn : (this : LineReply) (queries' : List (OpenQuery W)) (result : Result Turn Failed) → PlansAs queries tag shard this queries' → IfOk result (λ turn. turn ≡ Goes)
         → Writes before after result (reply_line this) → TurnIs result W config history s line before after version queries'
     plan_turn this queries' result (inl unknown) goes wrote =
         turn_is result W config history s line before after version queries' goes
@@ -527,7 +527,7 @@ module _ (W : ℕ) (config : Config) (history : List JournalEntry) (s : State) (
   pub layout_turn : (shard : ℕ) → Ok (Some (layout_kept W shard)) ≡ stored_reading W asked_now → (result : Result Turn Failed) → IfOk result (λ turn. turn ≡ Goes)
       → Writes before after result (reply_line (reply.Layout shard (layout_text (layout_of config)))) → TurnIs result W config history s line before after version queries
   layout_turn shard read result goes wrote =
-      let this : Reply = reply.Layout shard (layout_text (layout_of config)) in
+      let this : LineReply = reply.Layout shard (layout_text (layout_of config)) in
       turn_is result W config history s line before after version queries goes
       (quiet result (Ok (Some (Layout shard))) (this ∷ []) s.position s version queries (kept_layout W asked_now shard read) refl means.position
       (λ later. record { said_is = refl; position = refl; same = refl }) (writes_one before after result this wrote) means)

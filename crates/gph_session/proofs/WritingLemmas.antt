@@ -8,8 +8,8 @@ use Rattle.std.proofs.lemmas.List.Concat.{flat_map-append}
 use Rattle.line_io.specs.declared.source.Failed.{Failed}
 use Rattle.hamming_model.specs.declared.hit.Hit.{Hit}
 use Rattle.query_protocol.specs.Replies.{text, reply_line}
-use Rattle.query_protocol.specs.declared.reply.Reply.{Reply}
-use Rattle.query_protocol.specs.declared.reply.Reply.TheVariants as reply
+use Rattle.query_protocol.specs.Replies.{LineReply}
+use Rattle.query_protocol.specs.Replies as reply
 use Rattle.gph_session.specs.QuerySteps.{hit_replies}
 use Rattle.gph_session.specs.Writing.{Writes}
 
@@ -40,7 +40,7 @@ writes_front A B a b failed failed' first second w =
 
 -- ---- the text of hits
 
-pub text_append : (a b : List Reply) → text (a ++ b) ≡ text a ++ text b
+pub text_append : (a b : List LineReply) → text (a ++ b) ≡ text a ++ text b
 text_append a b = flat_map-append reply_line a b
 
 pub hits_append : (tag : List ℕ) (a b : List Hit) → text (hit_replies tag (a ++ b)) ≡ text (hit_replies tag a) ++ text (hit_replies tag b)

@@ -7,8 +7,8 @@ use Rattle.hit_source.specs.Sources.{IsLawful}
 use Rattle.shard_version.specs.Contents.{Contents, after_entry}
 use Rattle.shard_query.specs.Opening.{AsksRange, BeginsRange}
 use Rattle.query_protocol.specs.Requests.{bad}
-use Rattle.query_protocol.specs.declared.reply.Reply.{Reply}
-use Rattle.query_protocol.specs.declared.reply.Reply.TheVariants as reply
+use Rattle.query_protocol.specs.Replies.{LineReply}
+use Rattle.query_protocol.specs.Replies as reply
 use Rattle.gph_session.specs.declared.open_query.OpenQuery.{OpenQuery}
 use Rattle.gph_session.specs.QuerySteps.{most_open}
 use Rattle.gph_session.specs.Held.{asked_of, standing_of, IsFree, StandsAt}
@@ -30,7 +30,7 @@ abbrev pub with_row : Contents → ℕ → List ℕ → Contents
 with_row version key stored = after_entry version (added_entry version.layout.bits key stored)
 
 -- the reply to an add where at most so many entries may stand, and the version that it leaves
-abbrev pub AddsAs : Contents → ℕ → ℕ → List ℕ → Reply → Contents → Type 0
+abbrev pub AddsAs : Contents → ℕ → ℕ → List ℕ → LineReply → Contents → Type 0
 AddsAs old limit key stored (reply.Added added at) new =
     (added ≡ key) × (code_at old.rows key ≡ None) × (old.at < limit) × (new ≡ with_row old key stored) × (at ≡ new.at)
 AddsAs old limit key stored (reply.Taken taken at) new =
@@ -50,7 +50,7 @@ pub record BeginsQuery {W : ℕ} (version : Contents) (room : ℕ) (tag : List �
   pub few : length (asked_of held).hits ≤ 1048576
 
 -- the reply to an opening, and the queries that it leaves
-abbrev pub OpensAs : {W : ℕ} → Contents → ℕ → List (OpenQuery W) → List ℕ → ℕ → List ℕ → Reply → List (OpenQuery W) → Type 0
+abbrev pub OpensAs : {W : ℕ} → Contents → ℕ → List (OpenQuery W) → List ℕ → ℕ → List ℕ → LineReply → List (OpenQuery W) → Type 0
 OpensAs {W} version room old tag tau stored (reply.Bad fault) new =
     (new ≡ old) × (((fault ≡ bad 7) × (place : ℕ) × StandsAt old tag place) ⊎ ((fault ≡ bad 9) × IsFree old tag × (most_open ≤ length old)))
 OpensAs {W} version room old tag tau stored reply.NoMemory new = (new ≡ old) × IsFree old tag × (length old < most_open)

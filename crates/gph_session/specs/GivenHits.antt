@@ -4,7 +4,7 @@ use Rattle.hit_source.specs.Sources.{Asked, Standing, IsLawful}
 use Rattle.line_io.specs.declared.source.Failed.{Failed}
 use Rattle.query_protocol.specs.Requests.{bad}
 use Rattle.query_protocol.specs.Replies.{text, reply_line}
-use Rattle.query_protocol.specs.declared.reply.Reply.TheVariants as reply
+use Rattle.query_protocol.specs.Replies as reply
 use Rattle.gph_session.specs.declared.open_query.OpenQuery.{OpenQuery}
 use Rattle.gph_session.specs.declared.session.Turn.{Turn}
 use Rattle.gph_session.specs.QuerySteps.{next_replies, hit_replies}

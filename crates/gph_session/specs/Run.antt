@@ -7,8 +7,8 @@ use Rattle.part_layout.specs.declared.config.Config.{Config}
 use Rattle.query_protocol.specs.Requests.{LineRequest, Add, Quit, reading}
 use Rattle.query_protocol.specs.Replies.{text}
 use Rattle.query_protocol.specs.declared.bad.Bad.{Bad}
-use Rattle.query_protocol.specs.declared.reply.Reply.{Reply}
-use Rattle.query_protocol.specs.declared.reply.Reply.TheVariants as reply
+use Rattle.query_protocol.specs.Replies.{LineReply}
+use Rattle.query_protocol.specs.Replies as reply
 use Rattle.gph_session.specs.Ledger.{IsRise}
 use Rattle.gph_session.specs.State.{State, new_session}
 use Rattle.gph_session.specs.Step.{Exchange, Step}
@@ -19,7 +19,7 @@ Run config history s [] t = t ≡ s
 Run config history s (exchange ∷ exchanges) t = (mid : State) × Step config history s exchange mid × Run config history mid exchanges t
 
 -- what the session with this number committed, by what a line asked and what it was told
-abbrev pub committed : ℕ → Result (Option LineRequest) Bad → List Reply → List JournalEntry
+abbrev pub committed : ℕ → Result (Option LineRequest) Bad → List LineReply → List JournalEntry
 committed who (Ok (Some (Add key code))) (reply.Added added at ∷ []) = record { who = who; operation = journal.Add key code } ∷ []
 committed who asked replies = []
 

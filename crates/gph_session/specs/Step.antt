@@ -6,8 +6,8 @@ use Rattle.part_layout.specs.declared.config.Config.{Config}
 use Rattle.part_layout.specs.Text.{layout_text}
 use Rattle.query_protocol.specs.Requests.{LineRequest, Add, Range, Next, Cost, Plan, Layout, Quit, reading}
 use Rattle.query_protocol.specs.declared.bad.Bad.{Bad}
-use Rattle.query_protocol.specs.declared.reply.Reply.{Reply}
-use Rattle.query_protocol.specs.declared.reply.Reply.TheVariants as reply
+use Rattle.query_protocol.specs.Replies.{LineReply}
+use Rattle.query_protocol.specs.Replies as reply
 use Rattle.gph_session.specs.Ledger.{layout_of}
 use Rattle.gph_session.specs.State.{State, query_of}
 use Rattle.gph_session.specs.Entries.{Stays, Refuses, Adds, Takes, Fills}
@@ -16,11 +16,11 @@ use Rattle.gph_session.specs.QuerySteps.{OpensUnlessUsed, Gives, Costs, Plans, I
 -- a line, its replies, and the position that they print or carry on
 pub record Exchange : Type 0 where
   pub line : List ℕ
-  pub replies : List Reply
+  pub replies : List LineReply
   pub position : ℕ
 
 -- what is answered to what a line asks; `quit` isn't answered
-abbrev pub Answers : Result (Option LineRequest) Bad → Config → List JournalEntry → State → List Reply → ℕ → State → Type 0
+abbrev pub Answers : Result (Option LineRequest) Bad → Config → List JournalEntry → State → List LineReply → ℕ → State → Type 0
 Answers (Err fault) config history s replies at t = Stays (reply.Bad fault ∷ []) s replies at t
 Answers (Ok None) config history s replies at t = Stays [] s replies at t
 Answers (Ok (Some (Add key code))) config history s replies at t =

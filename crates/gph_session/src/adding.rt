@@ -4,6 +4,7 @@ ghost use Rattle.std.specs.Prelude.{◌≡◌, ◌*◌, ◌<◌, ◌≤◌, ℕ,
 ghost use Rattle.std.specs.Arc.{arc_value};
 ghost use Rattle.hamming_model.specs.History.{code_at};
 ghost use Rattle.hamming_model.specs.declared.limits.TheConstants.{ENTRIES_MOST};
+ghost use Rattle.query_protocol.specs.Replies.{line_of};
 ghost use Rattle.gph_session.specs.Changing.{AddsAs, StandsIn, with_row};
 
 use entry_log::{Decision, Entry, Op, decide};
@@ -28,7 +29,7 @@ pub(crate) fn add<const W: usize>(
     requires few_entries { limit ≤ ENTRIES_MOST }
     requires one_shard { (arc_value version.old).contents.shards ≡ 1 }
     requires code { StandsIn W (arc_value version.old).contents code }
-    ensures { AddsAs (arc_value version.old).contents limit key code.entry result (arc_value version.new).contents }
+    ensures { AddsAs (arc_value version.old).contents limit key code.entry (line_of result) (arc_value version.new).contents }
 {
     let op = Op::Add { key, code };
     match decide(&op, version.has_key(key), version.at(), limit) {

@@ -1,5 +1,6 @@
 //! `cost`.
 
+ghost use Rattle.query_protocol.specs.Replies.{line_of};
 ghost use Rattle.gph_session.specs.Asking.{CostsAs};
 
 use crate::open_query::{OpenQuery, place_of};
@@ -8,10 +9,10 @@ use query_protocol::{Bad, Reply, Tag};
 
 /// Tells what the query of a tag has read so far, and what it may read.
 pub(crate) fn cost<const W: usize>(queries: &mut Vec<OpenQuery<W>>, tag: &Tag) -> Reply
-    ensures { CostsAs queries.old.items tag.now result queries.new.items }
+    ensures { CostsAs queries.old.items tag.now (line_of result) queries.new.items }
 {
     match place_of(queries, tag) {
-        None => Reply::Bad(Bad { number: 8, word: 0 }),
+        None => Reply::Bad(Bad::unknown_tag()),
         Some(place) => {
             let task = &mut queries[place].task;
             let reads = task.reads();

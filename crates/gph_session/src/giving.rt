@@ -29,7 +29,7 @@ pub(crate) fn give<const W: usize, K: Sink, L>(
     ensures goes { IfOk result (λ turn. turn ≡ Turn.Goes) }
 {
     match place_of(queries, tag) {
-        None => say(out, sink, &Reply::Bad(Bad { number: 8, word: 0 })),
+        None => say(out, sink, &Reply::Bad(Bad::unknown_tag())),
         Some(place) => give_query(&mut queries[place], tag, count, out, sink, steps),
     }
 }

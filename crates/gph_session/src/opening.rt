@@ -2,6 +2,7 @@
 
 ghost use Rattle.std.specs.Prelude.{◌≡◌, ◌*◌, ◌++◌, ◌≤◌, [], ◌∷◌, ℕ, OnErr, OnOk};
 ghost use Rattle.std.specs.Arc.{arc_value};
+ghost use Rattle.query_protocol.specs.Replies.{line_of};
 ghost use Rattle.gph_session.specs.Changing.{OpensAs, StandsIn};
 
 use crate::open_query::{MOST_OPEN, OpenQuery, place_of};
@@ -28,13 +29,13 @@ pub(crate) fn open<const W: usize>(
     requires near { tau ≤ (arc_value version.now).contents.layout.bits }
     requires some_room { 1 ≤ room }
     requires small_room { room ≤ 256 }
-    ensures { OpensAs (arc_value version.now).contents room queries.old.items tag tau code.entry result queries.new.items }
+    ensures { OpensAs (arc_value version.now).contents room queries.old.items tag tau code.entry (line_of result) queries.new.items }
 {
     if place_of(queries, &tag).is_some() {
-        return Reply::Bad(Bad { number: 7, word: 0 });
+        return Reply::Bad(Bad::tag_in_use());
     }
     if queries.len() >= MOST_OPEN {
-        return Reply::Bad(Bad { number: 9, word: 0 });
+        return Reply::Bad(Bad::too_many_queries());
     }
     let Ok(pinned) = version.clone() else {
         return Reply::NoMemory;

@@ -18,11 +18,11 @@ use crate::costing::cost;
 use crate::giving::give;
 use crate::open_query::{MOST_OPEN, OpenQuery};
 use crate::opening::open;
-use crate::output::say;
+use crate::output::{say, send};
 use crate::planning::plan;
 use line_io::{Cut, Cutter, Failed, LineBuf, Sink};
 use part_layout::{Config, Layout, LayoutFault};
-use query_protocol::{Bad, Reply, Request, read_line};
+use query_protocol::{Bad, Reply, Request, read_line, write_layout};
 use read_meter::{NoMemory, Steps};
 use shard_version::Version;
 use std::alloc::Global;
@@ -195,12 +195,14 @@ fn meet<const W: usize, K: Sink, L>(
             say(&mut session.out, sink, &reply)
         }
         Request::Plan { tag, shard } => {
-            let reply = plan(&mut session.queries, &tag, shard);
-            say(&mut session.out, sink, &reply)
+            plan(&mut session.queries, &tag, shard, &mut session.out);
+            send(&session.out, sink)
         }
         Request::Layout { shard } => {
             let text = session.version.layout().text();
-            say(&mut session.out, sink, &Reply::Layout { shard, text })
+            session.out.clear();
+            write_layout(shard, &text, &mut session.out);
+            send(&session.out, sink)
         }
         Request::Quit => Ok(Turn::Quits),
     }

@@ -1,3 +1,3 @@
-pub mod WorkLemmas
-pub mod ListedLemmas
 pub mod DrainLemmas
+pub mod ListedLemmas
+pub mod WorkLemmas

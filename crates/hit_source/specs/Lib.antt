@@ -1,8 +1,9 @@
-pub mod Sources
+pub mod Codes
+pub mod Drains
+pub mod Listed
+pub mod ListedLaw
 pub mod Moves
+pub mod Sources
+pub mod WindowLaws
 pub mod Windows
 pub mod Work
-pub mod Listed
-pub mod WindowLaws
-pub mod ListedLaw
-pub mod Drains

@@ -4,7 +4,7 @@ use Rattle.std.specs.Prelude.{◌==◌}
 use Rattle.std.proofs.lemmas.Bool.{eqb-true, eq-eqb}
 use Rattle.std.proofs.lemmas.List.{length-drop}
 use Rattle.hamming_model.proofs.OrderLemmas.{Ascends, ascends_from_sorted}
-use Rattle.hit_source.specs.Sources.{Asked, IsLawful, IsFloor, reached}
+use Rattle.hit_source.specs.Sources.{Asked, IsAsked, IsLawful, IsFloor, reached}
 use Rattle.hit_source.specs.Windows.{Window, IsWindow, left_of, first_distance}
 use Rattle.hit_source.specs.Work.{window_standing}
 use Rattle.hit_source.specs.Listed.{asked_of_list, standing_of_list, IsListed}
@@ -30,15 +30,28 @@ window_floor a w reads ended units hits up is ends = record {
     back : (w.given ≡ length w.found) × (ended ≡ true) → first_distance (left_of w) ≡ None
     back both = empty_where_none (left_of w) (omega (arith, both.0, length-drop w.given w.found))
 
+-- what it is asked
+listed_asked : (w : Window) (reads : ℕ) → IsListed w reads → IsAsked (asked_of_list w.found w.room)
+listed_asked w reads is = record {
+  ascends = is.ascends;
+  reached = is.near;
+  few = omega arith;
+  some_room = is.some_room;
+  range = λ range. record { plan = λ given. refl; bound = λ given. refl };
+  near = λ near. cc;
+}
+
 -- a source that reads a list is lawful at every moment
 pub listed_lawful : (w : Window) (reads : ℕ) → IsListed w reads → IsLawful (asked_of_list w.found w.room) (standing_of_list w reads)
 listed_lawful w reads is =
     let fits : reached (standing_of_list w reads) ≡ w.moved = window_reached w reads (w.moved == length w.found) ((length w.found - reads) + (length w.found - w.moved)) is.window in
     record {
+      asked = listed_asked w reads is;
       window = window_prefix w is.window;
       within = omega (arith, fits, is.window.among);
       room = omega (arith, waits w is.window, is.window.fits);
       each_read = omega (arith, fits, is.read_first);
+      begun = record { range = λ range. refl; near = tt };
       bounded = is.bounded;
       floor = window_floor (asked_of_list w.found w.room) w reads (w.moved == length w.found) ((length w.found - reads) + (length w.found - w.moved)) refl (ascends_from_sorted w.found is.ascends) is.window (λ all. eq-eqb w.moved (length w.found) (omega (arith, all, is.window.behind, is.window.among)));
       end = record {

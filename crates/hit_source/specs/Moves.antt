@@ -1,9 +1,9 @@
 -- What the calls of a source of hits do to where it stands.
-use Rattle.std.specs.Prelude.{◌≡◌, ℕ, ◌+◌, ◌<◌, ◌≤◌, ◌↔◌, ◌⊎◌, true, false, List, [], ◌∷◌, length, take, drop, Option, Some, None, IfSome}
+use Rattle.std.specs.Prelude.{◌≡◌, ℕ, ◌+◌, ◌<◌, ◌≤◌, ◌↔◌, ◌⊎◌, true, false, List, [], ◌∷◌, length, take, drop, Option, Some, None, IfSome, All}
 use Rattle.hamming_model.specs.declared.hit.Hit.{Hit}
 use Rattle.hit_source.specs.declared.polled.Polled.{Polled}
 use Rattle.hit_source.specs.declared.polled.Polled.TheVariants.{Moved, Full, Ended}
-use Rattle.hit_source.specs.Sources.{Asked, Standing}
+use Rattle.hit_source.specs.Sources.{Asked, Standing, reached, radii_begun}
 
 -- a floor doesn't fall: to have none is the highest
 abbrev pub NotBelow : Option ℕ → Option ℕ → Type 0
@@ -20,11 +20,27 @@ pub record PollAnswers (a : Asked) (new : Standing) (result : Polled) : Type 0 w
   pub ended : (result ≡ Ended) ↔ (new.ended ≡ true)
   pub full : (result ≡ Full) ↔ ((new.ended ≡ false) × (length new.waiting ≡ a.room))
 
--- a poll that answers Moved takes units off, the whole budget where no hit waits and the floor is as before
-pub record PollSpends (budget : ℕ) (old new : Standing) (result : Polled) : Type 0 where
+-- the next unit would begin a radius above a floor: every hit within the radii begun was given or waits, and a hit waits or the
+-- floor has risen since
+pub record AwaitsRadius (a : Asked) (floor : Option ℕ) (s : Standing) : Type 0 where
+  pub near : a.near ≡ true
+  pub above : IfSome floor (λ most. most < radii_begun s.begun)
+  pub none_nearer : All (λ hit. radii_begun s.begun ≤ hit.dist) (drop (reached s) a.hits)
+  pub onward : s.waiting ≡ [] → s.floor ≡ floor → ⊥
+
+-- a poll takes units off, at most its budget where it begins no radius; it answers Moved only after the whole budget, or where the
+-- next unit would begin a radius above the floor at entry
+pub record PollSpends (budget : ℕ) (a : Asked) (old new : Standing) (result : Polled) : Type 0 where
   pub units : new.units ≤ old.units
+  pub most : new.begun ≡ old.begun → old.units ≤ new.units + budget
   pub moved : result ≡ Moved → new.units < old.units
-  pub whole : result ≡ Moved → new.waiting ≡ [] → new.floor ≡ old.floor → new.units + budget ≤ old.units
+  pub whole : result ≡ Moved → (new.units + budget ≤ old.units) ⊎ AwaitsRadius a old.floor new
+
+-- a source that had ended stays so, and does nothing more
+pub record StaysEnded (old new : Standing) : Type 0 where
+  pub ended : new.ended ≡ true
+  pub reads : new.reads ≡ old.reads
+  pub begun : new.begun ≡ old.begun
 
 -- what a poll with a budget of units does, with the ledger before and after it
 pub record Polls (budget : ℕ) (a : Asked) (old new : Standing) (from to : ℕ) (result : Polled) : Type 0 where
@@ -32,11 +48,12 @@ pub record Polls (budget : ℕ) (a : Asked) (old new : Standing) (from to : ℕ)
   pub floor : NotBelow old.floor new.floor
   pub rises : old.reads ≤ new.reads
   pub ledger : to + old.reads ≡ from + new.reads
-  pub spent : new.reads + length new.waiting ≤ old.reads + budget
+  pub spent : new.reads + length new.waiting + radii_begun new.begun ≤ old.reads + radii_begun old.begun + budget
   pub begun : BeginsWithin old.floor old.begun new.begun
-  pub stays_ended : old.ended ≡ true → (new.ended ≡ true) × (new.reads ≡ old.reads)
+  pub farther : radii_begun old.begun ≤ radii_begun new.begun
+  pub stays_ended : old.ended ≡ true → StaysEnded old new
   pub answers : PollAnswers a new result
-  pub spends : PollSpends budget old new result
+  pub spends : PollSpends budget a old new result
 
 -- the first hit of those that wait
 abbrev pub first_of : List Hit → Option Hit

@@ -1,8 +1,8 @@
 //! A source whose hits are a fixed list.
 
-ghost use Rattle.std.specs.Prelude.{◌≡◌, ◌+◌, ◌<◌, ◌≤◌, true, false, length, if◌then◌else◌};
-ghost use Rattle.std.specs.List.Sorted.{IsSorted};
-ghost use Rattle.hamming_model.specs.Scan.{hit_cmp};
+ghost use Rattle.std.specs.Prelude.{◌≡◌, ◌+◌, ◌<◌, ◌≤◌, true, false, length, if◌then◌else◌, All, None};
+ghost use Rattle.hamming_model.specs.Scan.{in_order};
+ghost use Rattle.hamming_model.specs.declared.limits.TheConstants.{BITS_MOST, ROOM_MOST};
 ghost use Rattle.hit_source.specs.Moves.{PollAnswers};
 ghost use Rattle.hit_source.specs.Work.{Works, IsStopped};
 ghost use Rattle.hit_source.specs.Listed.{asked_of_list, start_of_list, standing_of_list, IsListed};
@@ -21,25 +21,24 @@ pub struct ListedHits {
 }
 
 impl ListedHits {
-    /// A source of these hits, of which so many may wait. It takes no memory.
+    /// A source of these hits in order, of which so many may wait. It takes no memory.
     pub fn new(hits: Vec<Hit>, room: usize) -> ListedHits
-        requires in_order { IsSorted hit_cmp hits.items }
+        requires near { All (λ hit. hit.dist ≤ BITS_MOST) hits.items }
         requires some_room { 1 ≤ room }
-        requires small_room { room ≤ 256 }
-        ensures asked { ⟦<ListedHits as HitSource>⟧.asked result ≡ asked_of_list hits.items room }
-        ensures standing { ⟦<ListedHits as HitSource>⟧.standing result ≡ start_of_list hits.items }
+        requires small_room { room ≤ ROOM_MOST }
+        ensures asked { ⟦<ListedHits as HitSource>⟧.asked result ≡ asked_of_list (in_order hits.items) room }
+        ensures standing { ⟦<ListedHits as HitSource>⟧.standing result ≡ start_of_list (in_order hits.items) }
     {
-        ListedHits {
-            window: HitWindow::of(hits, room),
-            reads: 0,
-        }
+        let mut window = HitWindow::of(hits, room);
+        window.sort();
+        ListedHits { window, reads: 0 }
     }
 
     // Reads the next posting, or moves the hit that was read into the room. It answers whether it could.
     fn work<L>(&mut self, steps: &mut Steps<L>) -> bool
         ensures found { self.new.window.found ≡ self.old.window.found }
         ensures room { self.new.window.room ≡ self.old.window.room }
-        ensures works { Works (if result then 1 else 0)
+        ensures works { Works None (if result then 1 else 0)
             (standing_of_list self.old.window self.old.reads)
             (standing_of_list self.new.window self.new.reads) steps.old steps.new }
         ensures stops { result ≡ false → IsStopped

@@ -1,10 +1,9 @@
-ghost use Rattle.std.specs.Prelude.{◌≡◌, ◌≤◌, [], length, IfOk};
-ghost use Rattle.std.specs.List.Sorted.{IsSorted};
-ghost use Rattle.hamming_model.specs.Scan.{hit_cmp};
+ghost use Rattle.std.specs.Prelude.{◌≡◌, ◌≤◌, [], length, IfOk, All};
+ghost use Rattle.hamming_model.specs.declared.limits.TheConstants.{BITS_MOST, ROOM_MOST};
 
 use crate::plain::after;
 use crate::rows::field;
-use hamming_model::Hit;
+use hamming_model::{BITS_MOST, Hit};
 use hit_source::{HitSource, ListedHits, Polled, drain, take_waiting};
 use read_meter::{NoMemory, Steps, upkeep};
 use std::alloc::{AllocError, Global};
@@ -58,18 +57,17 @@ impl Seen {
     }
 }
 
-// Hits at these distances, in order, each with its place as its key.
+// Hits at these distances, each with its place as its key.
 fn hits_at(alloc: Global, distances: &[u32]) -> Result<Vec<Hit>, AllocError>
-    ensures { IfOk result (λ hits. IsSorted hit_cmp hits.items) }
+    ensures { IfOk result (λ hits. All (λ hit. hit.dist ≤ BITS_MOST) hits.items) }
 {
     let mut hits = Vec::new(alloc);
     for place in 0..distances.len() {
         hits.push(Hit {
-            dist: distances[place],
+            dist: distances[place].min(BITS_MOST),
             key: place as u64,
         })?;
     }
-    hits.sort_unstable();
     Ok(hits)
 }
 
@@ -131,7 +129,7 @@ fn compare<R: Abort>(
     wants: &str,
 ) -> Result<(), Fail>
     requires some_room { 1 ≤ room }
-    requires small_room { room ≤ 256 }
+    requires small_room { room ≤ ROOM_MOST }
     requires budget { 1 ≤ budget }
 {
     let mut source = ListedHits::new(hits_at(alloc, &[4, 1, 0, 1])?, room);
@@ -194,7 +192,7 @@ fn a_source_of_no_hits_has_ended(rt: HostRuntime) -> Result<(), Fail> {
 fn a_list_has_one_plan(rt: HostRuntime) -> Result<(), Fail> {
     let mut source = ListedHits::new(hits_at(rt.alloc(), &[7, 7, 9])?, 2);
     assert!(rt; source.head().is_none() && source.floor() == Some(7));
-    assert!(rt; source.plan(None) == 3 && source.bound(Some(512)) == 3);
+    assert!(rt; source.plan(None) == 3 && source.bound(Some(BITS_MOST)) == 3);
     assert!(rt; source.thresholds().is_empty() && source.rows() == 3 && !source.near());
     Ok(())
 }
@@ -209,10 +207,11 @@ fn compare_drained<R: Abort>(
     distances: &[u32],
 ) -> Result<(), Fail>
     requires some_room { 1 ≤ room }
-    requires small_room { room ≤ 256 }
+    requires small_room { room ≤ ROOM_MOST }
     requires budget { 1 ≤ budget }
 {
-    let want = hits_at(alloc, distances)?;
+    let mut want = hits_at(alloc, distances)?;
+    want.sort_unstable();
     let mut source = ListedHits::new(hits_at(alloc, distances)?, room);
     let mut out = Vec::new(alloc);
     drain(&mut source, budget, steps, &mut out)?;

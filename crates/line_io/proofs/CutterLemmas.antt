@@ -1,5 +1,6 @@
 -- Lemmas on where the next LF stands, and on the bytes up to it.
-use Rattle.std.proofs.Common.{◌≡◌, ℕ, ◌+◌, ◌<◌, ◌≢◌, List, [], ◌∷◌, ◌++◌, length, take, drop, get_or, refl, sym, ap, ◌∙◌, take-append-drop, append_assoc, arith}
+use Rattle.std.proofs.Common.{◌≡◌, ℕ, ◌+◌, ◌<◌, ◌≢◌, List, [], ◌∷◌, ◌++◌, length, take, drop}
+use Rattle.std.proofs.Common.{get_or, refl, sym, ap, ◌∙◌, take-append-drop, append_assoc, arith}
 use Rattle.std.proofs.lemmas.List.{take_more, length-take, get_or-take, get_or_default}
 use Rattle.std.proofs.lemmas.Bool.{eqb-true, eq-eqb}
 use Rattle.std.proofs.lemmas.List.Elements.{All-head, All-tail}
@@ -29,17 +30,19 @@ IsFeedAt bytes at = NoneBefore (Passes (is_byte line_feed) bytes) 0 (length byte
     × Passes (is_byte line_feed) bytes at
 
 -- a search that found no LF says so of each byte
-pub clean_from_search : (bytes : List ℕ) → Nowhere (Passes (is_byte line_feed) bytes) 0 (length bytes) → HasNoEnd bytes
-clean_from_search bytes h = λ (k : ℕ) (d : ℕ) (lt : k < length bytes) (e : get_or bytes k d ≡ line_feed).
+pub clean_from_search : (bytes : List ℕ)
+    → Nowhere (Passes (is_byte line_feed) bytes) 0 (length bytes) → HasNoEnd bytes
+clean_from_search bytes h = λ (k d : ℕ) (lt : k < length bytes) (e : get_or bytes k d ≡ line_feed).
     h k (omega arith) lt (eq-eqb (get_or bytes k 0) line_feed (get_or_default bytes k 0 d lt ∙ e))
 
 -- no byte before the first LF is one
 pub clean_before : (bytes : List ℕ) (at : ℕ) → IsFeedAt bytes at → HasNoEnd (take at bytes)
-clean_before bytes at found = λ (k : ℕ) (d : ℕ) (lt : k < length (take at bytes)) (e : get_or (take at bytes) k d ≡ line_feed).
+clean_before bytes at found = λ (k d : ℕ) (lt : k < length (take at bytes)) e.
     let below : k < at = omega (arith, length-take at bytes) in
     let inside : k < length bytes = omega (arith, length-take at bytes) in
-    found.0.before k (omega arith) below
-    (eq-eqb (get_or bytes k 0) line_feed (get_or_default bytes k 0 d inside ∙ sym (get_or-take at bytes k d below) ∙ e))
+    let same : get_or bytes k 0 ≡ line_feed =
+    get_or_default bytes k 0 d inside ∙ sym (get_or-take at bytes k d below) ∙ e in
+    found.0.before k (omega arith) below (eq-eqb (get_or bytes k 0) line_feed same)
 
 -- the bytes up to and with the first LF
 pub taken_with_feed : (bytes : List ℕ) (at : ℕ) → IsFeedAt bytes at
@@ -53,7 +56,8 @@ pub taken_through : (bytes : List ℕ) (at : ℕ) → IsFeedAt bytes at
     → take (at + 1) bytes ≡ take_through line_feed bytes
 taken_through bytes at found =
     let whole : (take at bytes ++ line_feed ∷ []) ++ drop (at + 1) bytes ≡ bytes =
-    ap (λ l. l ++ drop (at + 1) bytes) (sym (taken_with_feed bytes at found)) ∙ take-append-drop (at + 1) bytes in
+    ap (λ l. l ++ drop (at + 1) bytes) (sym (taken_with_feed bytes at found))
+    ∙ take-append-drop (at + 1) bytes in
     let split : take at bytes ++ line_feed ∷ drop (at + 1) bytes ≡ bytes =
     sym (append_assoc (take at bytes) (line_feed ∷ []) (drop (at + 1) bytes)) ∙ whole in
     taken_with_feed bytes at found
@@ -68,6 +72,7 @@ line_taken raw bytes at found =
     ∙ ended_lines-piece raw (take at bytes) [] (clean_before bytes at found)
 
 -- and leave none begun
-pub none_begun : (raw bytes : List ℕ) (at : ℕ) → IsFeedAt bytes at → unended raw (take (at + 1) bytes) ≡ []
+pub none_begun : (raw bytes : List ℕ) (at : ℕ) → IsFeedAt bytes at
+    → unended raw (take (at + 1) bytes) ≡ []
 none_begun raw bytes at found =
     ap (λ l. unended raw l) (taken_with_feed bytes at found) ∙ unended-piece raw (take at bytes) []

@@ -1,10 +1,13 @@
 -- Lemmas on the lines of bytes that come in pieces.
-use Rattle.std.proofs.Common.{◌≡◌, ℕ, ◌==◌, ◌≢◌, Bool, true, false, if◌then◌else◌, List, [], ◌∷◌, ◌++◌, map, All, refl, sym, ap, ◌∙◌, append_assoc, append-nil, ◌-◌, nat_lt, length, length-append, arith}
+use Rattle.std.proofs.Common.{◌≡◌, ℕ, ◌==◌, ◌≢◌, Bool, true, false, if◌then◌else◌, List, [], ◌∷◌}
+use Rattle.std.proofs.Common.{◌++◌, map, All, refl, sym, ap, ◌∙◌, append_assoc, append-nil, ◌-◌}
+use Rattle.std.proofs.Common.{nat_lt, ◌<◌, length, length-append, arith}
 use Rattle.std.proofs.Math.Seq.{get_or-append_seam, take-append_seam}
 use Rattle.std.proofs.lemmas.Bool.{eqb-true, eqb-false, lt-ltb}
 use Rattle.std.proofs.lemmas.Bool.Decides.{nat_tests}
 use Rattle.std.proofs.lemmas.List.Elements.{All-head, All-tail, All-cons, All-nil, All-append}
-use Rattle.line_io.specs.Lines.{line_feed, without_return, ended_lines, unended, last_line, HasNoEnd, rejoined, IsSplitAtEnds, AreLinesOf}
+use Rattle.line_io.specs.Lines.{line_feed, without_return, ended_lines, unended, last_line}
+use Rattle.line_io.specs.Lines.{HasNoEnd, rejoined, IsSplitAtEnds, AreLinesOf}
 
 -- the lines of two pieces after one byte, by whether it is an LF
 lines_more : (v : Bool) (begun grown xs b : List ℕ)
@@ -57,22 +60,30 @@ pub unended-clean : (begun bytes : List ℕ) → HasNoEnd bytes → unended begu
 unended-clean begun [] h = sym (append-nil begun)
 unended-clean begun (x ∷ xs) h =
     rw (not_feed x (All-head (λ b. b ≢ line_feed) x xs h))
-    (unended-clean (begun ++ x ∷ []) xs (All-tail (λ b. b ≢ line_feed) x xs h) ∙ append_assoc begun (x ∷ []) xs)
+    (
+    unended-clean (begun ++ x ∷ []) xs (All-tail (λ b. b ≢ line_feed) x xs h)
+    ∙ append_assoc begun (x ∷ []) xs
+    )
 
 -- bytes up to the first LF end one line
 pub ended_lines-piece : (begun piece more : List ℕ) → HasNoEnd piece
-    → ended_lines begun (piece ++ line_feed ∷ more) ≡ without_return (begun ++ piece) ∷ ended_lines [] more
+    → ended_lines begun (piece ++ line_feed ∷ more)
+    ≡ without_return (begun ++ piece) ∷ ended_lines [] more
 ended_lines-piece begun piece more h =
     ended_lines-append begun piece (line_feed ∷ more)
-    ∙ ap (λ l. l ++ ended_lines (unended begun piece) (line_feed ∷ more)) (ended_lines-clean begun piece h)
+    ∙ ap
+    (λ l. l ++ ended_lines (unended begun piece) (line_feed ∷ more))
+    (ended_lines-clean begun piece h)
     ∙ ap (λ l. ended_lines l (line_feed ∷ more)) (unended-clean begun piece h)
 
 -- after an LF nothing of the line before stands begun
-pub unended-piece : (begun piece more : List ℕ) → unended begun (piece ++ line_feed ∷ more) ≡ unended [] more
+pub unended-piece : (begun piece more : List ℕ)
+    → unended begun (piece ++ line_feed ∷ more) ≡ unended [] more
 unended-piece begun piece more = unended-append begun piece (line_feed ∷ more)
 
 -- the lines of pieces that were joined with LFs are these pieces
-pub ended_lines-rejoined : (pieces : List (List ℕ)) (rest : List ℕ) → All HasNoEnd pieces → HasNoEnd rest
+pub ended_lines-rejoined : (pieces : List (List ℕ)) (rest : List ℕ)
+    → All HasNoEnd pieces → HasNoEnd rest
     → ended_lines [] (rejoined pieces rest) ≡ map without_return pieces
 ended_lines-rejoined [] rest h r = ended_lines-clean [] rest r
 ended_lines-rejoined (p ∷ ps) rest h r =
@@ -80,16 +91,19 @@ ended_lines-rejoined (p ∷ ps) rest h r =
     ∙ ap (λ l. without_return p ∷ l) (ended_lines-rejoined ps rest (All-tail HasNoEnd p ps h) r)
 
 -- what stands begun after them is the rest
-pub unended-rejoined : (pieces : List (List ℕ)) (rest : List ℕ) → HasNoEnd rest → unended [] (rejoined pieces rest) ≡ rest
+pub unended-rejoined : (pieces : List (List ℕ)) (rest : List ℕ) → HasNoEnd rest
+    → unended [] (rejoined pieces rest) ≡ rest
 unended-rejoined [] rest r = unended-clean [] rest r
-unended-rejoined (p ∷ ps) rest r = unended-piece [] p (rejoined ps rest) ∙ unended-rejoined ps rest r
+unended-rejoined (p ∷ ps) rest r =
+    unended-piece [] p (rejoined ps rest) ∙ unended-rejoined ps rest r
 
 -- bytes that are split at their LFs have these lines
 pub lines_of_split : (bytes : List ℕ) (pieces : List (List ℕ)) (rest : List ℕ)
     → IsSplitAtEnds bytes pieces rest → AreLinesOf bytes pieces rest
 lines_of_split bytes pieces rest s =
     let ended : ended_lines [] bytes ≡ map without_return pieces =
-    ap (λ l. ended_lines [] l) s.whole ∙ ended_lines-rejoined pieces rest s.pieces_clean s.rest_clean in
+    ap (λ l. ended_lines [] l) s.whole
+    ∙ ended_lines-rejoined pieces rest s.pieces_clean s.rest_clean in
     let last : unended [] bytes ≡ rest = ap (λ l. unended [] l) s.whole
     ∙ unended-rejoined pieces rest s.rest_clean in
     record {
@@ -144,12 +158,15 @@ one_more line last = omega (arith, length-append line (last ∷ []))
 
 -- whether a line with one more byte is empty
 none_empty : (line : List ℕ) (last : ℕ) → nat_lt 0 (length (line ++ last ∷ [])) ≡ true
-none_empty line last = lt-ltb 0 (length (line ++ last ∷ [])) (omega (arith, length-append line (last ∷ [])))
+none_empty line last =
+    let some : 0 < length (line ++ last ∷ []) =
+    omega (arith, length-append line (last ∷ [])) in lt-ltb 0 (length (line ++ last ∷ [])) some
 
 -- a CR at the end is dropped
 pub without_return-dropped : (line : List ℕ) → without_return (line ++ 13 ∷ []) ≡ line
 without_return-dropped line =
-    rw (none_empty line 13, one_more line 13, get_or-append_seam line 13 [] 0) (take-append_seam line (13 ∷ []))
+    rw (none_empty line 13, one_more line 13, get_or-append_seam line 13 [] 0)
+    (take-append_seam line (13 ∷ []))
 
 -- another byte at the end stays, and the bytes before it
 pub without_return-kept : (line : List ℕ) (last : ℕ) → last ≢ 13

@@ -1,5 +1,6 @@
 -- When a source or a sink may answer that it failed.
-use Rattle.std.specs.Prelude.{◌≡◌, ℕ, ◌+◌, ◌-◌, ◌^◌, ◌<◌, ◌≤◌, ◌⊎◌, min, List, length, Result, IfOk, OnErr, Option, None, Some, ⊤}
+use Rattle.std.specs.Prelude.{◌≡◌, ℕ, ◌+◌, ◌-◌, ◌^◌, ◌<◌, ◌≤◌, ◌⊎◌, min, List, length}
+use Rattle.std.specs.Prelude.{Result, Ok, Err, IfOk, OnErr, Option, None, Some, ⊤}
 
 -- a count of faults rose, or stands at the greatest number that it can hold
 abbrev pub Rose : ℕ → ℕ → Type 0
@@ -21,6 +22,11 @@ IsSteady before after result = IfOk result (λ _. after ≡ before)
 -- a piece that isn't empty is taken by one byte or more
 abbrev pub TakesSome : {E : Type 0} → Result ℕ E → List ℕ → Type 0
 TakesSome result piece = IfOk result (λ taken. 0 < length piece → 0 < taken)
+
+-- one write had this answer; that it took nothing of a piece that isn't empty is told as a failure
+abbrev pub TellsWrite : {E : Type 0} → (List ℕ → Result ℕ E → Type 0) → List ℕ → Result ℕ E → Type 0
+TellsWrite one piece (Ok taken) = one piece (Ok taken)
+TellsWrite one piece (Err failed) = one piece (Err failed) ⊎ (one piece (Ok 0) × (0 < length piece))
 
 -- bytes that were told are still told
 abbrev pub StaysTold : Option (List ℕ) → Option (List ℕ) → Type 0

@@ -1,5 +1,6 @@
 -- The lines of a list of bytes.
-use Rattle.std.specs.Prelude.{◌≡◌, ℕ, ◌==◌, ◌≢◌, Bool, true, false, if◌then◌else◌, List, [], ◌∷◌, ◌++◌, map, All}
+use Rattle.std.specs.Prelude.{◌≡◌, ℕ, ◌==◌, ◌≢◌, Bool, true, false, if◌then◌else◌}
+use Rattle.std.specs.Prelude.{List, [], ◌∷◌, ◌++◌, map, All}
 use Rattle.std.specs.Io.BufRead.{strip_last}
 
 -- the byte that ends a line, LF
@@ -53,7 +54,7 @@ pub record IsSplitAtEnds (bytes : List ℕ) (pieces : List (List ℕ)) (rest : L
   pub pieces_clean : All HasNoEnd pieces
   pub rest_clean : HasNoEnd rest
 
--- the lines are these pieces, each without its CR, and at the end of the input the rest, if there is any
+-- the lines are these pieces, each without its CR, and at the end of the input what follows them
 pub record AreLinesOf (bytes : List ℕ) (pieces : List (List ℕ)) (rest : List ℕ) : Type 0 where
   pub before_end : lines bytes false ≡ map without_return pieces
   pub at_end : lines bytes true ≡ map without_return pieces ++ last_line rest

@@ -2,7 +2,8 @@
 use Rattle.std.specs.Prelude.{ℕ, Bool, List, Option}
 use Rattle.std.specs.Io.KnownBytes.{append_known}
 
--- a source in memory: bytes left, faults and calls so far, the most that a read gives, the calls that fail
+-- a source in memory: bytes left, faults and calls so far, the most that a read gives, and the
+-- calls that fail
 pub record MemoryInput : Type 0 where
   pub left : List ℕ
   pub faults : ℕ
@@ -22,9 +23,9 @@ pub record SteadyInput : Type 0 where
   pub left : List ℕ
   pub piece : ℕ
 
--- a reader or a writer of std, with the faults that it has met
+-- what bytes are read from or written to, with the faults that it has met
 pub record Counted (T : Type 0) : Type 0 where
-  pub inner : T
+  pub end : T
   pub faults : ℕ
 
 -- a writer, the bytes on their way to it, and whether giving bytes out has failed

@@ -1,4 +1,5 @@
-ghost use Rattle.std.specs.Prelude.{◌≡◌, ℕ, ◌+◌, ◌<◌, ◌≤◌, List, [], ◌∷◌, ◌++◌, length, take, Some, IfOk, MatchOption};
+ghost use Rattle.std.specs.Prelude.{◌≡◌, ℕ, ◌+◌, ◌<◌, ◌≤◌, List, [], ◌∷◌, ◌++◌, length, take, Some};
+ghost use Rattle.std.specs.Prelude.{IfOk, MatchOption};
 ghost use Rattle.std.specs.Io.BufRead.{take_through};
 ghost use Rattle.line_io.specs.Lines.{line_feed, ended_by, ended_lines, unended, last_line};
 
@@ -31,7 +32,7 @@ pub struct Cutter {
 
 impl Model for Cutter {
     ghost use Rattle.std.specs.Prelude.{◌≡◌, ◌+◌, ◌≤◌, length, take, if◌then◌else◌, Some, None};
-    ghost use Rattle.line_io.specs.Kept.{CutterState};
+    ghost use Rattle.line_io.specs.Cut.{CutterState};
     ghost use Rattle.line_io.specs.declared.cutter.TheConstants.{LINE_MOST};
 
     ghost Value = { CutterState };
@@ -45,12 +46,12 @@ impl Model for Cutter {
         × (c.cut ≤ LINE_MOST) };
 }
 
-ghost use Rattle.line_io.specs.Kept.{kept, TellsOf};
+ghost use Rattle.line_io.specs.Cut.{held_of, TellsOf};
 
 impl Cutter {
     /// A cutter before the first byte.
     pub fn new(alloc: Global) -> Result<Cutter, NoMemory>
-        ensures { IfOk result (λ c. c.held ≡ kept []) }
+        ensures { IfOk result (λ c. c.held ≡ held_of []) }
     {
         let bytes = zeroed(alloc, LINE_MOST + 1)?;
         Ok(Cutter {
@@ -67,10 +68,10 @@ impl Cutter {
         ensures bound { result.0 ≤ length bytes.now }
         ensures taken { take result.0 bytes.now ≡ take_through line_feed bytes.now }
         ensures goes_on { MatchOption result.1 (result.0 ≡ length bytes.now) (λ _. 0 < result.0) }
-        ensures cut { (raw : List ℕ) → self.old.held ≡ kept raw →
+        ensures cut { (raw : List ℕ) → self.old.held ≡ held_of raw →
             TellsOf result.1 self.new.line (ended_lines raw (take result.0 bytes.now)) }
-        ensures held { (raw : List ℕ) → self.old.held ≡ kept raw →
-            self.new.held ≡ kept (unended raw (take result.0 bytes.now)) }
+        ensures held { (raw : List ℕ) → self.old.held ≡ held_of raw →
+            self.new.held ≡ held_of (unended raw (take result.0 bytes.now)) }
     {
         match memchr(b'\n', bytes) {
             Some(at) => {
@@ -87,9 +88,9 @@ impl Cutter {
     /// Ends the input: what follows the last LF is a line, if there is anything. A cutter that
     /// has finished is as a new one.
     pub fn finish(&mut self) -> Option<Cut>
-        ensures cut { (raw : List ℕ) → self.old.held ≡ kept raw →
+        ensures cut { (raw : List ℕ) → self.old.held ≡ held_of raw →
             TellsOf result self.new.line (last_line raw) }
-        ensures held { self.new.held ≡ kept [] }
+        ensures held { self.new.held ≡ held_of [] }
     {
         if self.begun == 0 && !self.is_long {
             return None;
@@ -107,8 +108,8 @@ impl Cutter {
 
     // Adds bytes to the line that has begun.
     fn keep(&mut self, more: &[u8])
-        ensures held { (raw : List ℕ) → self.old.held ≡ kept raw →
-            self.new.held ≡ kept (raw ++ more.now) }
+        ensures held { (raw : List ℕ) → self.old.held ≡ held_of raw →
+            self.new.held ≡ held_of (raw ++ more.now) }
     {
         self.cut = 0;
         if self.is_long || more.len() > LINE_MOST + 1 - self.begun {
@@ -122,9 +123,9 @@ impl Cutter {
 
     // Ends the line that has begun, and drops its CR where an LF ended it.
     fn end(&mut self, by_feed: bool) -> Cut
-        ensures cut { (raw : List ℕ) → self.old.held ≡ kept raw →
+        ensures cut { (raw : List ℕ) → self.old.held ≡ held_of raw →
             TellsOf (Some result) self.new.line (ended_by by_feed raw ∷ []) }
-        ensures held { self.new.held ≡ kept [] }
+        ensures held { self.new.held ≡ held_of [] }
     {
         let is_long = self.is_long;
         let length = ended_length(&self.bytes[..self.begun], by_feed);

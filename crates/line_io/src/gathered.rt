@@ -1,20 +1,20 @@
-ghost use Rattle.std.specs.Prelude.{ℕ, ◌<◌, ◌≤◌, length, IfSome};
+ghost use Rattle.std.specs.Prelude.{◌≡◌, ℕ, ◌<◌, length, take, IfOk};
 
 use crate::buffer::LineBuf;
-use crate::gathering::Gathering;
+use crate::gathering::{Added, Flushed, Gathering, NotFlushed};
+use crate::write_end::WriteEnd;
 use read_meter::NoMemory;
 use std::alloc::Global;
 use std::cell::RefCell;
-use std::io::Write;
 
 /// The buffer of 4,096 bytes that a program's reader and writer share: what was written is
 /// gathered there, and given out before the program reads, and where the buffer is full.
 #[derive(Drop)]
-pub struct Gathered<W: Write + Drop> {
+pub struct Gathered<W: WriteEnd + Drop> {
     cell: RefCell<Gathering<W>>,
 }
 
-impl<W: Write + Drop> Gathered<W> {
+impl<W: WriteEnd + Drop> Gathered<W> {
     /// An empty buffer before `writer`.
     pub fn new(alloc: Global, writer: W) -> Result<Gathered<W>, NoMemory> {
         let buffer = LineBuf::new(alloc)?;
@@ -23,25 +23,17 @@ impl<W: Write + Drop> Gathered<W> {
         })
     }
 
-    /// Gives out what is gathered, and returns whether every giving-out went well so far.
-    pub fn give_out(&self) -> bool {
-        match self.cell.try_borrow_mut() {
-            Ok(mut gathering) => {
-                gathering.give_out();
-                !gathering.has_failed()
-            }
-            Err(_) => false,
-        }
+    /// Gives out what is gathered. No clause can say what a cell holds, so the answer is a value
+    /// that only a giving-out makes: `Flushed` where each went well so far, else `NotFlushed`.
+    pub fn give_out(&self) -> Result<Flushed, NotFlushed> {
+        self.cell.try_borrow_mut()?.give_out()
     }
 
     /// Takes the front of a piece, or nothing where a giving-out has failed.
-    pub(crate) fn add(&self, piece: &[u8]) -> Option<usize>
-        ensures bound { IfSome result (λ taken. taken ≤ length piece.now) }
-        ensures takes { IfSome result (λ taken. 0 < length piece.now → 0 < taken) }
+    pub(crate) fn add<'p>(&self, piece: &'p [u8]) -> Result<Added<'p>, NotFlushed>
+        ensures front { IfOk result (λ added. added ≡ take (length added) piece.now) }
+        ensures takes { IfOk result (λ added. 0 < length piece.now → 0 < length added) }
     {
-        match self.cell.try_borrow_mut() {
-            Ok(mut gathering) => gathering.add(piece),
-            Err(_) => None,
-        }
+        self.cell.try_borrow_mut()?.add(piece)
     }
 }

@@ -1,4 +1,5 @@
-ghost use Rattle.std.specs.Prelude.{◌≡◌, ◌++◌, ℕ, List, [], length, Some, IsErr, IfOk, MatchResult, Contains};
+ghost use Rattle.std.specs.Prelude.{◌≡◌, ◌++◌, ℕ, List, [], length, Some, IsErr, IfOk, OnErr};
+ghost use Rattle.std.specs.Prelude.{Contains};
 ghost use Rattle.std.specs.Io.{WritesAtMost};
 ghost use Rattle.std.specs.Io.KnownBytes.{WriteAppends};
 ghost use Rattle.line_io.specs.Faults.{HasCause, IsSteady, TakesSome, counted};
@@ -67,8 +68,7 @@ impl Sink for MemorySink {
         // Which calls fail, and how much the others take.
         ensures fails { Contains self.old.failing (counted self.old.calls) → IsErr result }
         ensures whole { IfOk result (λ n. n ≡ length piece.now) }
-        ensures count { MatchResult result (λ _. self.new.faults ≡ self.old.faults)
-            (λ _. self.new.faults ≡ counted self.old.faults) }
+        ensures count { OnErr result (self.new.faults ≡ counted self.old.faults) }
 
         // What else stays.
         ensures calls { self.new.calls ≡ counted self.old.calls }

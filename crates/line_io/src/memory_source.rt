@@ -1,4 +1,5 @@
-ghost use Rattle.std.specs.Prelude.{◌≡◌, ◌↔◌, ℕ, ◌≤◌, ◌-◌, List, length, min, take, drop, Some, IsErr, IfOk, MatchResult, Contains};
+ghost use Rattle.std.specs.Prelude.{◌≡◌, ◌↔◌, ℕ, ◌≤◌, ◌-◌, List, length, min, take, drop, Some};
+ghost use Rattle.std.specs.Prelude.{IsErr, IfOk, OnErr, Contains};
 ghost use Rattle.std.specs.Io.{ReadsAtMost};
 ghost use Rattle.std.specs.Io.KnownBytes.{ReadConsumes};
 ghost use Rattle.line_io.specs.Faults.{HasCause, IsSteady, StaysTold, counted};
@@ -71,8 +72,7 @@ impl Source for MemorySource {
         ensures fails { IsErr result ↔ Contains self.old.failing (counted self.old.calls) }
         ensures gives { IfOk result (λ n.
             n ≡ min self.old.piece (min (length room.new) (length self.old.left))) }
-        ensures count { MatchResult result (λ _. self.new.faults ≡ self.old.faults)
-            (λ _. self.new.faults ≡ counted self.old.faults) }
+        ensures count { OnErr result (self.new.faults ≡ counted self.old.faults) }
 
         // What else stays.
         ensures calls { self.new.calls ≡ counted self.old.calls }

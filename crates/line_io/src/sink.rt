@@ -15,7 +15,7 @@ pub trait Sink {
     ghost faults: { Self → ℕ };
 
     /// Takes the front of `piece`, and returns how many bytes that is: at least one, unless the
-    /// piece is empty. Failed takes nothing. A call that succeeds counts no fault.
+    /// piece is empty. Failed takes nothing. A write that succeeds counts no fault.
     fn write(&mut self, piece: &[u8]) -> Result<usize, Failed>
         ensures bound { WritesAtMost result piece.now }
         ensures bytes { WriteAppends (held self.old) (held self.new) result piece.now }

@@ -17,7 +17,8 @@ pub trait Source {
     ghost faults: { Self → ℕ };
 
     /// Puts the first of the bytes left at the front of `room`, and returns how many. None, in a
-    /// room that isn't empty, is the end. Failed takes nothing. A call that succeeds counts no fault.
+    /// room that isn't empty, is the end. Failed takes nothing. A read that succeeds counts no
+    /// fault.
     fn read(&mut self, room: &mut [u8]) -> Result<usize, Failed>
         ensures bound { ReadsAtMost result room.new }
         ensures bytes { ReadConsumes (left self.old) (left self.new) result room.new }

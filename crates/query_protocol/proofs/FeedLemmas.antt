@@ -8,10 +8,9 @@ use Rattle.std.specs.Int.{IsInRange}
 use Rattle.std.specs.List.{list_all}
 use Rattle.std.specs.Str.Parse.{AllDigits}
 use Rattle.query_protocol.specs.Forms.{is_tag, is_letter_or_digit}
-use Rattle.query_protocol.specs.Replies.{has_no_feed, IsWritten, IsSigned64, reply_text, fault_text, threshold_text, thresholds_text}
+use Rattle.query_protocol.specs.Replies as reply
+use Rattle.query_protocol.specs.Replies.{LineReply, has_no_feed, IsWritten, IsSigned64, reply_text, fault_text, threshold_text, thresholds_text}
 use Rattle.query_protocol.specs.declared.bad.Bad.{Bad}
-use Rattle.query_protocol.specs.declared.reply.Reply.{Reply}
-use Rattle.query_protocol.specs.declared.reply.Reply.TheVariants as reply
 
 -- two tests that are true
 both : (a b : Bool) → a ≡ true → b ≡ true → (a && b) ≡ true
@@ -108,7 +107,7 @@ fault_no_feed fault number word = step (fault.number == 5)
     step false = no_feed_joined (codes "bad " ++ decimal fault.number) [] front refl
 
 -- the text of a reply
-pub reply_no_feed : (one : Reply) → IsWritten one → has_no_feed (reply_text one) ≡ true
+pub reply_no_feed : (one : LineReply) → IsWritten one → has_no_feed (reply_text one) ≡ true
 reply_no_feed (reply.Added key at) is =
     four (codes "added ") (decimal key) (codes " at ") (decimal at) refl (number_no_feed key is.0) refl (number_no_feed at is.1)
 reply_no_feed (reply.Taken key at) is =

@@ -3,5 +3,4 @@ pub mod FeedLemmas
 pub mod FormLemmas
 pub mod JoinedLemmas
 pub mod ReadingLemmas
-pub mod ThresholdLemmas
 pub mod WordLemmas

@@ -1,5 +1,4 @@
 pub mod TagLayout
-pub mod ThresholdLayout
 pub mod Words
 pub mod Forms
 pub mod Requests

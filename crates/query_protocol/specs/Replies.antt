@@ -3,12 +3,39 @@ use Rattle.std.specs.Prelude.{◌≡◌, ℕ, ◌<◌, ◌^◌, ◌==◌, not, B
 use Rattle.std.specs.Fmt.{signed_decimal}
 use Rattle.std.specs.List.{flat_map, list_all}
 use Rattle.query_protocol.specs.Forms.{is_tag}
-use Rattle.query_protocol.specs.declared.bad.Bad.{Bad}
+use Rattle.query_protocol.specs.declared.bad.Bad as fault
 use Rattle.query_protocol.specs.declared.reply.Reply.{Reply}
 use Rattle.query_protocol.specs.declared.reply.Reply.TheVariants as reply
 
+-- a line of output
+pub data LineReply : Type 0 where
+  Added : ℕ → ℕ → LineReply
+  Taken : ℕ → ℕ → LineReply
+  Full : ℕ → LineReply
+  Open : List ℕ → ℕ → LineReply
+  Hit : List ℕ → ℕ → ℕ → LineReply
+  More : List ℕ → LineReply
+  Done : List ℕ → ℕ → LineReply
+  Cost : List ℕ → ℕ → ℕ → LineReply
+  Plan : List ℕ → ℕ → ℕ → List ℤ → LineReply
+  Layout : ℕ → List ℕ → LineReply
+  Bad : fault.Bad → LineReply
+  NoMemory : LineReply
+
+-- the line that a reply is
+abbrev pub line_of : Reply → LineReply
+line_of (reply.Added key at) = Added key at
+line_of (reply.Taken key at) = Taken key at
+line_of (reply.Full at) = Full at
+line_of (reply.Open tag at) = Open tag at
+line_of (reply.More tag) = More tag
+line_of (reply.Done tag count) = Done tag count
+line_of (reply.Cost tag reads bound) = Cost tag reads bound
+line_of (reply.Bad fault) = Bad fault
+line_of reply.NoMemory = NoMemory
+
 -- the text of a fault
-abbrev pub fault_text : Bad → List ℕ
+abbrev pub fault_text : fault.Bad → List ℕ
 fault_text fault =
     codes "bad " ++ decimal fault.number ++ (if fault.number == 5 then codes " " ++ decimal fault.word else [])
 
@@ -21,28 +48,28 @@ abbrev pub thresholds_text : List ℤ → List ℕ
 thresholds_text thresholds = flat_map threshold_text thresholds
 
 -- a reply without its line feed
-abbrev pub reply_text : Reply → List ℕ
-reply_text (reply.Added key at) = codes "added " ++ decimal key ++ codes " at " ++ decimal at
-reply_text (reply.Taken key at) = codes "taken " ++ decimal key ++ codes " at " ++ decimal at
-reply_text (reply.Full at) = codes "full at " ++ decimal at
-reply_text (reply.Open tag at) = codes "open " ++ tag ++ codes " at " ++ decimal at
-reply_text (reply.Hit tag dist key) = codes "hit " ++ tag ++ codes " " ++ decimal dist ++ codes " " ++ decimal key
-reply_text (reply.More tag) = codes "more " ++ tag
-reply_text (reply.Done tag count) = codes "done " ++ tag ++ codes " " ++ decimal count
-reply_text (reply.Cost tag reads bound) =
+abbrev pub reply_text : LineReply → List ℕ
+reply_text (Added key at) = codes "added " ++ decimal key ++ codes " at " ++ decimal at
+reply_text (Taken key at) = codes "taken " ++ decimal key ++ codes " at " ++ decimal at
+reply_text (Full at) = codes "full at " ++ decimal at
+reply_text (Open tag at) = codes "open " ++ tag ++ codes " at " ++ decimal at
+reply_text (Hit tag dist key) = codes "hit " ++ tag ++ codes " " ++ decimal dist ++ codes " " ++ decimal key
+reply_text (More tag) = codes "more " ++ tag
+reply_text (Done tag count) = codes "done " ++ tag ++ codes " " ++ decimal count
+reply_text (Cost tag reads bound) =
     codes "cost " ++ tag ++ codes " reads " ++ decimal reads ++ codes " bound " ++ decimal bound
-reply_text (reply.Plan tag shard cost thresholds) =
+reply_text (Plan tag shard cost thresholds) =
     codes "plan " ++ tag ++ codes " " ++ decimal shard ++ codes " cost " ++ decimal cost ++ thresholds_text thresholds
-reply_text (reply.Layout shard text) = codes "layout " ++ decimal shard ++ codes " " ++ text
-reply_text (reply.Bad fault) = fault_text fault
-reply_text reply.NoMemory = codes "nomem"
+reply_text (Layout shard text) = codes "layout " ++ decimal shard ++ codes " " ++ text
+reply_text (Bad fault) = fault_text fault
+reply_text NoMemory = codes "nomem"
 
 -- the line of a reply
-abbrev pub reply_line : Reply → List ℕ
+abbrev pub reply_line : LineReply → List ℕ
 reply_line reply = reply_text reply ++ 10 ∷ []
 
 -- the text of replies
-abbrev pub text : List Reply → List ℕ
+abbrev pub text : List LineReply → List ℕ
 text replies = flat_map reply_line replies
 
 -- no byte is a line feed
@@ -59,17 +86,17 @@ IsSigned64 (pos number) = IsWord64 number
 IsSigned64 (negsuc number) = IsWord64 (suc number)
 
 -- what a reply may hold: numbers of at most 64 bits, tags of the form of tags, and a layout's text with no line feed
-abbrev pub IsWritten : Reply → Type 0
-IsWritten (reply.Added key at) = IsWord64 key × IsWord64 at
-IsWritten (reply.Taken key at) = IsWord64 key × IsWord64 at
-IsWritten (reply.Full at) = IsWord64 at
-IsWritten (reply.Open tag at) = (is_tag tag ≡ true) × IsWord64 at
-IsWritten (reply.Hit tag dist key) = (is_tag tag ≡ true) × IsWord64 dist × IsWord64 key
-IsWritten (reply.More tag) = is_tag tag ≡ true
-IsWritten (reply.Done tag count) = (is_tag tag ≡ true) × IsWord64 count
-IsWritten (reply.Cost tag reads bound) = (is_tag tag ≡ true) × IsWord64 reads × IsWord64 bound
-IsWritten (reply.Plan tag shard cost thresholds) =
+abbrev pub IsWritten : LineReply → Type 0
+IsWritten (Added key at) = IsWord64 key × IsWord64 at
+IsWritten (Taken key at) = IsWord64 key × IsWord64 at
+IsWritten (Full at) = IsWord64 at
+IsWritten (Open tag at) = (is_tag tag ≡ true) × IsWord64 at
+IsWritten (Hit tag dist key) = (is_tag tag ≡ true) × IsWord64 dist × IsWord64 key
+IsWritten (More tag) = is_tag tag ≡ true
+IsWritten (Done tag count) = (is_tag tag ≡ true) × IsWord64 count
+IsWritten (Cost tag reads bound) = (is_tag tag ≡ true) × IsWord64 reads × IsWord64 bound
+IsWritten (Plan tag shard cost thresholds) =
     (is_tag tag ≡ true) × IsWord64 shard × IsWord64 cost × All IsSigned64 thresholds
-IsWritten (reply.Layout shard text) = IsWord64 shard × (has_no_feed text ≡ true)
-IsWritten (reply.Bad fault) = IsWord64 fault.number × IsWord64 fault.word
-IsWritten reply.NoMemory = Unit {0}
+IsWritten (Layout shard text) = IsWord64 shard × (has_no_feed text ≡ true)
+IsWritten (Bad fault) = IsWord64 fault.number × IsWord64 fault.word
+IsWritten NoMemory = Unit {0}

@@ -9,14 +9,12 @@ mod reading;
 mod reply;
 mod request;
 mod tag;
-mod threshold_list;
 mod words;
 
 pub use bad::Bad;
 pub use forms::number_of;
 pub use laws::{lines_of_replies, words_of_joined};
 pub use reading::read_line;
-pub use reply::{Reply, write_hit};
+pub use reply::{Reply, write_hit, write_layout, write_plan};
 pub use request::{Request, RequestWord};
 pub use tag::{TAG_MOST, Tag};
-pub use threshold_list::{THRESHOLDS_MOST, ThresholdList};

@@ -25,7 +25,7 @@ pub fn read_line<const W: usize>(config: &Config, line: &[u8]) -> Result<Option<
     ensures stored { result ≡ stored_reading W (reading config.now line.now) }
 {
     if !is_printable(line) {
-        return Err(Bad::of_line(2));
+        return Err(Bad::no_text());
     }
     read_words(config, line)
 }
@@ -53,7 +53,7 @@ fn read_after<const W: usize>(
     ensures { ReadsAs W config.now.bits result (with_words config.now word (words after.now)) }
 {
     match word {
-        None => Err(Bad::of_line(3)),
+        None => Err(Bad::no_request_word()),
         Some(RequestWord::AddWord) => read_add(config.bits, after),
         Some(RequestWord::RangeWord) => read_range(config.bits, after),
         Some(RequestWord::NextWord) => read_next(after),
@@ -94,13 +94,13 @@ fn read_add<const W: usize>(bits: u32, after: &[u8]) -> Result<Option<Request<W>
     ensures { ReadsAs W bits result (add_asked bits (words after.now)) }
 {
     let Some((key, after)) = next_word(after) else {
-        return Err(Bad::of_line(4));
+        return Err(Bad::other_number_of_words());
     };
     let Some((code, after)) = next_word(after) else {
-        return Err(Bad::of_line(4));
+        return Err(Bad::other_number_of_words());
     };
     if next_word(after).is_some() {
-        return Err(Bad::of_line(4));
+        return Err(Bad::other_number_of_words());
     }
     let Some(key) = key_of(key) else {
         return Err(Bad::of_word(2));
@@ -118,16 +118,16 @@ fn read_range<const W: usize>(bits: u32, after: &[u8]) -> Result<Option<Request<
     ensures { ReadsAs W bits result (range_asked bits (words after.now)) }
 {
     let Some((tag, after)) = next_word(after) else {
-        return Err(Bad::of_line(4));
+        return Err(Bad::other_number_of_words());
     };
     let Some((tau, after)) = next_word(after) else {
-        return Err(Bad::of_line(4));
+        return Err(Bad::other_number_of_words());
     };
     let Some((code, after)) = next_word(after) else {
-        return Err(Bad::of_line(4));
+        return Err(Bad::other_number_of_words());
     };
     if next_word(after).is_some() {
-        return Err(Bad::of_line(4));
+        return Err(Bad::other_number_of_words());
     }
     let Some(tag) = Tag::of(tag) else {
         return Err(Bad::of_word(2));
@@ -146,13 +146,13 @@ fn read_next<const W: usize>(after: &[u8]) -> Result<Option<Request<W>>, Bad>
     ensures { (bits : ℕ) → ReadsAs W bits result (next_asked (words after.now)) }
 {
     let Some((tag, after)) = next_word(after) else {
-        return Err(Bad::of_line(4));
+        return Err(Bad::other_number_of_words());
     };
     let Some((n, after)) = next_word(after) else {
-        return Err(Bad::of_line(4));
+        return Err(Bad::other_number_of_words());
     };
     if next_word(after).is_some() {
-        return Err(Bad::of_line(4));
+        return Err(Bad::other_number_of_words());
     }
     let Some(tag) = Tag::of(tag) else {
         return Err(Bad::of_word(2));
@@ -168,10 +168,10 @@ fn read_cost<const W: usize>(after: &[u8]) -> Result<Option<Request<W>>, Bad>
     ensures { (bits : ℕ) → ReadsAs W bits result (cost_asked (words after.now)) }
 {
     let Some((tag, after)) = next_word(after) else {
-        return Err(Bad::of_line(4));
+        return Err(Bad::other_number_of_words());
     };
     if next_word(after).is_some() {
-        return Err(Bad::of_line(4));
+        return Err(Bad::other_number_of_words());
     }
     let Some(tag) = Tag::of(tag) else {
         return Err(Bad::of_word(2));
@@ -184,13 +184,13 @@ fn read_plan<const W: usize>(shards: u32, after: &[u8]) -> Result<Option<Request
     ensures { (bits : ℕ) → ReadsAs W bits result (plan_asked shards (words after.now)) }
 {
     let Some((tag, after)) = next_word(after) else {
-        return Err(Bad::of_line(4));
+        return Err(Bad::other_number_of_words());
     };
     let Some((shard, after)) = next_word(after) else {
-        return Err(Bad::of_line(4));
+        return Err(Bad::other_number_of_words());
     };
     if next_word(after).is_some() {
-        return Err(Bad::of_line(4));
+        return Err(Bad::other_number_of_words());
     }
     let Some(tag) = Tag::of(tag) else {
         return Err(Bad::of_word(2));
@@ -199,7 +199,7 @@ fn read_plan<const W: usize>(shards: u32, after: &[u8]) -> Result<Option<Request
         return Err(Bad::of_word(3));
     };
     if shard >= shards {
-        return Err(Bad::of_line(6));
+        return Err(Bad::no_such_shard());
     }
     Ok(Some(Request::Plan { tag, shard }))
 }
@@ -209,10 +209,10 @@ fn read_layout<const W: usize>(shards: u32, after: &[u8]) -> Result<Option<Reque
     ensures { (bits : ℕ) → ReadsAs W bits result (layout_asked shards (words after.now)) }
 {
     let Some((shard, after)) = next_word(after) else {
-        return Err(Bad::of_line(4));
+        return Err(Bad::other_number_of_words());
     };
     if next_word(after).is_some() {
-        return Err(Bad::of_line(4));
+        return Err(Bad::other_number_of_words());
     }
     let Some(shard) = shard_of(shard) else {
         return Err(Bad::of_word(2));
@@ -220,7 +220,7 @@ fn read_layout<const W: usize>(shards: u32, after: &[u8]) -> Result<Option<Reque
     if shard < shards {
         Ok(Some(Request::Layout { shard }))
     } else {
-        Err(Bad::of_line(6))
+        Err(Bad::no_such_shard())
     }
 }
 
@@ -229,7 +229,7 @@ fn read_quit<const W: usize>(after: &[u8]) -> Result<Option<Request<W>>, Bad>
     ensures { (bits : ℕ) → ReadsAs W bits result (quit_asked (words after.now)) }
 {
     if next_word(after).is_some() {
-        return Err(Bad::of_line(4));
+        return Err(Bad::other_number_of_words());
     }
     Ok(Some(Request::Quit))
 }

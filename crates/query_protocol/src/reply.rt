@@ -1,68 +1,31 @@
 ghost use Rattle.std.specs.Prelude.{◌≡◌, ◌≤◌, ◌+◌, ◌*◌, [], ◌++◌, ◌∷◌, length, decimal, codes};
 ghost use Rattle.line_io.specs.declared.cutter.TheConstants.{LINE_MOST};
-ghost use Rattle.query_protocol.specs.Replies.{reply_line, threshold_text, thresholds_text};
-ghost use Rattle.query_protocol.specs.declared.threshold_list.TheConstants.{THRESHOLDS_MOST};
-ghost use Rattle.query_protocol.specs.declared.reply.Reply.TheVariants as reply;
+ghost use Rattle.query_protocol.specs.Replies.{reply_line, line_of, threshold_text, thresholds_text};
+ghost use Rattle.hamming_model.specs.declared.limits.TheConstants.{PARTS_MOST};
+ghost use Rattle.query_protocol.specs.Replies as reply;
 
-use crate::{Bad, THRESHOLDS_MOST, Tag, ThresholdList};
+use crate::{Bad, Tag};
 use line_io::LineBuf;
 use part_layout::LayoutText;
 
-/// One line of output.
+/// A line of output. A hit, a plan and a layout are lines too, and have calls of their own in place of a variant: a hit comes
+/// often, and the other two are long, so that no other reply has to have room for them.
 #[derive(Debug, Drop)]
 pub enum Reply {
     /// The entry that adds the key was accepted, as the entry of this number.
-    Added {
-        key: u64,
-        at: u64,
-    },
+    Added { key: u64, at: u64 },
     /// The key is taken, in the rows of the first `at` entries.
-    Taken {
-        key: u64,
-        at: u64,
-    },
+    Taken { key: u64, at: u64 },
     /// No entry was accepted: the history of `at` entries is as long as it may be.
-    Full {
-        at: u64,
-    },
+    Full { at: u64 },
     /// The query stands at the first `at` entries.
-    Open {
-        tag: Tag,
-        at: u64,
-    },
-    /// One hit.
-    Hit {
-        tag: Tag,
-        dist: u32,
-        key: u64,
-    },
+    Open { tag: Tag, at: u64 },
     /// The answer has further hits.
-    More {
-        tag: Tag,
-    },
+    More { tag: Tag },
     /// The answer was given whole; `count` is the number of its hits.
-    Done {
-        tag: Tag,
-        count: u64,
-    },
+    Done { tag: Tag, count: u64 },
     /// How many postings the query has read, and the bound that its reads stay within.
-    Cost {
-        tag: Tag,
-        reads: u64,
-        bound: u64,
-    },
-    /// The query's thresholds in the shard, one a part, and what they cost.
-    Plan {
-        tag: Tag,
-        shard: u32,
-        cost: u64,
-        thresholds: ThresholdList,
-    },
-    /// The shard's layout, by its text.
-    Layout {
-        shard: u32,
-        text: LayoutText,
-    },
+    Cost { tag: Tag, reads: u64, bound: u64 },
     /// The line is no request, or the request can't be met.
     Bad(Bad),
     /// There was no memory for the request, and it changed nothing.
@@ -73,24 +36,16 @@ impl Reply {
     /// Writes the reply's line, with its line feed.
     pub fn write(&self, out: &mut LineBuf)
         requires { out.old ≡ [] }
-        ensures { out.new ≡ reply_line self.now }
+        ensures { out.new ≡ reply_line (line_of self.now) }
     {
         match self {
             Reply::Added { key, at } => write_key(b"added ", *key, *at, out),
             Reply::Taken { key, at } => write_key(b"taken ", *key, *at, out),
             Reply::Full { at } => write_full(*at, out),
             Reply::Open { tag, at } => write_open(tag, *at, out),
-            Reply::Hit { tag, dist, key } => write_hit(tag, *dist, *key, out),
             Reply::More { tag } => write_more(tag, out),
             Reply::Done { tag, count } => write_done(tag, *count, out),
             Reply::Cost { tag, reads, bound } => write_cost(tag, *reads, *bound, out),
-            Reply::Plan {
-                tag,
-                shard,
-                cost,
-                thresholds,
-            } => write_plan(tag, *shard, *cost, thresholds, out),
-            Reply::Layout { shard, text } => write_layout(*shard, text, out),
             Reply::Bad(fault) => write_fault(fault, out),
             Reply::NoMemory => out.put(b"nomem\n"),
         }
@@ -176,8 +131,10 @@ fn write_cost(tag: &Tag, reads: u64, bound: u64, out: &mut LineBuf)
     out.put(b"\n");
 }
 
-fn write_plan(tag: &Tag, shard: u32, cost: u64, thresholds: &ThresholdList, out: &mut LineBuf)
-    requires { out.old ≡ [] }
+/// Writes the line of a query's thresholds in a shard, one a part, and what they cost.
+pub fn write_plan(tag: &Tag, shard: u32, cost: u64, thresholds: &[i32], out: &mut LineBuf)
+    requires empty { out.old ≡ [] }
+    requires few { length thresholds.now ≤ PARTS_MOST }
     ensures { out.new ≡ reply_line (reply.Plan tag.now shard cost thresholds.now) }
 {
     out.put(b"plan ");
@@ -186,16 +143,16 @@ fn write_plan(tag: &Tag, shard: u32, cost: u64, thresholds: &ThresholdList, out:
     out.put_number(u64::from(shard));
     out.put(b" cost ");
     out.put_number(cost);
-    write_thresholds(thresholds.entries(), out);
+    write_thresholds(thresholds, out);
     out.put(b"\n");
 }
 
 // Each threshold after a space.
 fn write_thresholds(thresholds: &[i32], out: &mut LineBuf)
-    requires few { length thresholds.now ≤ THRESHOLDS_MOST }
-    requires room { length out.old + 22 * THRESHOLDS_MOST ≤ LINE_MOST }
+    requires few { length thresholds.now ≤ PARTS_MOST }
+    requires room { length out.old + 22 * PARTS_MOST ≤ LINE_MOST }
     ensures value { out.new ≡ out.old ++ thresholds_text thresholds.now }
-    ensures longer { length out.new ≤ length out.old + 22 * THRESHOLDS_MOST }
+    ensures longer { length out.new ≤ length out.old + 22 * PARTS_MOST }
 {
     for threshold in thresholds {
         write_threshold(*threshold, out);
@@ -214,7 +171,8 @@ fn write_threshold(threshold: i32, out: &mut LineBuf)
     out.put_number(u64::from(threshold.unsigned_abs()));
 }
 
-fn write_layout(shard: u32, text: &LayoutText, out: &mut LineBuf)
+/// Writes the line of a shard's layout, by its text.
+pub fn write_layout(shard: u32, text: &LayoutText, out: &mut LineBuf)
     requires { out.old ≡ [] }
     ensures { out.new ≡ reply_line (reply.Layout shard text.now) }
 {

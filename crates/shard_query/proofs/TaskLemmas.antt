@@ -36,6 +36,7 @@ module _ (p : Planned) (old new : Place) (hits : Window) (reads : ℕ) (is : IsT
         let left = search.left in
         record {
           window = record { behind = behind; among = omega arith; fits = is.window.fits };
+          near = is.near;
           some_room = is.some_room;
           reserved = is.reserved;
           few = found_more;
@@ -57,6 +58,7 @@ module _ (p : Planned) (old new : Place) (hits : Window) (reads : ℕ) (is : IsT
         let fewer = found_more in
         record {
           window = record { behind = behind; among = omega arith; fits = is.window.fits };
+          near = is.near;
           some_room = is.some_room;
           reserved = is.reserved;
           few = omega arith;
@@ -72,6 +74,7 @@ module _ (p : Planned) (old new : Place) (hits : Window) (reads : ℕ) (is : IsT
       let left = search.left in
       record {
         window = is.window;
+        near = is.near;
         some_room = is.some_room;
         reserved = is.reserved;
         few = is.few;
@@ -81,10 +84,11 @@ module _ (p : Planned) (old new : Place) (hits : Window) (reads : ℕ) (is : IsT
       }
 
 -- a query that was opened has nothing found
-pub task_begins : (p : Planned) (w : Place) (room : ℕ) → 1 ≤ room → IsPlace p w → in_order (hits_left p w) ≡ scan_of p → reads_left p w ≡ p.least → length (hits_left p w) ≤ reads_left p w
+pub task_begins : (p : Planned) (w : Place) (room : ℕ) → p.tau ≤ p.version.contents.layout.bits → 1 ≤ room → IsPlace p w → in_order (hits_left p w) ≡ scan_of p → reads_left p w ≡ p.least → length (hits_left p w) ≤ reads_left p w
     → IsTask p w (window_of [] p.least room) 0
-task_begins p w room some place answer reads few = record {
+task_begins p w room near some place answer reads few = record {
   window = record { behind = omega arith; among = omega arith; fits = omega arith };
+  near = near;
   some_room = some;
   reserved = omega arith;
   few = omega arith;

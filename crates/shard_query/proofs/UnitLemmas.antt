@@ -1,5 +1,5 @@
 -- What the units of work and a pop do to where a range query stands.
-use Rattle.std.proofs.Common.{◌≡◌, ℕ, ◌+◌, ◌-◌, ◌<◌, ◌≤◌, ◌==◌, ◌&&◌, Bool, true, false, cond, length, take, refl, sym, ap, ◌∙◌, subst, arith}
+use Rattle.std.proofs.Common.{◌≡◌, ℕ, ◌+◌, ◌-◌, ◌<◌, ◌≤◌, ◌==◌, ◌&&◌, Bool, true, false, cond, length, take, refl, sym, ap, ◌∙◌, subst, arith, inl}
 use Rattle.std.specs.Prelude.{Option, Some, None}
 use Rattle.std.proofs.lemmas.Bool.{ne_eqb, eqb-true}
 use Rattle.std.proofs.lemmas.List.{length-take, drop-drop}
@@ -24,26 +24,29 @@ second false b both = cc
 -- a step of the search is one unit of work
 pub search_works : (p : Planned) (old new : Place) (hits more_hits : Window) (reads more_reads from to : ℕ) → IsTask p old hits reads → reads < p.least
     → more_hits.given ≡ hits.given → more_hits.moved ≡ hits.moved → reads ≤ more_reads → more_reads ≤ reads + 1 → to + reads ≡ from + more_reads
-    → values_left p new + (p.least - more_reads) + 1 ≤ values_left p old + (p.least - reads)
-    → Works 1 (standing_of p old hits reads) (standing_of p new more_hits more_reads) from to
+    → values_left p new + (p.least - more_reads) + 1 ≡ values_left p old + (p.least - reads)
+    → Works None 1 (standing_of p old hits reads) (standing_of p new more_hits more_reads) from to
 search_works p old new hits more_hits reads more_reads from to is more given moved rises fewer ledger units =
     let none = (is.search more).none_moved in
     let waiting = length-take (more_hits.moved - more_hits.given) (left_of more_hits) in
     let searching : (reads == p.least) ≡ false = ne_eqb reads p.least (λ (e : reads ≡ p.least). omega arith) in
-    subst (λ b. Works 1 (standing_at p old hits reads b) (standing_of p new more_hits more_reads) from to) (sym searching) (record {
+    subst (λ b. Works None 1 (standing_at p old hits reads b) (standing_of p new more_hits more_reads) from to) (sym searching) (record {
       given = given;
       floor = above_zero (cond (more_reads == p.least) (first_distance (left_of more_hits)) (Some 0));
+      idle = λ none. cc;
       rises = rises;
       ledger = ledger;
       spent = omega arith;
-      begun = refl;
+      begun = inl refl;
+      farther = omega arith;
       stays_ended = λ ended. cc;
-      units = omega arith;
+      units = omega (arith, units);
+      exact = λ same. omega (arith, units);
     })
 
 module _ (p : Planned) (w : Place) (hits : Window) (reads : ℕ) (is : IsTask p w hits reads) where
   -- moving a hit into the room is one unit of work
-  pub give_works : (from : ℕ) → reads ≡ p.least → hits.moved < length hits.found → hits.moved < hits.given + hits.room → Works 1 (standing_of p w hits reads) (standing_of p w (with_moved hits) reads) from from
+  pub give_works : (from : ℕ) → reads ≡ p.least → hits.moved < length hits.found → hits.moved < hits.given + hits.room → Works None 1 (standing_of p w hits reads) (standing_of p w (with_moved hits) reads) from from
   give_works from all next space =
       let few = is.few in
       let waiting = length-take (hits.moved - hits.given) (left_of hits) in
@@ -52,18 +55,22 @@ module _ (p : Planned) (w : Place) (hits : Window) (reads : ℕ) (is : IsTask p 
       record {
         given = refl;
         floor = not_below_itself (cond (reads == p.least) (first_distance (left_of hits)) (Some 0));
+        idle = λ none. refl;
         rises = omega arith;
         ledger = refl;
         spent = omega arith;
-        begun = refl;
+        begun = inl refl;
+        farther = omega arith;
         stays_ended = λ ended. absurd (omega (arith, eqb-true hits.moved (length hits.found) (second (reads == p.least) (hits.moved == length hits.found) ended)));
         units = omega arith;
+      exact = λ same. omega arith;
       }
 
   -- a hit is in the room, and the query stays one
   pub give_on : reads ≡ p.least → hits.moved < length hits.found → hits.moved < hits.given + hits.room → IsTask p w (with_moved hits) reads
   give_on all next space = record {
     window = record { behind = omega (arith, is.window.behind); among = omega arith; fits = omega arith };
+    near = is.near;
     some_room = is.some_room;
     reserved = is.reserved;
     few = is.few;

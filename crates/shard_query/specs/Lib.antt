@@ -1,3 +1,4 @@
 pub mod Opening
+pub mod ScanLaw
 pub mod TaskLaw
 pub mod Tasks

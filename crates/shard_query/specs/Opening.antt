@@ -1,6 +1,7 @@
 -- What a range query on a version asks, and where it stands when it is opened.
-use Rattle.std.specs.Prelude.{◌≡◌, ℕ, ◌+◌, ◌*◌, ◌^◌, ◌≤◌, true, false, List, [], length, take, Option, None, sum_by}
+use Rattle.std.specs.Prelude.{◌≡◌, ℕ, ◌+◌, ◌*◌, ◌≤◌, true, false, List, [], length, take, Option, None}
 use Rattle.hamming_model.specs.Scan.{scan}
+use Rattle.threshold_model.specs.Bounds.{values_of_parts}
 use Rattle.threshold_model.specs.Vectors.{IsChoice, IsLeast, row_counts}
 use Rattle.shard_version.specs.Contents.{Contents}
 use Rattle.hit_source.specs.Sources.{Asked, Standing}
@@ -24,10 +25,6 @@ pub record AsksRange (version : Contents) (query : List ℕ) (tau room : ℕ) (a
   pub vector : (given : Option ℕ) → IsChoice (counts_of version query) tau (length version.layout.parts) (a.plan given).0
   pub cost : (given : Option ℕ) → IsLeast (counts_of version query) tau (length version.layout.parts) (a.plan given).1
   pub bound : (given : Option ℕ) → IsLeast (counts_of version query) tau (length version.layout.parts) (a.bound given)
-
--- the values of all parts of a layout
-abbrev pub values_of_parts : List (List ℕ) → ℕ
-values_of_parts parts = sum_by (λ part. 2 ^ length part) parts
 
 -- a range query that has read and given nothing: its units are at most the values of all parts, twice its bound and one, and where its
 -- bound is 0 it has ended

@@ -1,21 +1,33 @@
 -- A range query is a lawful source of hits at every moment.
-use Rattle.std.proofs.Common.{◌≡◌, ℕ, ◌+◌, ◌<◌, ◌≤◌, length, drop, take, sym, ap, ◌∙◌, subst, ⊎_elim, arith, true, false}
+use Rattle.std.proofs.Common.{◌≡◌, ℕ, ◌+◌, ◌<◌, ◌≤◌, length, drop, take, refl, sym, ap, ◌∙◌, subst, ⊎_elim, arith, true, false}
 use Rattle.std.specs.Prelude.{◌==◌}
 use Rattle.std.proofs.lemmas.List.{nil_from_length}
 use Rattle.std.proofs.lemmas.Bool.{cases_lt, eqb-true, eq-eqb, ne_eqb}
 use Rattle.hamming_model.specs.Scan.{hits_within}
-use Rattle.hamming_model.proofs.OrderLemmas.{Ascends, ascends_in_order}
-use Rattle.hit_source.specs.Sources.{IsLawful}
+use Rattle.hamming_model.proofs.OrderLemmas.{Ascends, ascends_in_order, in_order_sorted}
+use Rattle.hit_source.specs.Sources.{IsAsked, IsLawful}
 use Rattle.hit_source.specs.Windows.{Window, waiting_of}
 use Rattle.hit_source.specs.WindowLaws.{waits, window_prefix}
 use Rattle.hit_source.specs.ListedLaw.{window_floor}
 use Rattle.shard_walk.specs.Planned.{Planned, query_of}
 use Rattle.shard_walk.specs.Walks.{Place}
+use Rattle.shard_query.specs.ScanLaw.{scan_near, scan_few}
 use Rattle.shard_query.specs.Tasks.{IsTask, scan_of, asked_of, standing_at, standing_of, units_left}
 
 module _ (p : Planned) (w : Place) (hits : Window) (reads : ℕ) (is : IsTask p w hits reads) where
   given_or_waiting : hits.given + length (waiting_of hits) ≡ hits.moved
   given_or_waiting = omega (arith, waits hits is.window, is.window.behind)
+
+  -- what it is asked
+  task_asked : IsAsked (asked_of p hits.room)
+  task_asked = record {
+    ascends = in_order_sorted (hits_within p.version.contents.rows (query_of p) p.tau);
+    reached = scan_near p.version.contents.rows (query_of p) p.tau p.version.contents.layout.bits is.near;
+    few = scan_few p.version.contents.rows (query_of p) p.tau;
+    some_room = is.some_room;
+    range = λ range. record { plan = λ given. refl; bound = λ given. refl };
+    near = λ near. cc;
+  }
 
   -- while it searches nothing was given, and nothing waits
   while_searching : reads < p.least → IsLawful (asked_of p hits.room) (standing_at p w hits reads false)
@@ -26,10 +38,12 @@ module _ (p : Planned) (w : Place) (hits : Window) (reads : ℕ) (is : IsTask p 
       let reached_all = given_or_waiting in
       let empty : length (waiting_of hits) ≡ 0 = omega arith in
       record {
+        asked = task_asked;
         window = none_waits empty;
         within = omega arith;
         room = omega arith;
         each_read = omega arith;
+        begun = record { range = λ range. refl; near = tt };
         bounded = is.bounded;
         floor = record {
           none_nearer = λ k d within. omega arith;
@@ -56,10 +70,12 @@ module _ (p : Planned) (w : Place) (hits : Window) (reads : ℕ) (is : IsTask p 
       let number = ap length found in
       let among = is.window.among in
       record {
+        asked = task_asked;
         window = window_prefix hits is.window ∙ ap (λ xs. take (length (waiting_of hits)) (drop hits.given xs)) found;
         within = omega arith;
         room = omega (arith, waits hits is.window, is.window.fits);
         each_read = omega (arith, is.few);
+        begun = record { range = λ range. refl; near = tt };
         bounded = is.bounded;
         floor = window_floor (asked_of p hits.room) hits reads (hits.moved == length hits.found) (units_left p w hits reads) (sym found) up is.window
             (λ given. eq-eqb hits.moved (length hits.found) (omega (arith, given, is.window.behind)));

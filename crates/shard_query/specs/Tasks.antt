@@ -54,6 +54,7 @@ pub record IsSearch (p : Planned) (w : Place) (hits : Window) (reads : ℕ) : Ty
 -- what is true of a range query at every moment
 pub record IsTask (p : Planned) (w : Place) (hits : Window) (reads : ℕ) : Type 0 where
   pub window : IsWindow hits
+  pub near : p.tau ≤ p.version.contents.layout.bits
   pub some_room : 1 ≤ hits.room
   pub reserved : p.least ≤ hits.capacity
   pub few : length hits.found ≤ reads

@@ -4,4 +4,6 @@
 
 mod range_task;
 
+pub use hamming_model::Hit;
+pub use hit_source::{HitSource, Polled};
 pub use range_task::RangeTask;

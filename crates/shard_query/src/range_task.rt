@@ -1,8 +1,9 @@
 //! A range query on one version.
 
-ghost use Rattle.std.specs.Prelude.{◌≡◌, ◌+◌, ◌<◌, ◌≤◌, ◌++◌, false, length, if◌then◌else◌, IfOk, IfSome};
+ghost use Rattle.std.specs.Prelude.{◌≡◌, ◌+◌, ◌<◌, ◌≤◌, ◌++◌, false, length, if◌then◌else◌, None, IfOk, IfSome};
 ghost use Rattle.std.specs.Arc.{arc_value};
 ghost use Rattle.hamming_model.specs.Codes.{StandsFor};
+ghost use Rattle.hamming_model.specs.declared.limits.TheConstants.{ROOM_MOST, WORDS_MOST};
 ghost use Rattle.hit_source.specs.Moves.{PollAnswers};
 ghost use Rattle.hit_source.specs.Work.{Works, IsStopped};
 ghost use Rattle.shard_query.specs.Opening.{AsksRange, BeginsRange, code_of};
@@ -44,11 +45,11 @@ impl<const W: usize> RangeTask<W> {
         tau: u32,
         room: usize,
     ) -> Result<RangeTask<W>, NoMemory>
-        requires few_words { W ≤ 8 }
+        requires few_words { W ≤ WORDS_MOST }
         requires code { StandsFor W (arc_value version).contents.layout.bits query (code_of (arc_value version).contents query) }
         requires near { tau ≤ (arc_value version).contents.layout.bits }
         requires some_room { 1 ≤ room }
-        requires small_room { room ≤ 256 }
+        requires small_room { room ≤ ROOM_MOST }
         ensures asked { IfOk result (λ task.
             AsksRange (arc_value version.entry).contents (code_of (arc_value version.entry).contents query.entry) tau room (⟦<RangeTask<W> as HitSource>⟧.asked task)) }
         ensures begins { IfOk result (λ task. BeginsRange (arc_value version.entry).contents
@@ -71,7 +72,7 @@ impl<const W: usize> RangeTask<W> {
     fn work<L>(&mut self, steps: &mut Steps<L>) -> bool
         ensures plan { self.new.plan ≡ self.old.plan }
         ensures room { self.new.window.room ≡ self.old.window.room }
-        ensures works { Works (if result then 1 else 0)
+        ensures works { Works None (if result then 1 else 0)
             (standing_of self.old.plan self.old.walk self.old.window self.old.reads)
             (standing_of self.new.plan self.new.walk self.new.window self.new.reads)
             steps.old steps.new }
@@ -95,7 +96,7 @@ impl<const W: usize> RangeTask<W> {
         requires more { self.old.reads < self.old.plan.least }
         ensures plan { self.new.plan ≡ self.old.plan }
         ensures room { self.new.window.room ≡ self.old.window.room }
-        ensures works { Works 1
+        ensures works { Works None 1
             (standing_of self.old.plan self.old.walk self.old.window self.old.reads)
             (standing_of self.new.plan self.new.walk self.new.window self.new.reads)
             steps.old steps.new }
@@ -113,7 +114,7 @@ impl<const W: usize> RangeTask<W> {
         requires posting { self.old.walk.next < self.old.walk.size }
         ensures plan { self.new.plan ≡ self.old.plan }
         ensures room { self.new.window.room ≡ self.old.window.room }
-        ensures works { Works 1
+        ensures works { Works None 1
             (standing_of self.old.plan self.old.walk self.old.window self.old.reads)
             (standing_of self.new.plan self.new.walk self.new.window self.new.reads)
             steps.old steps.new }

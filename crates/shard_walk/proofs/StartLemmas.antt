@@ -5,10 +5,11 @@ use Rattle.std.proofs.lemmas.List.FromFn.{length-range_with_len}
 use Rattle.std.proofs.lemmas.List.Sums.{sum_by-cons, length-filter, count_by-le-length}
 use Rattle.hamming_model.specs.Layouts.{part_value}
 use Rattle.ball_walk.specs.Balls.{ball, values, values_near, is_near}
-use Rattle.threshold_model.specs.Vectors.{units_of, cost}
+use Rattle.threshold_model.specs.Vectors.{units_of, cost, row_counts}
 use Rattle.search_model.proofs.SameLemmas.{sum_ones}
-use Rattle.shard_walk.specs.Planned.{Planned, IsPlan, counts_round}
-use Rattle.shard_walk.specs.Walks.{values_of, all_values}
+use Rattle.shard_walk.specs.Planned.{Planned, IsPlan, parts_of, query_of}
+use Rattle.threshold_model.specs.Bounds.{values_of_parts}
+use Rattle.shard_walk.specs.Walks.{values_of}
 
 near_few : (value width units : ℕ) → length (values_near value width units) ≤ 2 ^ width
 unfolding values_near values
@@ -26,7 +27,7 @@ module _ (sums : (f : ℕ → ℕ) (value width units : ℕ) → sum_by f (ball 
       let few = near_few value width units in
       omega arith
 
-  pub values_few : (parts : List (List ℕ)) (ts : List ℤ) (query : List ℕ) → values_of parts ts query ≤ all_values parts
+  pub values_few : (parts : List (List ℕ)) (ts : List ℤ) (query : List ℕ) → values_of parts ts query ≤ values_of_parts parts
   values_few [] ts query = omega arith
   values_few (part ∷ parts) [] query = omega arith
   values_few (part ∷ parts) (t ∷ ts) query =
@@ -35,7 +36,7 @@ module _ (sums : (f : ℕ → ℕ) (value width units : ℕ) → sum_by f (ball 
       omega (arith, sum_by-cons (λ other. 2 ^ length other) part parts)
 
 -- the least cost is that of the thresholds
-pub least_is_cost : (words : ℕ) (p : Planned) → IsPlan words p → p.least ≡ cost (counts_round p) p.thresholds
+pub least_is_cost : (words : ℕ) (p : Planned) → IsPlan words p → p.least ≡ cost (row_counts p.version.contents.rows (parts_of p) (query_of p)) p.thresholds
 least_is_cost words p plan =
     let found = plan.least.attained in
     omega (arith, plan.least.none_cheaper p.thresholds plan.choice.vector, plan.choice.none_cheaper found.0 found.1, found.2)

@@ -1,4 +1,5 @@
 pub mod Counted
-pub mod Inside
+pub mod Kept
 pub mod Planned
+pub mod Probed
 pub mod Walks

@@ -1,17 +1,15 @@
 -- What a range query on a version was planned to be: its threshold vector and the least cost.
-use Rattle.std.specs.Prelude.{◌≡◌, ℕ, ◌≤◌, nat_lt, Bool, if◌then◌else◌, ℤ, List, [], length, map, take, slice_index_or, Option, Some, None, refl}
+use Rattle.std.specs.Prelude.{◌≡◌, ℕ, ◌≤◌, nat_lt, Bool, if◌then◌else◌, ℤ, List, length, map, Option, Some, None, refl}
 use Rattle.std.specs.Coded.{Coded, code_by, coded×, coded_list, coded_ℕ, coded_ℤ}
 use Rattle.hamming_model.specs.declared.hit.Hit.{Hit}
-use Rattle.hamming_model.specs.Codes.{StandsFor}
 use Rattle.hamming_model.specs.Layouts.{part_distance}
 use Rattle.hamming_model.specs.Scan.{hit_of}
 use Rattle.threshold_model.specs.Vectors.{IsChoice, IsLeast, row_counts, units_of}
 use Rattle.threshold_model.specs.Finding.{first_part, part_distances, threshold_at}
-use Rattle.posting_table.specs.Tables.{posting_list}
-use Rattle.search_model.specs.Reading.{unpadded}
 use Rattle.search_model.specs.Keeping.{is_kept}
 use Rattle.shard_version.specs.Contents.{IsVersion}
-use Rattle.shard_version.specs.Tables.{Tabled, tabled_code, HasTables, table_at}
+use Rattle.shard_version.specs.Tables.{Tabled, tabled_code, HasTables}
+use Rattle.shard_walk.specs.Probed.{parts_in, part_in, code_in, list_in, KeepsCode}
 
 -- the version, the words of the query, its radius, and the threshold vector with its cost
 pub record Planned : Type 0 where
@@ -36,31 +34,27 @@ planned_of version stored tau thresholds least = record { version = version; sto
 
 -- the parts of the version's layout
 abbrev pub parts_of : Planned → List (List ℕ)
-parts_of p = p.version.contents.layout.parts
+parts_of p = parts_in p.version
 
 -- the positions of a part
 abbrev pub part_of : Planned → ℕ → List ℕ
-part_of p part = slice_index_or (parts_of p) part []
+part_of p part = part_in p.version part
 
 -- the code that words keep
 abbrev pub code_of : Planned → List ℕ → List ℕ
-code_of p stored = take p.version.contents.layout.bits stored
+code_of p stored = code_in p.version stored
 
 -- words that keep a code
 abbrev pub IsStored : ℕ → Planned → List ℕ → Type 0
-IsStored words p stored = StandsFor words p.version.contents.layout.bits stored (code_of p stored)
+IsStored words p stored = KeepsCode words p.version stored
 
 -- the code of the query
 abbrev pub query_of : Planned → List ℕ
 query_of p = code_of p p.stored
 
--- how many rows are at the parts round the query
-abbrev pub counts_round : Planned → ℕ → ℕ → ℕ
-counts_round p = row_counts p.version.contents.rows (parts_of p) (query_of p)
-
 -- the rows in the posting list of a part's value, in the order of the list
 abbrev pub list_of : Planned → ℕ → ℕ → List (ℕ × List ℕ)
-list_of p part value = map (unpadded p.version.contents.layout.bits) (posting_list (table_at p.version part) value)
+list_of p part value = list_in p.version part value
 
 -- whether a part finds a code
 abbrev pub is_found : Planned → ℕ → List ℕ → Bool
@@ -82,8 +76,8 @@ pub record IsPlan (words : ℕ) (p : Planned) : Type 0 where
   pub tables : HasTables words p.version
   pub query : IsStored words p p.stored
   pub near : p.tau ≤ p.version.contents.layout.bits
-  pub choice : IsChoice (counts_round p) p.tau (length (parts_of p)) p.thresholds
-  pub least : IsLeast (counts_round p) p.tau (length (parts_of p)) p.least
+  pub choice : IsChoice (row_counts p.version.contents.rows (parts_of p) (query_of p)) p.tau (length (parts_of p)) p.thresholds
+  pub least : IsLeast (row_counts p.version.contents.rows (parts_of p) (query_of p)) p.tau (length (parts_of p)) p.least
   pub few : p.least ≤ length p.version.contents.rows
 
 -- what a plan is of: a query on a version

@@ -1,5 +1,5 @@
 -- A walk over the posting lists of a plan, part by part, each by the values of its ball: where it stands, and what it still has to read.
-use Rattle.std.specs.Prelude.{◌≡◌, ℕ, ◌+◌, ◌^◌, ◌<◌, ◌≤◌, ℤ, List, [], ◌∷◌, ◌++◌, length, take, drop, sum_by, All}
+use Rattle.std.specs.Prelude.{◌≡◌, ℕ, ◌+◌, ◌^◌, ◌<◌, ◌≤◌, ℤ, List, [], ◌∷◌, ◌++◌, length, take, drop, All}
 use Rattle.std.specs.List.{flat_map}
 use Rattle.hamming_model.specs.declared.hit.Hit.{Hit}
 use Rattle.hamming_model.specs.Layouts.{part_value}
@@ -88,7 +88,3 @@ pub record PassesPart (p : Planned) (old new : Place) : Type 0 where
   pub hits : hits_left p new ≡ hits_left p old
   pub reads : reads_left p new ≡ reads_left p old
   pub values : values_left p new ≡ values_left p old
-
--- the values of all parts of a layout
-abbrev pub all_values : List (List ℕ) → ℕ
-all_values parts = sum_by (λ part. 2 ^ length part) parts

@@ -2,8 +2,11 @@
 //! Each posting is read for one step and kept at the first part that finds it, so what was kept and what the rest will keep stay the scan.
 #![tactic(auto)]
 
-mod part_table;
+mod part_masks;
+mod part_values;
 mod plan;
+mod probe;
+mod radius_counts;
 mod walk;
 
 pub use plan::Plan;

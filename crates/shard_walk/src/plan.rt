@@ -1,22 +1,20 @@
 //! The plan of a range query on a version.
 
-ghost use Rattle.std.specs.Prelude.{◌≡◌, ℕ, ◌+◌, ◌^◌, ◌<◌, ◌≤◌, List, All, nat_lt, length, take, slice_index_or, IfOk};
+ghost use Rattle.std.specs.Prelude.{◌≡◌, ℕ, ◌+◌, ◌^◌, ◌<◌, ◌≤◌, List, All, nat_lt};
+ghost use Rattle.std.specs.Prelude.{length, take, slice_index_or, IfOk};
 ghost use Rattle.std.specs.Arc.{arc_value};
 ghost use Rattle.hamming_model.specs.Codes.{StandsFor};
-ghost use Rattle.ball_walk.specs.Balls.{value_distance};
 ghost use Rattle.threshold_model.specs.Vectors.{units_of};
-ghost use Rattle.shard_version.specs.Contents.{IsVersion};
-ghost use Rattle.shard_version.specs.Tables.{HasTables};
-ghost use Rattle.shard_walk.specs.Planned.{IsPlan, Plans, IsStored, parts_of, part_of, code_of, list_of, is_found, part_found, kept_hit};
+ghost use Rattle.shard_walk.specs.Planned.{IsPlan, Plans, IsStored, parts_of, part_of, code_of};
+ghost use Rattle.shard_walk.specs.Planned.{list_of, is_found, part_found, kept_hit};
 ghost use Rattle.shard_walk.specs.Walks.{ball_of};
-ghost use Rattle.shard_walk.specs.Inside.{AreValues};
 
-use crate::part_table::PartTable;
+use crate::probe::Probe;
+use crate::radius_counts::RadiusCounts;
 use ball_walk::Ball;
-use gph_codes::{Code, dist};
+use gph_codes::Code;
 use hamming_model::Hit;
 use read_meter::{NoMemory, Steps};
-use search_model::stored_rows_search_alike;
 use shard_version::Version;
 use std::alloc::Global;
 use std::marker::Model;
@@ -27,29 +25,24 @@ use threshold_model::{least_is_at_most_the_greatest_count, vector_allows_tau_and
 /// A range query on a version: its threshold vector, the first of the cheapest, and what this costs.
 #[derive(Drop)]
 pub struct Plan<const W: usize> {
-    version: Arc<Version<W>>,
-    query: Code<W>,
+    probe: Probe<W>,
     tau: u32,
-    // the value of the query at each part
-    values: Vec<u16>,
     thresholds: Thresholds,
     least: u64,
 }
 
 impl<const W: usize> Model for Plan<W> {
-    ghost use Rattle.std.specs.Arc.{arc_value};
-    ghost use Rattle.shard_walk.specs.Planned.{Planned, planned_code, planned_of};
-    ghost use Rattle.shard_walk.specs.Inside.{IsKept};
+    ghost use Rattle.shard_walk.specs.Planned.{IsPlan, Planned, planned_code, planned_of};
 
     ghost Value = { Planned };
 
     ghost coded = { planned_code };
 
-    ghost view = { λ kept. planned_of (arc_value kept.version) kept.query kept.tau kept.thresholds.entries kept.least };
+    ghost view = { λ kept. planned_of kept.probe.version kept.probe.stored
+        kept.tau kept.thresholds.entries kept.least };
 
-    ghost invariant = { λ kept. IsKept W
-        (planned_of (arc_value kept.version) kept.query kept.tau kept.thresholds.entries kept.least)
-        kept.values.items };
+    ghost invariant = { λ kept. IsPlan W (planned_of kept.probe.version kept.probe.stored
+        kept.tau kept.thresholds.entries kept.least) };
 }
 
 impl<const W: usize> Plan<W> {
@@ -72,17 +65,15 @@ impl<const W: usize> Plan<W> {
     {
         vector_allows_tau_and_one_units();
         least_is_at_most_the_greatest_count();
-        let values = values_of(alloc, &version, &query)?;
-        let parts = values.len();
-        let counts = PartTable::of(alloc, &version, values.as_slice(), &query, tau)?;
+        let probe = Probe::open(alloc, version, query)?;
+        let parts = probe.parts();
+        let counts = RadiusCounts::of(alloc, &probe, tau)?;
         let mut scratch = Scratch::reserve(alloc, parts, tau)?;
         let mut thresholds = Thresholds::reserve(alloc, parts)?;
         let least = allocate(&mut scratch, tau, parts, &counts, &mut thresholds);
         Ok(Plan {
-            version,
-            query,
+            probe,
             tau,
-            values,
             thresholds,
             least,
         })
@@ -107,7 +98,7 @@ impl<const W: usize> Plan<W> {
     pub fn rows(&self) -> u64
         ensures { result ≡ length self.now.version.contents.rows }
     {
-        self.version.rows()
+        self.probe.rows()
     }
 
     // The number of parts.
@@ -115,7 +106,7 @@ impl<const W: usize> Plan<W> {
         ensures parts { result ≡ length (parts_of self.now) }
         ensures plan { IsPlan W self.now }
     {
-        self.values.len()
+        self.probe.parts()
     }
 
     // The values of a part that are within its threshold of the query's.
@@ -125,9 +116,8 @@ impl<const W: usize> Plan<W> {
         ensures in_width { All (λ value. value < 2 ^ length (part_of self.now part)) result }
         ensures plan { IsPlan W self.now }
     {
-        let width = self.version.layout().width(part as u32);
         let radius = self.thresholds.entries()[part];
-        Ball::new(self.values[part], width, radius)
+        self.probe.ball(part, radius)
     }
 
     // How long the posting list of a part's value is.
@@ -136,7 +126,7 @@ impl<const W: usize> Plan<W> {
         requires value { value < 2 ^ length (part_of self.now part) }
         ensures { result ≡ length (list_of self.now part value) }
     {
-        self.version.postings(part as u32).len(value)
+        self.probe.list_len(part, value)
     }
 
     // A posting, for one step.
@@ -155,9 +145,7 @@ impl<const W: usize> Plan<W> {
         ensures stored { IsStored W self.now result.1 }
         ensures step { steps.new ≡ steps.old + 1 }
     {
-        self.version
-            .postings(part as u32)
-            .entry(value, place, steps)
+        self.probe.posting(part, value, place, steps)
     }
 
     // The hit of a row, if it is within the radius and the part is the first that finds it.
@@ -165,8 +153,7 @@ impl<const W: usize> Plan<W> {
         requires { IsStored W self.now code.now }
         ensures { result ≡ kept_hit self.now part (key, code_of self.now code.now) }
     {
-        stored_rows_search_alike();
-        let distance = dist(code, &self.query);
+        let distance = self.probe.distance(code);
         if distance > self.tau {
             return None;
         }
@@ -184,12 +171,13 @@ impl<const W: usize> Plan<W> {
         requires { IsStored W self.now code.now }
         ensures { result ≡ part_found self.now (code_of self.now code.now) }
     {
-        for part in 0..self.values.len() {
+        let parts = self.probe.parts();
+        for part in 0..parts {
             if self.is_found(part, code) {
                 return part;
             }
         }
-        self.values.len()
+        parts
     }
 
     // Whether a part finds a code.
@@ -198,51 +186,17 @@ impl<const W: usize> Plan<W> {
         requires stored { IsStored W self.now code.now }
         ensures { result ≡ is_found self.now part (code_of self.now code.now) }
     {
-        let value = self.version.layout().value(code, part as u32);
         is_within(
-            value_distance(value, self.values[part]),
+            self.probe.distance_at(part, code),
             self.thresholds.entries()[part],
         )
     }
 }
 
-// At how many binary digits two values differ.
-fn value_distance(value: u16, other: u16) -> u32
-    ensures distance { result ≡ value_distance value other }
-    ensures few { result ≤ 16 }
-{
-    (value ^ other).count_ones()
-}
-
 // Whether a distance is within a threshold.
 fn is_within(distance: u32, threshold: i32) -> bool
-    requires { distance ≤ 16 }
+    requires { distance ≤ 512 }
     ensures { result ≡ nat_lt distance (units_of threshold) }
 {
     distance as i32 <= threshold
-}
-
-// The values of a code at the parts of a version's layout.
-fn values_of<const W: usize>(
-    alloc: Global,
-    version: &Version<W>,
-    code: &Code<W>,
-) -> Result<Vec<u16>, NoMemory>
-    requires { StandsFor W version.now.contents.layout.bits code.now (take version.now.contents.layout.bits code.now) }
-    ensures values { IfOk result (λ values.
-        AreValues version.now.contents.layout.parts (take version.now.contents.layout.bits code.now) values.items) }
-    ensures version { IfOk result (λ values. IsVersion version.now.contents) }
-    ensures tables { IfOk result (λ values. HasTables W version.now) }
-{
-    let layout = version.layout();
-    let parts = layout.parts();
-    let Ok(mut values) = Vec::with_capacity(alloc, parts as usize) else {
-        return Err(NoMemory);
-    };
-    for part in 0..parts {
-        let Ok(()) = values.push(layout.value(code, part)) else {
-            return Err(NoMemory);
-        };
-    }
-    Ok(values)
 }

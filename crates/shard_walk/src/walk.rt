@@ -3,8 +3,9 @@
 ghost use Rattle.std.specs.Prelude.{◌≡◌, ◌+◌, ◌<◌, ◌≤◌, ◌↔◌, ◌++◌, IsTrue, true, false, [], length};
 ghost use Rattle.std.specs.Option.{option_to_list};
 ghost use Rattle.hamming_model.specs.Scan.{in_order, scan};
+ghost use Rattle.threshold_model.specs.Bounds.{values_of_parts};
 ghost use Rattle.shard_walk.specs.Planned.{parts_of, query_of};
-ghost use Rattle.shard_walk.specs.Walks.{IsPlace, BeginsValue, PassesPart, part_begun, hits_left, reads_left, values_left, all_values};
+ghost use Rattle.shard_walk.specs.Walks.{IsPlace, BeginsValue, PassesPart, part_begun, hits_left, reads_left, values_left};
 
 use crate::plan::Plan;
 use ball_walk::{Ball, ball_sums_add_up};
@@ -39,7 +40,7 @@ impl Walk {
         ensures hits { in_order (hits_left plan.now result)
             ≡ scan plan.now.version.contents.rows (query_of plan.now) plan.now.tau }
         ensures reads { reads_left plan.now result ≡ plan.now.least }
-        ensures values { values_left plan.now result ≤ all_values (parts_of plan.now) }
+        ensures values { values_left plan.now result ≤ values_of_parts (parts_of plan.now) }
     {
         near_rows_are_kept_once();
         rows_read_are_the_cost();

@@ -1,10 +1,10 @@
 -- One more part in front of a table: the first least pick gives the first of the cheapest splits.
 use Rattle.std.proofs.Common.{◌≡◌, ℕ, zero, suc, ◌+◌, ◌-◌, ◌<◌, ◌≤◌, inl, inr, List, [], ◌∷◌, length, get_or, set, ◌≢◌, ⊎_elim, sym, ap, ◌∙◌, subst, arith}
-use Rattle.std.proofs.lemmas.Bool.{cases_eq}
+use Rattle.std.proofs.lemmas.Bool.{cases_eq, cases_lt}
 use Rattle.std.proofs.lemmas.List.{get_or-set_same, get_or-set_other}
 use Rattle.threshold_model.specs.Splits.{units_total, split_cost, StandsBefore, IsSplit, IsBest}
 use Rattle.threshold_model.proofs.BestLemmas.{best_last}
-use Rattle.threshold_dp.specs.Table.{follow, AreAsked, IsFirstLeast, joint_cost, IsRowFrom, IsLastRow, IsSolved}
+use Rattle.threshold_dp.specs.Table.{follow, AreAsked, IsFirstLeast, NeverFallIn, joint_cost, IsRowFrom, IsLastRow, IsSolved}
 
 pub same_first : (f g : ℕ → ℕ) (last place : ℕ) → ((x : ℕ) → x ≤ last → f x ≡ g x) → IsFirstLeast f last place → IsFirstLeast g last place
 same_first f g last place same h =
@@ -12,6 +12,21 @@ same_first f g last place same h =
       within = h.within;
       least = λ other le. omega (arith, h.least other le, same other le, same place h.within);
       first = λ other less. let fits : other ≤ last = omega (arith, h.within) in omega (arith, h.first other less, same other fits, same place h.within);
+    }
+
+-- a pick that alone costs as much as the cheapest so far, and those beyond it, are no cheaper
+pub none_beyond : (asked costs : List ℕ) (units pick best least : ℕ) → NeverFallIn asked → pick ≤ units
+    → units < length asked → IsFirstLeast (joint_cost asked costs units) (pick - 1) best
+    → least ≡ joint_cost asked costs units best → least ≤ get_or asked pick 0
+    → IsFirstLeast (joint_cost asked costs units) units best
+none_beyond asked costs units pick best least rises within fits so_far is_least dear =
+    record {
+      within = omega (arith, so_far.within);
+      least = λ other le.
+          ⊎_elim (λ (before : other < pick). so_far.least other (omega arith))
+          (λ (beyond : pick ≤ other). omega (arith, rises pick other beyond (omega arith)))
+          (cases_lt other pick);
+      first = so_far.first;
     }
 
 -- one part that takes a pick, and the parts behind it

@@ -36,6 +36,11 @@ pub record AreAsked (count : ℕ → ℕ → ℕ) (part width : ℕ) (asked : Li
   pub counts : (units : ℕ) → units < width → slice_index asked units ≡ count part units
   pub small : (units : ℕ) → units < width → slice_index asked units ≤ 4294967295
 
+-- counts that never fall as the units rise
+abbrev pub NeverFallIn : List ℕ → Type 0
+NeverFallIn asked =
+    (fewer more : ℕ) → fewer ≤ more → more < length asked → slice_index asked fewer ≤ slice_index asked more
+
 -- one part's count at its units, and the cost of the rest at the units that are left
 abbrev pub joint_cost : List ℕ → List ℕ → ℕ → ℕ → ℕ
 joint_cost asked costs units pick = slice_index asked pick + slice_index costs (units - pick)

@@ -2,7 +2,7 @@
 
 ghost use Rattle.std.specs.Prelude.{◌≡◌, ℕ, ◌+◌, ◌*◌, ◌<◌, ◌≤◌, length, map, slice_index};
 ghost use Rattle.threshold_model.specs.Splits.{threshold_of, units_total, split_cost, IsBest};
-ghost use Rattle.threshold_dp.specs.Table.{rows_of, HaveWidth, KeepWidths, AreAsked, IsFirstLeast, joint_cost, IsRowFrom, IsLastRow, IsSolved, follow, split_at};
+ghost use Rattle.threshold_dp.specs.Table.{rows_of, HaveWidth, KeepWidths, AreAsked, IsFirstLeast, NeverFallIn, joint_cost, IsRowFrom, IsLastRow, IsSolved, follow, split_at};
 
 use crate::part_counts::PartCounts;
 use crate::thresholds::Thresholds;
@@ -15,20 +15,23 @@ struct Pick {
 }
 
 // Asks the counts of a part, one for each number of units.
-fn ask<C: PartCounts>(counts: &C, part: usize, asked: &mut [u32])
+fn read_counts<C: PartCounts>(counts: &C, part: usize, asked: &mut [u32])
     requires part { part < C.parts counts.now }
     requires width { length asked.old ≤ 514 }
     ensures asked { AreAsked (C.counts counts.now) part (length asked.old) asked.new }
+    ensures rises { NeverFallIn asked.new }
 {
     for units in 0..asked.len() {
         asked[units] = counts.count(part, units as i32 - 1);
     }
 }
 
-// The fewest units of a part at which it is cheapest together with the parts behind it.
-fn first_least(asked: &[u32], costs: &[u64], units: usize) -> Pick
+// The fewest units of a part at which it is cheapest together with the parts behind it. Counts never
+// fall, so none is looked at beyond one that alone costs as much as the cheapest so far.
+fn cheapest_units(asked: &[u32], costs: &[u64], units: usize) -> Pick
     requires asked { units < length asked.now }
     requires costs { units < length costs.now }
+    requires rises { NeverFallIn asked.now }
     requires bound { (other : ℕ) → other ≤ units → slice_index costs.now other ≤ 64 * 4294967295 }
     ensures first { IsFirstLeast (joint_cost asked.now costs.now units) units result.units }
     ensures cost { result.cost ≡ joint_cost asked.now costs.now units result.units }
@@ -36,6 +39,12 @@ fn first_least(asked: &[u32], costs: &[u64], units: usize) -> Pick
     let mut best = 0;
     let mut least = u64::from(asked[0]) + costs[units];
     for pick in 1..units + 1 {
+        if u64::from(asked[pick]) >= least {
+            return Pick {
+                units: best,
+                cost: least,
+            };
+        }
         let cost = u64::from(asked[pick]) + costs[units - pick];
         if cost < least {
             best = pick;
@@ -50,10 +59,11 @@ fn first_least(asked: &[u32], costs: &[u64], units: usize) -> Pick
 
 // Adds a part in front of those that are solved: a row of picks, and the costs with this part in
 // the place of those without it. Going down, the costs of fewer units are still those without it.
-fn row(asked: &[u32], costs: &mut [u64], picks: &mut [u16])
+fn add_part(asked: &[u32], costs: &mut [u64], picks: &mut [u16])
     requires costs { length costs.old ≡ length asked.now }
     requires picks { length asked.now ≤ length picks.old }
     requires narrow { length asked.now ≤ 514 }
+    requires rises { NeverFallIn asked.now }
     requires bound { (units : ℕ) → units < length asked.now →
         slice_index costs.old units ≤ 64 * 4294967295 }
     ensures row { IsRowFrom 0 (length asked.now) asked.now costs.old costs.new picks.new }
@@ -61,14 +71,14 @@ fn row(asked: &[u32], costs: &mut [u64], picks: &mut [u16])
     let mut units = asked.len();
     while units > 0 {
         units -= 1;
-        let pick = first_least(asked, costs, units);
+        let pick = cheapest_units(asked, costs, units);
         costs[units] = pick.cost;
         picks[units] = pick.units as u16;
     }
 }
 
 // The row of the last part, which takes all units that are left.
-fn last_row(asked: &[u32], costs: &mut [u64], picks: &mut [u16])
+fn add_last_part(asked: &[u32], costs: &mut [u64], picks: &mut [u16])
     requires costs { length costs.old ≡ length asked.now }
     requires picks { length asked.now ≤ length picks.old }
     requires narrow { length asked.now ≤ 514 }
@@ -81,7 +91,12 @@ fn last_row(asked: &[u32], costs: &mut [u64], picks: &mut [u16])
 }
 
 // Solves the parts from the last one to the first, for all units below the width of the slices.
-fn fill<C: PartCounts>(counts: &C, asked: &mut [u32], costs: &mut [u64], picks: &mut [Vec<u16>])
+fn solve_parts<C: PartCounts>(
+    counts: &C,
+    asked: &mut [u32],
+    costs: &mut [u64],
+    picks: &mut [Vec<u16>],
+)
     requires some { 0 < length picks.old }
     requires few { length picks.old ≤ 64 }
     requires counted { length picks.old ≤ C.parts counts.now }
@@ -92,12 +107,12 @@ fn fill<C: PartCounts>(counts: &C, asked: &mut [u32], costs: &mut [u64], picks: 
     ensures widths { KeepWidths picks.old picks.new }
 {
     let mut part = picks.len() - 1;
-    ask(counts, part, asked);
-    last_row(asked, costs, picks[part].as_mut_slice());
+    read_counts(counts, part, asked);
+    add_last_part(asked, costs, picks[part].as_mut_slice());
     while part > 0 {
         part -= 1;
-        ask(counts, part, asked);
-        row(asked, costs, picks[part].as_mut_slice());
+        read_counts(counts, part, asked);
+        add_part(asked, costs, picks[part].as_mut_slice());
     }
 }
 
@@ -123,7 +138,7 @@ pub(crate) fn solve<C: PartCounts>(
     ensures widths { KeepWidths picks.old picks.new }
 {
     let width = tau as usize + 2;
-    fill(
+    solve_parts(
         counts,
         &mut asked[..width],
         &mut costs[..width],

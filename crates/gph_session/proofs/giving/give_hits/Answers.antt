@@ -1,7 +1,7 @@
 use Rattle.std.proofs.Common.{◌≡◌, ◌<◌, ◌∙◌, subst, arith}
 use Rattle.hit_source.specs.Sources.{IsLawful}
 use Rattle.query_protocol.specs.Replies.{reply_line}
-use Rattle.query_protocol.specs.declared.reply.Reply.TheVariants as reply
+use Rattle.query_protocol.specs.Replies as reply
 use Rattle.gph_session.specs.GivenHits.{FillsUp}
 use Rattle.gph_session.proofs.GivingLemmas.{gave_part, wrote_more, number_more, reads_popped_on, reads_then}
 use Rattle.gph_session.proofs.giving.give_hits.Goals as goal

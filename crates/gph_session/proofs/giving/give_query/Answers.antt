@@ -1,4 +1,4 @@
-use Rattle.std.proofs.Common.{true, refl, sym, ap, ◌∙◌, is_some, arith}
+use Rattle.std.proofs.Common.{true, refl, rules, sym, ap, ◌∙◌, is_some, arith}
 use Rattle.line_io.specs.declared.source.Failed.{Failed}
 use Rattle.gph_session.specs.declared.open_query.OpenQuery.{OpenQuery}
 use Rattle.gph_session.proofs.GivingLemmas.{query_part, query_more, query_all}
@@ -30,3 +30,9 @@ returns-in-Err-clause-gives g c =
     let failed : Failed = record {} in
     query_part {W = g.row.W} c.args.tag.now c.args.count before after (held c.args.sink.now) (held c.give_hits.new.sink) c.args.steps.now c.give_hits.new.steps refl c.give_hits.ensures.asked
     failed failed c.in-Err.ensures.gives
+
+pub returns-else-is_some-clause-cause : goal.returns-else-is_some-clause-cause
+returns-else-is_some-clause-cause g c = record {
+  never_falls = omega (arith, c.in-Ok.ensures.cause.never_falls, c.say-in-Ok.ensures.cause.never_falls);
+  failed = search rules;
+}

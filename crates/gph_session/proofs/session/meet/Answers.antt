@@ -1,8 +1,8 @@
 use Rattle.std.proofs.Common.{Ok, Some, ap, sym, ◌∙◌, subst, rules}
 use Rattle.std.specs.Arc.{arc_value}
 use Rattle.std.proofs.KnownBytes.{Appends-nil}
-use Rattle.query_protocol.specs.Replies.{reply_line}
-use Rattle.query_protocol.specs.declared.reply.Reply.TheVariants as reply
+use Rattle.query_protocol.specs.Replies.{reply_line, line_of}
+use Rattle.query_protocol.specs.Replies as reply
 use Rattle.gph_session.specs.Writing.{Writes}
 use Rattle.gph_session.proofs.StepLemmas.{add_turn, range_turn, next_turn, cost_turn, plan_turn, layout_turn, quit_turn}
 use Rattle.gph_session.proofs.LedgerLemmas.{ledger_opened, ledger_given, ledger_told}
@@ -12,13 +12,13 @@ pub returns-in-Add-clause-answers : goal.returns-in-Add-clause-answers
 returns-in-Add-clause-answers g c = λ history s means line asked.
     add_turn g.row.W c.args.session.now.config history s (arc_value c.args.session.now.version).contents c.args.session.now.queries.items means line
     (g.K.Sink.held c.args.sink.now) (g.K.Sink.held c.say.new.sink) c.requires.ready.allowed.whole c.in-Add.key c.in-Add.code
-    (ap (λ r. Ok (Some r)) (sym c.in-Add.is) ∙ asked) c.add-reply.result (arc_value c.add-reply.new.version).contents c.say.result c.add-reply.ensures c.say.ensures.goes c.say.ensures.written
+    (ap (λ r. Ok (Some r)) (sym c.in-Add.is) ∙ asked) (line_of c.add-reply.result) (arc_value c.add-reply.new.version).contents c.say.result c.add-reply.ensures c.say.ensures.goes c.say.ensures.written
 
 pub returns-in-Range-clause-answers : goal.returns-in-Range-clause-answers
 returns-in-Range-clause-answers g c = λ history s means line asked.
     range_turn g.row.W c.args.session.now.config history s (arc_value c.args.session.now.version).contents c.args.session.now.queries.items means line
     (g.K.Sink.held c.args.sink.now) (g.K.Sink.held c.say-in-Range.new.sink) c.requires.ready.allowed.whole c.in-Range.tag c.in-Range.tau c.in-Range.code
-    (ap (λ r. Ok (Some r)) (sym c.in-Range.is) ∙ asked) c.open-reply.result c.open-reply.new.queries.items c.say-in-Range.result c.open-reply.ensures c.say-in-Range.ensures.goes
+    (ap (λ r. Ok (Some r)) (sym c.in-Range.is) ∙ asked) (line_of c.open-reply.result) c.open-reply.new.queries.items c.say-in-Range.result c.open-reply.ensures c.say-in-Range.ensures.goes
     c.say-in-Range.ensures.written
 
 pub returns-in-Next-clause-answers : goal.returns-in-Next-clause-answers
@@ -31,21 +31,22 @@ pub returns-in-Cost-clause-answers : goal.returns-in-Cost-clause-answers
 returns-in-Cost-clause-answers g c = λ history s means line asked.
     cost_turn g.row.W c.args.session.now.config history s (arc_value c.args.session.now.version).contents c.args.session.now.queries.items means line
     (g.K.Sink.held c.args.sink.now) (g.K.Sink.held c.say-in-Cost.new.sink) c.in-Cost.tag
-    (ap (λ r. Ok (Some r)) (sym c.in-Cost.is) ∙ asked) c.cost-reply.result c.cost-reply.new.queries.items c.say-in-Cost.result c.cost-reply.ensures c.say-in-Cost.ensures.goes c.say-in-Cost.ensures.written
+    (ap (λ r. Ok (Some r)) (sym c.in-Cost.is) ∙ asked) (line_of c.cost-reply.result) c.cost-reply.new.queries.items c.say-in-Cost.result c.cost-reply.ensures c.say-in-Cost.ensures.goes c.say-in-Cost.ensures.written
 
 pub returns-in-Plan-clause-answers : goal.returns-in-Plan-clause-answers
 returns-in-Plan-clause-answers g c = λ history s means line asked.
     plan_turn g.row.W c.args.session.now.config history s (arc_value c.args.session.now.version).contents c.args.session.now.queries.items means line
-    (g.K.Sink.held c.args.sink.now) (g.K.Sink.held c.say-in-Plan.new.sink) c.requires.ready.few_parts c.in-Plan.tag c.in-Plan.shard
-    (ap (λ r. Ok (Some r)) (sym c.in-Plan.is) ∙ asked) c.plan-reply.result c.plan-reply.new.queries.items c.say-in-Plan.result c.plan-reply.ensures c.say-in-Plan.ensures.goes c.say-in-Plan.ensures.written
+    (g.K.Sink.held c.args.sink.now) (g.K.Sink.held c.send.new.sink) c.requires.ready.few_parts c.in-Plan.tag c.in-Plan.shard
+    (ap (λ r. Ok (Some r)) (sym c.in-Plan.is) ∙ asked) c.plan.ensures.0 c.plan.new.queries.items c.send.result c.plan.ensures.1 c.send.ensures.goes
+    (subst (Writes (g.K.Sink.held c.args.sink.now) (g.K.Sink.held c.send.new.sink) c.send.result) c.plan.ensures.2 c.send.ensures.written)
 
 pub returns-in-Layout-clause-answers : goal.returns-in-Layout-clause-answers
 returns-in-Layout-clause-answers g c = λ history s means line asked.
     layout_turn g.row.W c.args.session.now.config history s (arc_value c.args.session.now.version).contents c.args.session.now.queries.items means line
-    (g.K.Sink.held c.args.sink.now) (g.K.Sink.held c.say-in-Layout.new.sink) c.in-Layout.shard
-    (ap (λ r. Ok (Some r)) (sym c.in-Layout.is) ∙ asked) c.say-in-Layout.result c.say-in-Layout.ensures.goes
-    (subst (λ text. Writes (g.K.Sink.held c.args.sink.now) (g.K.Sink.held c.say-in-Layout.new.sink) c.say-in-Layout.result (reply_line (reply.Layout c.in-Layout.shard text)))
-    (search rules) c.say-in-Layout.ensures.written)
+    (g.K.Sink.held c.args.sink.now) (g.K.Sink.held c.send-in-Layout.new.sink) c.in-Layout.shard
+    (ap (λ r. Ok (Some r)) (sym c.in-Layout.is) ∙ asked) c.send-in-Layout.result c.send-in-Layout.ensures.goes
+    (subst (Writes (g.K.Sink.held c.args.sink.now) (g.K.Sink.held c.send-in-Layout.new.sink) c.send-in-Layout.result)
+    (c.write_layout.ensures ∙ ap (λ text. reply_line (reply.Layout c.in-Layout.shard text)) (search rules)) c.send-in-Layout.ensures.written)
 
 pub returns-in-Quit-clause-answers : goal.returns-in-Quit-clause-answers
 returns-in-Quit-clause-answers g c = λ history s means line asked.
@@ -55,7 +56,7 @@ returns-in-Quit-clause-answers g c = λ history s means line asked.
 pub returns-in-Range-clause-ledger : goal.returns-in-Range-clause-ledger
 returns-in-Range-clause-ledger g c =
     ledger_opened c.args.steps.now (arc_value c.args.session.now.version).contents c.args.session.now.config.room c.args.session.now.queries.items c.in-Range.tag c.in-Range.tau c.in-Range.code
-    c.open-reply.result c.open-reply.new.queries.items c.open-reply.ensures
+    (line_of c.open-reply.result) c.open-reply.new.queries.items c.open-reply.ensures
 
 pub returns-in-Next-clause-ledger : goal.returns-in-Next-clause-ledger
 returns-in-Next-clause-ledger g c =
@@ -63,7 +64,7 @@ returns-in-Next-clause-ledger g c =
     c.give.new.queries.items c.give.ensures.gives
 
 pub returns-in-Cost-clause-ledger : goal.returns-in-Cost-clause-ledger
-returns-in-Cost-clause-ledger g c = ledger_told c.args.steps.now c.args.session.now.queries.items c.in-Cost.tag _ c.cost-reply.result c.cost-reply.new.queries.items c.cost-reply.ensures
+returns-in-Cost-clause-ledger g c = ledger_told c.args.steps.now c.args.session.now.queries.items c.in-Cost.tag _ (line_of c.cost-reply.result) c.cost-reply.new.queries.items c.cost-reply.ensures
 
 pub returns-in-Plan-clause-ledger : goal.returns-in-Plan-clause-ledger
-returns-in-Plan-clause-ledger g c = ledger_told c.args.steps.now c.args.session.now.queries.items c.in-Plan.tag _ c.plan-reply.result c.plan-reply.new.queries.items c.plan-reply.ensures
+returns-in-Plan-clause-ledger g c = ledger_told c.args.steps.now c.args.session.now.queries.items c.in-Plan.tag _ c.plan.ensures.0 c.plan.new.queries.items c.plan.ensures.1

@@ -2,7 +2,8 @@
 use Rattle.std.proofs.Common.{◌++◌, take, sym, ◌∙◌}
 use Rattle.std.proofs.Math.Seq.{take-length}
 use Rattle.line_io.proofs.LinesLemmas.{ended_lines-clean, unended-clean}
-use Rattle.line_io.proofs.CutterLemmas.{clean_from_search, taken_through, take_through-clean, line_taken, none_begun}
+use Rattle.line_io.proofs.CutterLemmas.{clean_from_search, taken_through, take_through-clean}
+use Rattle.line_io.proofs.CutterLemmas.{line_taken, none_begun}
 use Rattle.line_io.proofs.cutter.Cutter.push.Goals as goal
 
 pub returns-in-Some-clause-taken : goal.returns-in-Some-clause-taken
@@ -19,8 +20,8 @@ returns-in-Some-clause-held c = λ raw h.
 
 pub returns-in-None-clause-taken : goal.returns-in-None-clause-taken
 returns-in-None-clause-taken c =
-    take-length c.args.bytes.now
-    ∙ sym (take_through-clean c.args.bytes.now (clean_from_search c.args.bytes.now c.in-None.ensures))
+    let clean = clean_from_search c.args.bytes.now c.in-None.ensures in
+    take-length c.args.bytes.now ∙ sym (take_through-clean c.args.bytes.now clean)
 
 pub returns-in-None-clause-cut : goal.returns-in-None-clause-cut
 returns-in-None-clause-cut c = λ raw h.

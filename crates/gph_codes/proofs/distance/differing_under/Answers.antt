@@ -1,0 +1,6 @@
+use Rattle.gph_codes.proofs.MaskLemmas.{ones_of_words_under}
+use Rattle.gph_codes.proofs.distance.differing_under.Goals as goal
+
+pub returns-clause-count : goal.returns-clause-count
+returns-clause-count c =
+    ones_of_words_under c.args.mask c.args.a c.args.b c.ranges.mask.fits c.ranges.a.fits c.ranges.b.fits

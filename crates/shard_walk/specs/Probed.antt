@@ -1,0 +1,52 @@
+-- A query on a version: the words that keep its code, and what the version's layout and posting lists are to it.
+use Rattle.std.specs.Prelude.{ℕ, ◌≤◌, List, [], map, take, slice_index_or, refl}
+use Rattle.std.specs.Coded.{Coded, code_by, coded×, coded_list, coded_ℕ}
+use Rattle.hamming_model.specs.Codes.{StandsFor}
+use Rattle.posting_table.specs.Tables.{posting_list}
+use Rattle.search_model.specs.Reading.{unpadded}
+use Rattle.shard_version.specs.Contents.{IsVersion}
+use Rattle.shard_version.specs.Tables.{Tabled, tabled_code, HasTables, table_at}
+
+-- the version, and the words of the query
+pub record Probed : Type 0 where
+  pub version : Tabled
+  pub stored : List ℕ
+
+-- both as a pair
+abbrev pub probed_code : Coded Probed
+probed_code =
+    code_by (Tabled × List ℕ) (coded× tabled_code (coded_list coded_ℕ)) (λ p. (p.version, p.stored))
+    (λ pair. record { version = pair.0; stored = pair.1 }) (λ _. refl)
+
+-- both, by name
+abbrev pub probed_of : Tabled → List ℕ → Probed
+probed_of version stored = record { version = version; stored = stored }
+
+-- the parts of a version's layout
+abbrev pub parts_in : Tabled → List (List ℕ)
+parts_in version = version.contents.layout.parts
+
+-- the positions of a part
+abbrev pub part_in : Tabled → ℕ → List ℕ
+part_in version part = slice_index_or (parts_in version) part []
+
+-- the code that words keep, of as many bits as the version's
+abbrev pub code_in : Tabled → List ℕ → List ℕ
+code_in version stored = take version.contents.layout.bits stored
+
+-- words that keep a code of as many bits as the version's
+abbrev pub KeepsCode : ℕ → Tabled → List ℕ → Type 0
+KeepsCode words version stored =
+    StandsFor words version.contents.layout.bits stored (code_in version stored)
+
+-- the rows in the posting list of a part's value, in the order of the list
+abbrev pub list_in : Tabled → ℕ → ℕ → List (ℕ × List ℕ)
+list_in version part value =
+    map (unpadded version.contents.layout.bits) (posting_list (table_at version part) value)
+
+-- a code of so many words on a version whose codes have as many
+pub record IsProbed (words : ℕ) (probe : Probed) : Type 0 where
+  pub few_words : words ≤ 8
+  pub version : IsVersion probe.version.contents
+  pub tables : HasTables words probe.version
+  pub query : KeepsCode words probe.version probe.stored
