@@ -2,6 +2,8 @@ ghost use Rattle.std.specs.Prelude.{◌≡◌, ℕ, ◌+◌, ◌%◌, ◌^◌, �
 ghost use Rattle.ball_walk.specs.Balls.{value_distance};
 ghost use Rattle.ball_walk.specs.Walk.{IsNextAfter, HasNoneAfter};
 
+use crate::distance::value_distance;
+
 // The least value of this width above `last` that is at least and at most so far from `value`. Where
 // the last digit can't be raised, the digits before it are, and the last one is the least that fits:
 // each digit is looked at once.
@@ -50,6 +52,6 @@ pub(crate) fn is_between(other: u16, value: u16, least: u32, most: u32) -> bool
     ensures { let apart = value_distance other value in
         IsTrue result ↔ (least ≤ apart) × (apart ≤ most) }
 {
-    let apart = (other ^ value).count_ones();
+    let apart = value_distance(other, value);
     least <= apart && apart <= most
 }

@@ -3,7 +3,7 @@ ghost use Rattle.ball_walk.specs.Balls.{value_distance};
 ghost use Rattle.hamming_model.specs.declared.limits.TheConstants.{ENTRIES_MOST, PART_WIDTH_MOST};
 ghost use Rattle.count_table.specs.Kept.{AreApart};
 
-use ball_walk::Ball;
+use ball_walk::{Ball, value_distance};
 
 // Writes to each place of `out` how many copies there are of values one unit nearer than that: to place 0
 // none, to place 1 the copies of the value itself.
@@ -40,7 +40,7 @@ fn distance(other: usize, value: u16) -> usize
     ensures distance { result ≡ value_distance other value }
     ensures few { result ≤ 16 }
 {
-    (other as u16 ^ value).count_ones() as usize
+    value_distance(other as u16, value) as usize
 }
 
 // Adds to each number those before it.

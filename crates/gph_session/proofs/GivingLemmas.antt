@@ -13,19 +13,19 @@ use Rattle.query_protocol.specs.Replies.{LineReply}
 use Rattle.query_protocol.specs.Replies as reply
 use Rattle.gph_session.specs.declared.open_query.OpenQuery.{OpenQuery}
 use Rattle.gph_session.specs.declared.session.Turn.{Turn}
-use Rattle.gph_session.specs.QuerySteps.{hit_replies, next_replies}
-use Rattle.gph_session.specs.Held.{asked_of, standing_of}
-use Rattle.gph_session.specs.GivenHits.{ReadsOn, IsFilled, GivesHits, IsCounted, GivesQuery}
+use Rattle.session_model.specs.QuerySteps.{hit_replies, next_replies}
+use Rattle.gph_session.specs.Cursors.{asked_of, standing_of}
+use Rattle.gph_session.specs.GivenHits.{PollsOn, IsFilled, GivesHits, IsCounted, GivesQuery}
 use Rattle.gph_session.specs.Writing.{Writes}
-use Rattle.gph_session.proofs.StepLemmas.{on_ok}
+use Rattle.gph_session.proofs.Here.{on_ok}
 use Rattle.gph_session.proofs.WritingLemmas.{part_of_whole, writes_after, writes_front, text_append, hits_append}
 
 -- ---- reading on
 
-pub reads_still : (a : Asked) (s : Standing) (now : ℕ) → IsLawful a s → ReadsOn a s s now now
+pub reads_still : (a : Asked) (s : Standing) (now : ℕ) → IsLawful a s → PollsOn a s s now now
 reads_still a s now lawful = record { ledger = refl; rises = omega arith; stays_ended = λ e. (e, refl); lawful = lawful }
 
-pub reads_then : (a : Asked) (old mid new : Standing) (from via to : ℕ) → ReadsOn a old mid from via → ReadsOn a mid new via to → ReadsOn a old new from to
+pub reads_then : (a : Asked) (old mid new : Standing) (from via to : ℕ) → PollsOn a old mid from via → PollsOn a mid new via to → PollsOn a old new from to
 reads_then a old mid new from via to one other = record {
   ledger = omega (arith, one.ledger, other.ledger);
   rises = omega (arith, one.rises, other.rises);
@@ -33,7 +33,7 @@ reads_then a old mid new from via to one other = record {
   lawful = other.lawful;
 }
 
-pub reads_popped : (a : Asked) (old new : Standing) (now : ℕ) (popped : Option Hit) → Pops old new popped → IsLawful a new → ReadsOn a old new now now
+pub reads_popped : (a : Asked) (old new : Standing) (now : ℕ) (popped : Option Hit) → Pops old new popped → IsLawful a new → PollsOn a old new now now
 reads_popped a old new now popped pops lawful = record {
   ledger = ap (λ n. now + n) (sym pops.reads);
   rises = omega (arith, pops.reads);
@@ -87,7 +87,7 @@ one_more (suc given) (first ∷ hits) rest hit is = ap (λ l. first ∷ l) (one_
 -- ---- giving the hits of a source
 
 module _ (a : Asked) (tag : List ℕ) (count : ℕ) (start now : Standing) (held0 held1 : Option (List ℕ)) (from via given : ℕ)
-    (reads : ReadsOn a start now from via) (number : now.given ≡ start.given + given) (few : given ≤ count) (filled : 1 ≤ a.room → IsFilled now)
+    (reads : PollsOn a start now from via) (number : now.given ≡ start.given + given) (few : given ≤ count) (filled : 1 ≤ a.room → IsFilled now)
     (wrote : Appends held0 held1 (text (hit_replies tag (take given (drop start.given a.hits))))) where
   -- as many were given as were asked for
   pub gave_number : count ≤ given → GivesHits a tag count start now held0 held1 from via (Ok given)
@@ -157,7 +157,7 @@ module _ (a : Asked) (tag : List ℕ) (count : ℕ) (start now : Standing) (held
     pub number_more : popped_to.given ≡ start.given + (given + 1)
     number_more = omega (arith, pops.given, one_taken now.waiting hit (sym pops.head ∙ is), number)
 
-    pub reads_popped_on : ReadsOn a start popped_to from via
+    pub reads_popped_on : PollsOn a start popped_to from via
     reads_popped_on = reads_then a start now popped_to from via via reads (reads_popped a now popped_to via popped pops lawful)
 
 -- ---- giving the hits of a query

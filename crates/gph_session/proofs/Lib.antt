@@ -1,14 +1,17 @@
-pub mod RunLemmas
-pub mod VersionLemmas
-pub mod HeldLemmas
-pub mod LawLemmas
-pub mod LedgerLemmas
-pub mod QueryLemmas
-pub mod FlowLemmas
-pub mod ReadingLemmas
-pub mod StepLemmas
-pub mod WritingLemmas
-pub mod GivingLemmas
-pub mod BlockLemmas
-pub mod ServeLemmas
-pub mod TopLemmas
+mod CursorLemmas
+mod LawLemmas
+mod VersionLemmas
+mod ShardLemmas
+mod BoundLemmas
+mod QueryLemmas
+mod WritingLemmas
+mod Here
+mod AddLemmas
+mod RangeLemmas
+mod NextLemmas
+mod AskLemmas
+mod GivingLemmas
+mod FlowLemmas
+mod BlockLemmas
+mod ServeLemmas
+mod TopLemmas

@@ -1,150 +1,309 @@
--- Lemmas on the open queries in memory: what they are to a longer history, the one of a tag, and after one is opened or changed.
-use Rattle.std.proofs.Common.{◌≡◌, ℕ, ◌+◌, ◌≤◌, Bool, true, false, cond, List, [], ◌∷◌, ◌++◌, length, take, drop, Some, None, refl, slice_index_or, sym, ap, ◌∙◌, subst, arith, length-append}
+-- Lemmas on the queries of a state: those that are open, the one of a tag, and after one is opened or
+-- changed.
+use Rattle.std.proofs.Common.{◌≡◌, ℕ, ◌+◌, ◌≤◌, Bool, true, false, cond, not, ◌&&◌, Some, None}
+use Rattle.std.proofs.Common.{List, [], ◌∷◌, ◌++◌, length, take, drop, slice_index, slice_index_or}
+use Rattle.std.proofs.Common.{refl, sym, ap, ◌∙◌, subst, arith, length-append}
+use Rattle.std.specs.List.{AllByRecursion}
 use Rattle.std.specs.Str.{bytes_eq}
 use Rattle.std.proofs.lemmas.Slice.Eq.{bytes_eq-Decides}
 use Rattle.std.proofs.lemmas.List.{take-append-le}
+use Rattle.std.proofs.lemmas.List.Elements.{filter-append}
+use Rattle.hamming_model.specs.declared.limits.TheConstants.{ENTRIES_MOST}
 use Rattle.hamming_model.specs.History.{JournalEntry}
-use Rattle.part_layout.specs.declared.config.Config.{Config}
-use Rattle.gph_session.specs.declared.open_query.OpenQuery.{OpenQuery}
-use Rattle.gph_session.specs.State.{Query, query_of, replaced}
 use Rattle.hit_source.specs.Sources.{IsLawful}
-use Rattle.gph_session.specs.Held.{asked_of, standing_of, IsFree, StandsAt, Changes, IsSame}
-use Rattle.gph_session.specs.Meaning.{AsksOn, Keeps, HasRead, AllKeep, AllRead}
-use Rattle.gph_session.proofs.HeldLemmas.{parted_at}
-use Rattle.gph_session.proofs.LedgerLemmas.{all_read}
+use Rattle.part_layout.specs.declared.config.Config.{Config}
+use Rattle.session_model.specs.State.{Query, is_open, has_tag, query_of, replaced, open_queries}
+use Rattle.session_model.specs.Ledger.{column, readings_of}
+use Rattle.gph_session.specs.declared.open_query.OpenQuery.{OpenQuery}
+use Rattle.gph_session.specs.Cursors.{asked_of, standing_of, IsFree, IsFirstAt, Changes, IsSame}
+use Rattle.gph_session.specs.Meaning.{AsksOn, Keeps, AllKeep}
+use Rattle.gph_session.proofs.CursorLemmas.{parted_at}
+
+-- ---- the open queries of all
+
+closed_hides : (tag : List ℕ) (query : Query) → query.closed ≡ true → has_tag tag query ≡ false
+closed_hides tag query is = ap (λ b. not b && bytes_eq query.tag tag) is
+
+pub open_has_tag : (tag : List ℕ) (query : Query) → query.closed ≡ false
+    → has_tag tag query ≡ bytes_eq query.tag tag
+open_has_tag tag query is = ap (λ b. not b && bytes_eq query.tag tag) is
+
+without_closed : (query : Query) (queries : List Query) → query.closed ≡ true
+    → open_queries (query ∷ queries) ≡ open_queries queries
+without_closed query queries is =
+    ap (λ b. cond (not b) (query ∷ open_queries queries) (open_queries queries)) is
+
+with_open : (query : Query) (queries : List Query) → query.closed ≡ false
+    → open_queries (query ∷ queries) ≡ query ∷ open_queries queries
+with_open query queries is =
+    ap (λ b. cond (not b) (query ∷ open_queries queries) (open_queries queries)) is
+
+of_open_by : (tag : List ℕ) (query : Query) (queries : List Query) (closed : Bool)
+    → query.closed ≡ closed → query_of tag queries ≡ query_of tag (open_queries queries)
+    → query_of tag (query ∷ queries) ≡ query_of tag (open_queries (query ∷ queries))
+of_open_by tag query queries true is rest =
+    ap (λ b. cond b (Some query) (query_of tag queries)) (closed_hides tag query is) ∙ rest
+    ∙ ap (query_of tag) (sym (without_closed query queries is))
+of_open_by tag query queries false is rest =
+    ap (λ o. cond (has_tag tag query) (Some query) o) rest
+    ∙ ap (query_of tag) (sym (with_open query queries is))
+
+-- the query of a tag is an open one
+pub of_open : (tag : List ℕ) (queries : List Query)
+    → query_of tag queries ≡ query_of tag (open_queries queries)
+of_open tag [] = refl
+of_open tag (query ∷ queries) =
+    of_open_by tag query queries query.closed refl (of_open tag queries)
+
+replaced_open_by : (tag : List ℕ) (this query : Query) (queries : List Query) (closed here : Bool)
+    → this.closed ≡ false → query.closed ≡ closed → has_tag tag query ≡ here
+    → open_queries (replaced tag this queries) ≡ replaced tag this (open_queries queries)
+    → open_queries (replaced tag this (query ∷ queries))
+    ≡ replaced tag this (open_queries (query ∷ queries))
+replaced_open_by tag this query queries true here opened is tagged rest =
+    ap (λ b. open_queries (cond b (this ∷ queries) (query ∷ replaced tag this queries)))
+    (closed_hides tag query is)
+    ∙ without_closed query (replaced tag this queries) is ∙ rest
+    ∙ ap (replaced tag this) (sym (without_closed query queries is))
+replaced_open_by tag this query queries false true opened is tagged rest =
+    ap (λ b. open_queries (cond b (this ∷ queries) (query ∷ replaced tag this queries))) tagged
+    ∙ with_open this queries opened
+    ∙ ap (λ b. cond b (this ∷ open_queries queries) (query ∷ replaced tag this (open_queries queries)))
+    (sym tagged)
+    ∙ ap (replaced tag this) (sym (with_open query queries is))
+replaced_open_by tag this query queries false false opened is tagged rest =
+    ap (λ b. open_queries (cond b (this ∷ queries) (query ∷ replaced tag this queries))) tagged
+    ∙ with_open query (replaced tag this queries) is ∙ ap (λ l. query ∷ l) rest
+    ∙ ap (λ b. cond b (this ∷ open_queries queries) (query ∷ replaced tag this (open_queries queries)))
+    (sym tagged)
+    ∙ ap (replaced tag this) (sym (with_open query queries is))
+
+-- an open query in the place of another
+pub replaced_open : (tag : List ℕ) (this : Query) (queries : List Query) → this.closed ≡ false
+    → open_queries (replaced tag this queries) ≡ replaced tag this (open_queries queries)
+replaced_open tag this [] opened = refl
+replaced_open tag this (query ∷ queries) opened =
+    replaced_open_by tag this query queries query.closed (has_tag tag query) opened refl refl
+    (replaced_open tag this queries opened)
+
+-- an open query behind the others
+pub more_open : (queries : List Query) (query : Query) → query.closed ≡ false
+    → open_queries (queries ++ query ∷ []) ≡ open_queries queries ++ query ∷ []
+more_open queries query is =
+    filter-append is_open queries (query ∷ [])
+    ∙ ap (λ l. open_queries queries ++ l) (with_open query [] is)
+
+-- ---- what all queries have read
+
+read_replaced_by : (tag : List ℕ) (query this first : Query) (queries : List Query) (here : Bool)
+    → cond here (Some first) (query_of tag queries) ≡ Some query
+    → (query_of tag queries ≡ Some query
+    → column 0 (readings_of (replaced tag this queries)) + slice_index query.reads 0
+    ≡ column 0 (readings_of queries) + slice_index this.reads 0)
+    → column 0 (readings_of (cond here (this ∷ queries) (first ∷ replaced tag this queries)))
+    + slice_index query.reads 0
+    ≡ column 0 (readings_of (first ∷ queries)) + slice_index this.reads 0
+read_replaced_by tag query this first queries true is rest =
+    let same : first ≡ query = cc in
+    omega (arith, ap (λ (q : Query). slice_index q.reads 0) same)
+read_replaced_by tag query this first queries false is rest = omega (arith, rest is)
+
+pub read_replaced : (tag : List ℕ) (query this : Query) (queries : List Query)
+    → query_of tag queries ≡ Some query
+    → column 0 (readings_of (replaced tag this queries)) + slice_index query.reads 0
+    ≡ column 0 (readings_of queries) + slice_index this.reads 0
+read_replaced tag query this [] is = let never : None ≡ Some query = is in cc
+read_replaced tag query this (first ∷ queries) is =
+    read_replaced_by tag query this first queries (has_tag tag first) is
+    (read_replaced tag query this queries)
+
+pub read_more : (queries : List Query) (query : Query)
+    → column 0 (readings_of (queries ++ query ∷ []))
+    ≡ column 0 (readings_of queries) + slice_index query.reads 0
+read_more [] query = omega arith
+read_more (first ∷ queries) query = omega (arith, read_more queries query)
+
+-- ---- what holds of all queries
+
+all_replaced_by : (P : Query → Type 0) (this query : Query) (queries rest : List Query) (here : Bool)
+    → P this → P query → AllByRecursion P queries → AllByRecursion P rest
+    → AllByRecursion P (cond here (this ∷ queries) (query ∷ rest))
+all_replaced_by P this query queries rest true now first old new = (now, old)
+all_replaced_by P this query queries rest false now first old new = (first, new)
+
+pub all_replaced : (P : Query → Type 0) (tag : List ℕ) (this : Query) (queries : List Query)
+    → AllByRecursion P queries → P this → AllByRecursion P (replaced tag this queries)
+all_replaced P tag this [] all now = tt
+all_replaced P tag this (query ∷ queries) all now =
+    all_replaced_by P this query queries (replaced tag this queries) (has_tag tag query) now all.0 all.1
+    (all_replaced P tag this queries all.1 now)
+
+pub all_more : (P : Query → Type 0) (queries : List Query) (query : Query)
+    → AllByRecursion P queries → P query → AllByRecursion P (queries ++ query ∷ [])
+all_more P [] query all now = (now, tt)
+all_more P (first ∷ queries) query all now = (all.0, all_more P queries query all.1 now)
 
 -- ---- a longer history
 
-pub keeps_later : {W : ℕ} (config : Config) (history later : List JournalEntry) (held : OpenQuery W) (query : Query) → Keeps config history held query → Keeps config (history ++ later) held query
-keeps_later config history later held query keeps =
+pub keeps_later : {W : ℕ} (config : Config) (history later : List JournalEntry) (cursor : OpenQuery W)
+    (query : Query) → Keeps config history cursor query → Keeps config (history ++ later) cursor query
+keeps_later config history later cursor query keeps =
     let within : query.position ≤ length history = keeps.within in
     record {
       tag = keeps.tag;
-      within = omega (arith, length-append history later);
-      asks = subst (λ h. AsksOn query.ask config h (asked_of held)) (sym (take-append-le query.position history later within)) keeps.asks;
+      within = omega (arith, within, length-append history later);
+      asks = subst (λ h. AsksOn query.ask config h (asked_of cursor))
+          (sym (take-append-le query.position history later within)) keeps.asks;
       few = keeps.few;
+      pinned = keeps.pinned;
       given = keeps.given;
       counted = keeps.counted;
       done = keeps.done;
       lawful = keeps.lawful;
       ended = keeps.ended;
-      told = keeps.told;
-      told_done = keeps.told_done;
-      told_all = keeps.told_all;
+      reads = keeps.reads;
+      opened = keeps.opened;
     }
 
-pub keep_later : {W : ℕ} (config : Config) (history later : List JournalEntry) (helds : List (OpenQuery W)) (queries : List Query) → AllKeep config history helds queries → AllKeep config (history ++ later) helds queries
+pub keep_later : {W : ℕ} (config : Config) (history later : List JournalEntry)
+    (cursors : List (OpenQuery W)) (queries : List Query) → AllKeep config history cursors queries
+    → AllKeep config (history ++ later) cursors queries
 keep_later config history later [] [] keep = tt
 keep_later config history later [] (query ∷ queries) keep = keep
-keep_later config history later (held ∷ helds) [] keep = keep
-keep_later config history later (held ∷ helds) (query ∷ queries) keep =
-    (keeps_later config history later held query keep.0, keep_later config history later helds queries keep.1)
+keep_later config history later (cursor ∷ cursors) [] keep = keep
+keep_later config history later (cursor ∷ cursors) (query ∷ queries) keep = (
+  keeps_later config history later cursor query keep.0,
+  keep_later config history later cursors queries keep.1,
+)
 
--- ---- one more query
+-- ---- the cursors and the open queries
 
-pub keep_more : {W : ℕ} (config : Config) (history : List JournalEntry) (helds : List (OpenQuery W)) (queries : List Query) (held : OpenQuery W) (query : Query)
-    → AllKeep config history helds queries → Keeps config history held query → AllKeep config history (helds ++ held ∷ []) (queries ++ query ∷ [])
-keep_more config history [] [] held query keep keeps = (keeps, tt)
-keep_more config history [] (other ∷ queries) held query keep keeps = absurd keep
-keep_more config history (other ∷ helds) [] held query keep keeps = absurd keep
-keep_more config history (other ∷ helds) (its ∷ queries) held query keep keeps = (keep.0, keep_more config history helds queries held query keep.1 keeps)
+module _ {W : ℕ} (config : Config) (history : List JournalEntry) where
+  pub keep_more : (cursors : List (OpenQuery W)) (queries : List Query) (cursor : OpenQuery W)
+      (query : Query) → AllKeep config history cursors queries → Keeps config history cursor query
+      → AllKeep config history (cursors ++ cursor ∷ []) (queries ++ query ∷ [])
+  keep_more [] [] cursor query keep keeps = (keeps, tt)
+  keep_more [] (other ∷ queries) cursor query keep keeps = absurd keep
+  keep_more (other ∷ cursors) [] cursor query keep keeps = absurd keep
+  keep_more (other ∷ cursors) (its ∷ queries) cursor query keep keeps =
+      (keep.0, keep_more cursors queries cursor query keep.1 keeps)
 
-pub same_number : {W : ℕ} (config : Config) (history : List JournalEntry) (helds : List (OpenQuery W)) (queries : List Query) → AllKeep config history helds queries → length queries ≡ length helds
-same_number config history [] [] keep = refl
-same_number config history [] (query ∷ queries) keep = absurd keep
-same_number config history (held ∷ helds) [] keep = absurd keep
-same_number config history (held ∷ helds) (query ∷ queries) keep = omega (arith, same_number config history helds queries keep.1)
+  pub same_number : (cursors : List (OpenQuery W)) (queries : List Query)
+      → AllKeep config history cursors queries → length queries ≡ length cursors
+  same_number [] [] keep = refl
+  same_number [] (query ∷ queries) keep = absurd keep
+  same_number (cursor ∷ cursors) [] keep = absurd keep
+  same_number (cursor ∷ cursors) (query ∷ queries) keep =
+      omega (arith, same_number cursors queries keep.1)
 
--- ---- the query of a tag
+  -- a query has a tag where its cursor has it
+  tag_of_cursor : (cursor : OpenQuery W) (query : Query) (tag : List ℕ)
+      → Keeps config history cursor query → has_tag tag query ≡ bytes_eq cursor.tag tag
+  tag_of_cursor cursor query tag keeps =
+      open_has_tag tag query keeps.opened ∙ ap (λ (t : List ℕ). bytes_eq t tag) (sym keeps.tag)
 
-tag_is : (name tag : List ℕ) → name ≡ tag → bytes_eq name tag ≡ true
-tag_is name tag is = (bytes_eq-Decides name tag).1 is
+  pub not_open : (cursors : List (OpenQuery W)) (queries : List Query) (tag : List ℕ)
+      → AllKeep config history cursors queries → IsFree cursors tag → query_of tag queries ≡ None
+  not_open [] [] tag keep free = refl
+  not_open [] (query ∷ queries) tag keep free = absurd keep
+  not_open (cursor ∷ cursors) [] tag keep free = absurd keep
+  not_open (cursor ∷ cursors) (query ∷ queries) tag keep free =
+      ap (λ b. cond b (Some query) (query_of tag queries))
+      (tag_of_cursor cursor query tag keep.0 ∙ free.0)
+      ∙ not_open cursors queries tag keep.1 free.1
 
-pub not_open : {W : ℕ} (config : Config) (history : List JournalEntry) (helds : List (OpenQuery W)) (queries : List Query) (tag : List ℕ) → AllKeep config history helds queries → IsFree helds tag → query_of tag queries ≡ None
-not_open config history [] [] tag keep free = refl
-not_open config history [] (query ∷ queries) tag keep free = absurd keep
-not_open config history (held ∷ helds) [] tag keep free = absurd keep
-not_open config history (held ∷ helds) (query ∷ queries) tag keep free =
-    ap (λ b. cond b (Some query) (query_of tag queries)) (ap (λ (t : List ℕ). bytes_eq t tag) (sym keep.0.tag) ∙ free.0) ∙ not_open config history helds queries tag keep.1 free.1
+  -- the query of a tag, whose cursor this is, and what all are once both have changed
+  pub record IsFound (front : List (OpenQuery W)) (before : OpenQuery W) (back : List (OpenQuery W))
+      (queries : List Query) (tag : List ℕ) : Type 0 where
+    pub query : Query
+    pub found : query_of tag queries ≡ Some query
+    pub keeps : Keeps config history before query
+    pub keep : (after : OpenQuery W) (this : Query) → Keeps config history after this
+        → AllKeep config history (front ++ after ∷ back) (replaced tag this queries)
 
--- the state's query of a tag, which is the one in memory, and what all are once both have changed
-pub record IsFound {W : ℕ} (config : Config) (history : List JournalEntry) (front : List (OpenQuery W)) (before : OpenQuery W) (back : List (OpenQuery W)) (queries : List Query) (tag : List ℕ) : Type 0 where
-  pub query : Query
-  pub open_query : query_of tag queries ≡ Some query
-  pub keeps : Keeps config history before query
-  pub keep : (after : OpenQuery W) (query' : Query) → Keeps config history after query' → AllKeep config history (front ++ after ∷ back) (replaced tag query' queries)
-  pub read : (after : OpenQuery W) (query' : Query) → HasRead config history after query' → AllRead config history (front ++ after ∷ back) (replaced tag query' queries)
+  found_at : (front : List (OpenQuery W)) (before : OpenQuery W) (back : List (OpenQuery W))
+      (queries : List Query) (tag : List ℕ) → AllKeep config history (front ++ before ∷ back) queries
+      → IsFree front tag → before.tag ≡ tag → IsFound front before back queries tag
+  found_at [] before back [] tag keep free is = absurd keep
+  found_at [] before back (query ∷ queries) tag keep free is =
+      let here : has_tag tag query ≡ true =
+      tag_of_cursor before query tag keep.0 ∙ (bytes_eq-Decides before.tag tag).1 is in
+      record {
+        query = query;
+        found = ap (λ b. cond b (Some query) (query_of tag queries)) here;
+        keeps = keep.0;
+        keep = λ after this keeps. subst (AllKeep config history (after ∷ back))
+            (ap (λ b. cond b (this ∷ queries) (query ∷ replaced tag this queries)) (sym here))
+            (keeps, keep.1);
+      }
+  found_at (cursor ∷ front) before back [] tag keep free is = absurd keep
+  found_at (cursor ∷ front) before back (query ∷ queries) tag keep free is =
+      let other : has_tag tag query ≡ false = tag_of_cursor cursor query tag keep.0 ∙ free.0 in
+      let rest = found_at front before back queries tag keep.1 free.1 is in
+      record {
+        query = rest.query;
+        found = ap (λ b. cond b (Some query) (query_of tag queries)) other ∙ rest.found;
+        keeps = rest.keeps;
+        keep = λ after this keeps. subst (AllKeep config history (cursor ∷ (front ++ after ∷ back)))
+            (ap (λ b. cond b (this ∷ queries) (query ∷ replaced tag this queries)) (sym other))
+            (keep.0, rest.keep after this keeps);
+      }
 
-found_at : {W : ℕ} (config : Config) (history : List JournalEntry) (front : List (OpenQuery W)) (before : OpenQuery W) (back : List (OpenQuery W)) (queries : List Query) (tag : List ℕ)
-    → AllKeep config history (front ++ before ∷ back) queries → IsFree front tag → before.tag ≡ tag → IsFound config history front before back queries tag
-found_at config history [] before back [] tag keep free is = absurd keep
-found_at {W} config history [] before back (query ∷ queries) tag keep free is =
-    let this : bytes_eq query.tag tag ≡ true = tag_is query.tag tag (sym keep.0.tag ∙ is) in
-    record {
-      query = query;
-      open_query = ap (λ b. cond b (Some query) (query_of tag queries)) this;
-      keeps = keep.0;
-      keep = λ after query' keeps. subst (AllKeep config history (after ∷ back)) (ap (λ b. cond b (query' ∷ queries) (query ∷ replaced tag query' queries)) (sym this)) (keeps, keep.1);
-      read = λ after query' reads. subst (AllRead config history (after ∷ back)) (ap (λ b. cond b (query' ∷ queries) (query ∷ replaced tag query' queries)) (sym this)) (reads, all_read config history back queries keep.1);
-    }
-found_at config history (held ∷ front) before back [] tag keep free is = absurd keep
-found_at {W} config history (held ∷ front) before back (query ∷ queries) tag keep free is =
-    let other : bytes_eq query.tag tag ≡ false = ap (λ (t : List ℕ). bytes_eq t tag) (sym keep.0.tag) ∙ free.0 in
-    let rest = found_at config history front before back queries tag keep.1 free.1 is in
-    record {
-      query = rest.query;
-      open_query = ap (λ b. cond b (Some query) (query_of tag queries)) other ∙ rest.open_query;
-      keeps = rest.keeps;
-      keep = λ after query' keeps. subst (AllKeep config history (held ∷ (front ++ after ∷ back))) (ap (λ b. cond b (query' ∷ queries) (query ∷ replaced tag query' queries)) (sym other))
-          (keep.0, rest.keep after query' keeps);
-      read = λ after query' reads. subst (AllRead config history (held ∷ (front ++ after ∷ back))) (ap (λ b. cond b (query' ∷ queries) (query ∷ replaced tag query' queries)) (sym other))
-          ((all_read config history (held ∷ []) (query ∷ []) (keep.0, tt)).0, rest.read after query' reads);
-    }
+  -- the query of a cursor that was changed
+  pub found_changed : (old new : List (OpenQuery W)) (queries : List Query) (tag : List ℕ)
+      (before after : OpenQuery W) → AllKeep config history old queries
+      → (changes : Changes old new tag before after)
+      → IsFound changes.front before changes.back queries tag
+  found_changed old new queries tag before after keep changes =
+      found_at changes.front before changes.back queries tag
+      (subst (λ cursors. AllKeep config history cursors queries) changes.old_is keep)
+      changes.is_first changes.has_tag
 
--- the query of a tag that was changed
-pub found_changed : {W : ℕ} (config : Config) (history : List JournalEntry) (old new : List (OpenQuery W)) (queries : List Query) (tag : List ℕ) (before after : OpenQuery W)
-    → AllKeep config history old queries → (changes : Changes old new tag before after) → IsFound config history changes.front before changes.back queries tag
-found_changed config history old new queries tag before after keep changes =
-    found_at config history changes.front before changes.back queries tag (subst (λ helds. AllKeep config history helds queries) changes.old_is keep) changes.is_first changes.has_tag
-
--- a tag of which a query stands in memory is open in the state
-pub is_open : {W : ℕ} (config : Config) (history : List JournalEntry) (helds : List (OpenQuery W)) (queries : List Query) (tag : List ℕ) (place : ℕ) → AllKeep config history helds queries → StandsAt helds tag place
-    → (query : Query) × (query_of tag queries ≡ Some query)
-is_open config history [] queries tag place keep at = absurd (omega (arith, at.within))
-is_open config history (first ∷ helds) queries tag place keep at =
-    let held = slice_index_or (first ∷ helds) place first in
-    let found = found_at config history (take place (first ∷ helds)) held (drop (place + 1) (first ∷ helds)) queries tag
-    (subst (λ h. AllKeep config history h queries) (parted_at (first ∷ helds) place first at.within) keep) at.is_first (at.has_tag first) in
-    (found.query, found.open_query)
+  -- a tag that a cursor has is a query's
+  pub is_found : (cursors : List (OpenQuery W)) (queries : List Query) (tag : List ℕ) (place : ℕ)
+      → AllKeep config history cursors queries → IsFirstAt cursors tag place
+      → (query : Query) × (query_of tag queries ≡ Some query)
+  is_found [] queries tag place keep at = absurd (omega (arith, at.within))
+  is_found (first ∷ cursors) queries tag place keep at =
+      let all = first ∷ cursors in
+      let found = found_at (take place all) (slice_index_or all place first) (drop (place + 1) all)
+      queries tag
+      (subst (λ l. AllKeep config history l queries) (parted_at all place first at.within) keep)
+      at.is_first (at.has_tag first) in
+      (found.query, found.found)
 
 -- ---- a query that was only asked about
 
-replaced_by : (tag : List ℕ) (query first : Query) (queries : List Query) (here : Bool) → cond here (Some first) (query_of tag queries) ≡ Some query
-    → (query_of tag queries ≡ Some query → replaced tag query queries ≡ queries) → cond here (query ∷ queries) (first ∷ replaced tag query queries) ≡ first ∷ queries
-replaced_by tag query first queries true is rest = let same : first ≡ query = cc in ap (λ (q : Query). q ∷ queries) (sym same)
+replaced_by : (tag : List ℕ) (query first : Query) (queries : List Query) (here : Bool)
+    → cond here (Some first) (query_of tag queries) ≡ Some query
+    → (query_of tag queries ≡ Some query → replaced tag query queries ≡ queries)
+    → cond here (query ∷ queries) (first ∷ replaced tag query queries) ≡ first ∷ queries
+replaced_by tag query first queries true is rest =
+    let same : first ≡ query = cc in
+    ap (λ (q : Query). q ∷ queries) (sym same)
 replaced_by tag query first queries false is rest = ap (λ l. first ∷ l) (rest is)
 
-pub replaced_same : (tag : List ℕ) (query : Query) (queries : List Query) → query_of tag queries ≡ Some query → replaced tag query queries ≡ queries
+pub replaced_same : (tag : List ℕ) (query : Query) (queries : List Query)
+    → query_of tag queries ≡ Some query → replaced tag query queries ≡ queries
 replaced_same tag query [] is = refl
-replaced_same tag query (first ∷ queries) is = replaced_by tag query first queries (bytes_eq first.tag tag) is (replaced_same tag query queries)
+replaced_same tag query (first ∷ queries) is =
+    replaced_by tag query first queries (has_tag tag first) is (replaced_same tag query queries)
 
--- a query of the state after its reads were told, or as it was
-abbrev pub told_of : Query → ℕ → Bool → Query
-told_of query reads all = record query { told_reads = reads; told_all = all }
-
-pub keeps_told : {W : ℕ} (config : Config) (history : List JournalEntry) (before after : OpenQuery W) (query : Query) (reads : ℕ) (all : Bool) → Keeps config history before query → IsSame before after
-    → reads ≤ (standing_of before).reads → (all ≡ true → query.done ≡ true) → (all ≡ true → (standing_of before).reads ≡ reads) → Keeps config history after (told_of query reads all)
-keeps_told config history before after query reads all keeps same told done exact = record {
+pub keeps_same : {W : ℕ} (config : Config) (history : List JournalEntry) (before after : OpenQuery W)
+    (query : Query) → Keeps config history before query → IsSame before after
+    → Keeps config history after query
+keeps_same config history before after query keeps same = record {
   tag = same.tag ∙ keeps.tag;
   within = keeps.within;
   asks = subst (AsksOn query.ask config (take query.position history)) (sym same.asked) keeps.asks;
-  few = subst (λ a. length a.hits ≤ 1048576) (sym same.asked) keeps.few;
+  few = subst (λ a. length a.hits ≤ ENTRIES_MOST) (sym same.asked) keeps.few;
+  pinned = keeps.pinned;
   given = same.given ∙ keeps.given;
   counted = same.given ∙ keeps.counted ∙ ap (λ s. s.given) (sym same.standing);
   done = same.done ∙ keeps.done;
-  lawful = subst (λ a. IsLawful a (standing_of after)) (sym same.asked) (subst (IsLawful (asked_of before)) (sym same.standing) keeps.lawful);
+  lawful = subst (λ a. IsLawful a (standing_of after)) (sym same.asked)
+      (subst (IsLawful (asked_of before)) (sym same.standing) keeps.lawful);
   ended = λ e. ap (λ s. s.ended) same.standing ∙ keeps.ended e;
-  told = subst (λ s. reads ≤ s.reads) (sym same.standing) told;
-  told_done = done;
-  told_all = λ e. ap (λ s. s.reads) same.standing ∙ exact e;
+  reads = keeps.reads ∙ ap (λ s. s.reads ∷ []) (sym same.standing);
+  opened = keeps.opened;
 }

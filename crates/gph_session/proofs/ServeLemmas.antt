@@ -1,135 +1,288 @@
 -- Lemmas on the loop over reads: one more block, and the ways in which it ends.
-use Rattle.std.proofs.Common.{◌≡◌, ℕ, ◌+◌, ◌<◌, ◌≤◌, true, false, List, [], ◌∷◌, ◌++◌, length, take, get_or, Option, refl, sym, ◌∙◌, subst, arith, inl, inr, append-nil, length-append}
+use Rattle.std.proofs.Common.{◌≡◌, ℕ, ◌+◌, ◌-◌, ◌<◌, ◌≤◌, true, false, Result, Ok, Err}
+use Rattle.std.proofs.Common.{List, [], ◌∷◌, ◌++◌, length, take, drop, get_or}
+use Rattle.std.proofs.Common.{refl, sym, ap, ◌∙◌, subst, arith, inl, inr, append-nil, length-append}
 use Rattle.std.specs.Io.KnownBytes.{Appends, Consumes, Keeps, IsAtEnd}
 use Rattle.std.proofs.KnownBytes.{Appends-trans, Consumes-trans, Consumes-kept}
-use Rattle.shard_version.specs.Contents.{Contents}
+use Rattle.std.proofs.lemmas.List.{take-append-le, take-append-drop}
 use Rattle.line_io.specs.Faults.{Rose}
-use Rattle.line_io.specs.Lines.{ended_lines, unended, last_line, lines}
+use Rattle.line_io.specs.Lines.{ended_lines, unended, last_line}
+use Rattle.line_io.specs.declared.source.Failed.{Failed}
+use Rattle.line_io.proofs.LinesLemmas.{ended_lines-append}
 use Rattle.part_layout.specs.declared.config.Config.{Config}
-use Rattle.gph_session.specs.declared.open_query.OpenQuery.{OpenQuery}
-use Rattle.gph_session.specs.Run.{AnswersLines, before_quit}
-use Rattle.gph_session.specs.Outcomes.{ends, IsDone, IsReadFault, IsWriteFault, IsInputLimit}
-use Rattle.gph_session.specs.Run.{IsRefused}
-use Rattle.gph_session.specs.Held.{reads_of}
-use Rattle.gph_session.specs.Flow.{Stands, HasEnded}
-use Rattle.gph_session.proofs.RunLemmas.{before_more}
-use Rattle.gph_session.proofs.FlowLemmas.{answered_so_far, goes_on}
-
-rose_from : (a b c : ℕ) → a ≤ b → Rose b c → Rose a c
-rose_from a b c le (inl lt) = inl (omega arith)
-rose_from a b c le (inr full) = inr full
+use Rattle.session_model.specs.declared.limits.TheConstants.{BLOCK_MOST}
+use Rattle.session_model.specs.Run.{IsRunAlone, AnswersLines, has_quit}
+use Rattle.session_model.specs.Outcomes.{Ends, Transfers, before_last}
+use Rattle.session_model.specs.Outcomes.{IsDone, IsReadFault, IsWriteFault, IsInputLimit}
+use Rattle.session_model.proofs.RunLemmas.{before_more, no_quit_in_front}
+use Rattle.gph_session.specs.declared.session.Session.{Session}
+use Rattle.gph_session.specs.declared.session.Turn.{Turn}
+use Rattle.gph_session.specs.declared.session.Turn.TheVariants.{Goes, Quits}
+use Rattle.gph_session.specs.Meaning.{contents_in}
+use Rattle.gph_session.specs.Flow.{GoesOn, HasAnswered, FlowIs, FlowsOn, EndIs, EndsOn}
+use Rattle.gph_session.specs.Flow.{HasEnded, HasServed, WasRefused}
+use Rattle.gph_session.specs.Serving.{Serves, EndsBy}
+use Rattle.gph_session.proofs.FlowLemmas.{served_so_far, goes_on}
+use Rattle.gph_session.proofs.BlockLemmas.{no_fewer_lines}
 
 pub take_one : (xs : List ℕ) → 0 < length xs → take 1 xs ≡ get_or xs 0 0 ∷ []
 take_one [] lt = absurd (omega arith)
 take_one (x ∷ xs) lt = refl
 
-module _ (W : ℕ) (config : Config) (taken : ℕ) (left0 left1 left2 held0 held1 held2 : Option (List ℕ)) (f0 f1 f2 k0 k1 k2 : ℕ)
-    (version : Contents) (queries : List (OpenQuery W)) (held : Option (List ℕ)) (few : taken ≤ config.input)
-    (goes : (bytes : List ℕ) × (output : List ℕ) × Consumes left0 left1 bytes × Appends held0 held1 output × (length bytes ≡ taken) × Stands W config bytes output version queries held) where
-  pub read_fault : f0 ≤ f1 → Keeps left1 left2 → Rose f1 f2 → IsReadFault config (ends left0 f0) (ends left2 f2) (ends held0 k0) (ends held1 k1) (reads_of queries)
-  read_fault never_falls keeps rose = record {
-    rose = rose_from f0 f1 f2 never_falls rose;
-    bytes = goes.0;
-    output = goes.1;
-    moved = record { read = Consumes-kept left0 left1 left2 goes.0 goes.2 keeps; few = omega (arith, goes.4); wrote = goes.3 };
-    goes_on = goes_on W config goes.0 goes.1 version queries held goes.5;
-    answered = answered_so_far W config goes.0 goes.1 version queries held goes.5;
+rose_from : (a b c : ℕ) → b ≡ a → Rose b c → Rose a c
+rose_from a b c same rose = subst (λ n. Rose n c) same rose
+
+-- ---- the bytes before the last read
+
+-- these are a front of the bytes before the last block
+front_of_before : (bytes piece : List ℕ) → length piece ≤ BLOCK_MOST
+    → (rest : List ℕ) × (bytes ≡ before_last (bytes ++ piece) ++ rest)
+front_of_before bytes piece few =
+    let n = length (bytes ++ piece) - BLOCK_MOST in
+    let short : n ≤ length bytes = omega (arith, few, length-append bytes piece) in (
+      drop n bytes,
+      sym (ap (λ l. l ++ drop n bytes) (take-append-le n bytes piece short) ∙ take-append-drop n bytes),
+    )
+
+no_quit_before : (config : Config) (bytes piece : List ℕ) → length piece ≤ BLOCK_MOST
+    → has_quit config (ended_lines [] bytes) ≡ false
+    → has_quit config (ended_lines [] (before_last (bytes ++ piece))) ≡ false
+no_quit_before config bytes piece few goes =
+    let front = before_last (bytes ++ piece) in
+    let parted = front_of_before bytes piece few in
+    no_quit_in_front config (ended_lines [] front) (ended_lines (unended [] front) parted.0)
+    (ap (has_quit config) (sym (ended_lines-append [] front parted.0) ∙ ap (ended_lines []) (sym parted.1))
+    ∙ goes)
+
+no_more_before : (bytes piece : List ℕ) → length piece ≤ BLOCK_MOST
+    → length (ended_lines [] (before_last (bytes ++ piece))) ≤ length (ended_lines [] bytes)
+no_more_before bytes piece few =
+    let front = before_last (bytes ++ piece) in
+    let parted = front_of_before bytes piece few in
+    subst (λ l. length (ended_lines [] front) ≤ length (ended_lines [] l)) (sym parted.1)
+    (no_fewer_lines front parted.0)
+
+-- ---- the loop
+
+module _ {W : ℕ} (start old : Session W) {taken : ℕ} {source0 source1 sink0 sink1 : Ends}
+    {from now : ℕ} (one : start.config.shards ≡ 1) (same : old.config ≡ start.config)
+    (serves : Serves start.config old taken source0 source1 sink0 sink1 from now) where
+  -- what the session was asked to be
+  abbrev config : Config
+  config = start.config
+
+  -- the lines so far were answered, and none of them ends the session
+  served : HasServed config (ended_lines [] serves.bytes) serves.output from now
+  served = served_so_far W config from now serves.bytes serves.output (contents_in old) old.queries.items
+      old.cutter.held one serves.goes
+
+  goes : has_quit config (ended_lines [] serves.bytes) ≡ false
+  goes = goes_on W config from now serves.bytes serves.output (contents_in old) old.queries.items
+      old.cutter.held one serves.goes
+
+  -- the same for what the session itself says
+  goes_here : HasAnswered old from now serves.bytes serves.output
+  goes_here =
+      subst (λ c. GoesOn W c from now serves.bytes serves.output (contents_in old) old.queries.items
+      old.cutter.held) (sym same) serves.goes
+
+  pub read_fault : (source2 : Ends) → Keeps source1.bytes source2.bytes
+      → Rose source1.faults source2.faults
+      → EndsBy (IsReadFault IsRunAlone config) source0 source2 sink0 sink1 from now
+  read_fault source2 keeps rose = record {
+    rise = served.rise;
+    raises = served.raises;
+    ended = record {
+      rose = rose_from source0.faults source1.faults source2.faults serves.no_read_failed rose;
+      no_write_failed = serves.no_write_failed;
+      bytes = serves.bytes;
+      output = serves.output;
+      moved = record {
+        read = Consumes-kept source0.bytes source1.bytes source2.bytes serves.bytes serves.read keeps;
+        few = omega (arith, serves.long, serves.few);
+        wrote = serves.wrote;
+      };
+      goes_on = goes;
+      answered = served.answered;
+    };
   }
 
-  pub limit_reached : (past : ℕ) → Consumes left1 left2 (past ∷ []) → taken ≡ config.input → IsInputLimit config (ends left0 f0) (ends left2 f2) (ends held0 k0) (ends held1 k1) (reads_of queries)
-  limit_reached past more full = record {
-    bytes = goes.0;
-    past = past;
-    output = goes.1;
-    read = Consumes-trans left0 left1 left2 goes.0 (past ∷ []) goes.2 more;
-    full = goes.4 ∙ full;
-    wrote = goes.3;
-    goes_on = goes_on W config goes.0 goes.1 version queries held goes.5;
-    answered = answered_so_far W config goes.0 goes.1 version queries held goes.5;
+  pub limit_reached : (source2 : Ends) (past : ℕ) → Consumes source1.bytes source2.bytes (past ∷ [])
+      → source2.faults ≡ source1.faults → taken ≡ config.input
+      → EndsBy (IsInputLimit IsRunAlone config) source0 source2 sink0 sink1 from now
+  limit_reached source2 past more steady full = record {
+    rise = served.rise;
+    raises = served.raises;
+    ended = record {
+      no_read_failed = steady ∙ serves.no_read_failed;
+      no_write_failed = serves.no_write_failed;
+      bytes = serves.bytes;
+      past = past;
+      output = serves.output;
+      read = Consumes-trans source0.bytes source1.bytes source2.bytes serves.bytes (past ∷ []) serves.read more;
+      full = serves.long ∙ full;
+      wrote = serves.wrote;
+      goes_on = goes;
+      answered = served.answered;
+    };
   }
 
-  module _ (config' : Config) (same : config' ≡ config) (rise : ℕ) where
-    standing : Stands W config' goes.0 goes.1 version queries held
-    standing = subst (λ b. Stands W b goes.0 goes.1 version queries held) (sym same) goes.5
-
+  module _ (source2 sink2 : Ends) (to : ℕ) (no_read_failed : source2.faults ≡ source1.faults) where
     -- ---- the end of the input
 
-    read_all : Consumes left1 left2 [] → Consumes left0 left2 goes.0
-    read_all none = subst (Consumes left0 left2) (append-nil goes.0) (Consumes-trans left0 left1 left2 goes.0 [] goes.2 none)
+    module _ (none : Consumes source1.bytes source2.bytes []) (at_end : IsAtEnd source2.bytes)
+        (result : Result Turn Failed) (flows : EndsOn result old sink1.bytes sink2.bytes now to) where
+      ends : (more : List ℕ) × Appends sink1.bytes sink2.bytes more
+          × EndIs result config from to serves.bytes (serves.output ++ more)
+      ends =
+          let last = flows from serves.bytes serves.output goes_here in (
+            last.0,
+            last.1,
+            subst (λ c. EndIs result c from to serves.bytes (serves.output ++ last.0)) same last.2,
+          )
 
-    pub done_at_end : Consumes left1 left2 [] → IsAtEnd left2
-        → ((bytes output : List ℕ) → Stands W config' bytes output version queries held → (more : List ℕ) × Appends held1 held2 more × AnswersLines config' (before_quit config' (lines bytes true)) (output ++ more) rise)
-        → IsDone config (ends left0 f0) (ends left2 f2) (ends held0 k0) (ends held2 k2) rise
-    done_at_end none at_end flow =
-        let last = flow goes.0 goes.1 standing in
-        record {
-          bytes = goes.0;
-          output = goes.1 ++ last.0;
-          moved = record { read = read_all none; few = omega (arith, goes.4); wrote = Appends-trans held0 held1 held2 goes.1 last.0 goes.3 last.1 };
-          ended = inl at_end;
-          answered = subst (λ b. AnswersLines b (before_quit b (lines goes.0 true)) (goes.1 ++ last.0) rise) same last.2;
-        }
+      moved_all : Transfers config.input source0 source2 sink0 sink2 serves.bytes (serves.output ++ ends.0)
+      moved_all = record {
+        read = subst (Consumes source0.bytes source2.bytes) (append-nil serves.bytes)
+            (Consumes-trans source0.bytes source1.bytes source2.bytes serves.bytes [] serves.read none);
+        few = omega (arith, serves.long, serves.few);
+        wrote = Appends-trans sink0.bytes sink1.bytes sink2.bytes serves.output ends.0 serves.wrote ends.1;
+      }
 
-    pub refused_at_end : Consumes left1 left2 [] → IsAtEnd left2 → k0 ≤ k1 → Rose k1 k2
-        → ((bytes output : List ℕ) → Stands W config' bytes output version queries held → (more : List ℕ) × Appends held1 held2 more × IsRefused config' (lines bytes true) (output ++ more) rise)
-        → IsWriteFault config (ends left0 f0) (ends left2 f2) (ends held0 k0) (ends held2 k2) rise
-    refused_at_end none at_end never_falls rose flow =
-        let last = flow goes.0 goes.1 standing in
-        record {
-          rose = rose_from k0 k1 k2 never_falls rose;
-          bytes = goes.0;
-          output = goes.1 ++ last.0;
-          moved = record { read = read_all none; few = omega (arith, goes.4); wrote = Appends-trans held0 held1 held2 goes.1 last.0 goes.3 last.1 };
-          ended = true;
-          ended_at = λ _. at_end;
-          refused = subst (λ b. IsRefused b (lines goes.0 true) (goes.1 ++ last.0) rise) same last.2;
-        }
+      pub done_at_end : (turn : Turn) → result ≡ Ok turn → sink2.faults ≡ sink1.faults
+          → EndsBy (IsDone IsRunAlone config) source0 source2 sink0 sink2 from to
+      done_at_end turn is steady =
+          let last = subst (λ r. EndIs r config from to serves.bytes (serves.output ++ ends.0)) is ends.2 in
+          record {
+            rise = last.rise;
+            raises = last.raises;
+            ended = record {
+              no_read_failed = no_read_failed ∙ serves.no_read_failed;
+              no_write_failed = steady ∙ serves.no_write_failed;
+              bytes = serves.bytes;
+              output = serves.output ++ ends.0;
+              moved = moved_all;
+              ended = inl at_end;
+              goes_on = subst (λ l. has_quit config (ended_lines [] (before_last l)) ≡ false)
+                  (append-nil serves.bytes) (no_quit_before config serves.bytes [] (omega arith) goes);
+              answered = last.answered;
+            };
+          }
+
+      pub refused_at_end : (failed : Failed) → result ≡ Err failed → Rose sink1.faults sink2.faults
+          → EndsBy (IsWriteFault IsRunAlone config) source0 source2 sink0 sink2 from to
+      refused_at_end failed is rose =
+          let last = subst (λ r. EndIs r config from to serves.bytes (serves.output ++ ends.0)) is ends.2 in
+          let few = subst (λ l. length (ended_lines [] (before_last l)) ≤ length (ended_lines [] serves.bytes))
+          (append-nil serves.bytes) (no_more_before serves.bytes [] (omega arith)) in
+          record {
+            rise = last.rise;
+            raises = last.raises;
+            ended = record {
+              no_read_failed = no_read_failed ∙ serves.no_read_failed;
+              rose = rose_from sink0.faults sink1.faults sink2.faults serves.no_write_failed rose;
+              bytes = serves.bytes;
+              output = serves.output ++ ends.0;
+              moved = moved_all;
+              ended = true;
+              ended_at = λ _. at_end;
+              refused = last.refused;
+              all_before = omega (arith, few, last.all_before);
+            };
+          }
 
     -- ---- one more block
 
-    module _ (piece : List ℕ) (read : Consumes left1 left2 piece) (within : taken + length piece ≤ config.input) where
-      read_more : Consumes left0 left2 (goes.0 ++ piece)
-      read_more = Consumes-trans left0 left1 left2 goes.0 piece goes.2 read
-
-      pub goes_more : (version' : Contents) (queries' : List (OpenQuery W)) (held' : Option (List ℕ))
-          → ((bytes output : List ℕ) → Stands W config' bytes output version queries held → (more : List ℕ) × Appends held1 held2 more × Stands W config' (bytes ++ piece) (output ++ more) version' queries' held')
-          → (bytes : List ℕ) × (output : List ℕ) × Consumes left0 left2 bytes × Appends held0 held2 output × (length bytes ≡ taken + length piece) × Stands W config bytes output version' queries' held'
-      goes_more version' queries' held' flow =
-          let next = flow goes.0 goes.1 standing in (
-            goes.0 ++ piece,
-            goes.1 ++ next.0,
-            read_more,
-            Appends-trans held0 held1 held2 goes.1 next.0 goes.3 next.1,
-            omega (arith, length-append goes.0 piece, goes.4),
-            subst (λ b. Stands W b (goes.0 ++ piece) (goes.1 ++ next.0) version' queries' held') same next.2,
+    module _ (piece : List ℕ) (read : Consumes source1.bytes source2.bytes piece)
+        (fits : taken + length piece ≤ config.input) (small : length piece ≤ BLOCK_MOST)
+        (new : Session W) (result : Result Turn Failed)
+        (leads : FlowsOn result old new piece sink1.bytes sink2.bytes now to) where
+      flows : (more : List ℕ) × Appends sink1.bytes sink2.bytes more
+          × FlowIs result W config from to serves.bytes piece (serves.output ++ more) (contents_in new)
+          new.queries.items new.cutter.held
+      flows =
+          let next = leads from serves.bytes serves.output goes_here in (
+            next.0,
+            next.1,
+            subst (λ c. FlowIs result W c from to serves.bytes piece (serves.output ++ next.0)
+                (contents_in new) new.queries.items new.cutter.held) same next.2,
           )
 
-      pub done_by_quit : ((bytes output : List ℕ) → Stands W config' bytes output version queries held → (more : List ℕ) × Appends held1 held2 more × HasEnded config' (ended_lines [] (bytes ++ piece)) (output ++ more) rise)
-          → IsDone config (ends left0 f0) (ends left2 f2) (ends held0 k0) (ends held2 k2) rise
-      done_by_quit flow =
-          let next = flow goes.0 goes.1 standing in
-          let all = goes.0 ++ piece in
-          let ended = subst (λ b. HasEnded b (ended_lines [] all) (goes.1 ++ next.0) rise) same next.2 in
+      -- the same by the result
+      flowed : (expected : Result Turn Failed) → result ≡ expected
+          → FlowIs expected W config from to serves.bytes piece (serves.output ++ flows.0) (contents_in new)
+          new.queries.items new.cutter.held
+      flowed expected is =
+          subst (λ r. FlowIs r W config from to serves.bytes piece (serves.output ++ flows.0)
+          (contents_in new) new.queries.items new.cutter.held) is flows.2
+
+      -- all that was read, and all that was written
+      abbrev all : List ℕ
+      all = serves.bytes ++ piece
+
+      abbrev output : List ℕ
+      output = serves.output ++ flows.0
+
+      moved_on : Transfers config.input source0 source2 sink0 sink2 all output
+      moved_on = record {
+        read = Consumes-trans source0.bytes source1.bytes source2.bytes serves.bytes piece serves.read read;
+        few = omega (arith, length-append serves.bytes piece, serves.long, fits);
+        wrote = Appends-trans sink0.bytes sink1.bytes sink2.bytes serves.output flows.0 serves.wrote flows.1;
+      }
+
+      pub serves_more : result ≡ Ok Goes → sink2.faults ≡ sink1.faults
+          → Serves config new (taken + length piece) source0 source2 sink0 sink2 from to
+      serves_more is steady = record {
+        bytes = all;
+        output = output;
+        read = moved_on.read;
+        wrote = moved_on.wrote;
+        long = omega (arith, length-append serves.bytes piece, serves.long);
+        few = fits;
+        no_read_failed = no_read_failed ∙ serves.no_read_failed;
+        no_write_failed = steady ∙ serves.no_write_failed;
+        goes = flowed (Ok Goes) is;
+      }
+
+      pub done_by_quit : result ≡ Ok Quits → sink2.faults ≡ sink1.faults
+          → EndsBy (IsDone IsRunAlone config) source0 source2 sink0 sink2 from to
+      done_by_quit is steady =
+          let ended : HasEnded config (ended_lines [] all) output from to = flowed (Ok Quits) is in
           record {
-            bytes = all;
-            output = goes.1 ++ next.0;
-            moved = record { read = read_more; few = omega (arith, length-append goes.0 piece, goes.4); wrote = Appends-trans held0 held1 held2 goes.1 next.0 goes.3 next.1 };
-            ended = inr ended.quits;
-            answered = subst (λ l. AnswersLines config l (goes.1 ++ next.0) rise) (sym (before_more config (ended_lines [] all) (last_line (unended [] all)) ended.quits)) ended.answered;
+            rise = ended.served.rise;
+            raises = ended.served.raises;
+            ended = record {
+              no_read_failed = no_read_failed ∙ serves.no_read_failed;
+              no_write_failed = steady ∙ serves.no_write_failed;
+              bytes = all;
+              output = output;
+              moved = moved_on;
+              ended = inr ended.quits;
+              goes_on = no_quit_before config serves.bytes piece small goes;
+              answered =
+                  subst (λ l. AnswersLines (IsRunAlone config) l output ended.served.rise)
+                  (sym (before_more config (ended_lines [] all) (last_line (unended [] all)) ended.quits))
+                  ended.served.answered;
+            };
           }
 
-      pub refused_in_block : k0 ≤ k1 → Rose k1 k2
-          → ((bytes output : List ℕ) → Stands W config' bytes output version queries held → (more : List ℕ) × Appends held1 held2 more × IsRefused config' (ended_lines [] (bytes ++ piece)) (output ++ more) rise)
-          → IsWriteFault config (ends left0 f0) (ends left2 f2) (ends held0 k0) (ends held2 k2) rise
-      refused_in_block never_falls rose flow =
-          let next = flow goes.0 goes.1 standing in
-          let all = goes.0 ++ piece in
+      pub refused_in_block : (failed : Failed) → result ≡ Err failed → Rose sink1.faults sink2.faults
+          → EndsBy (IsWriteFault IsRunAlone config) source0 source2 sink0 sink2 from to
+      refused_in_block failed is rose =
+          let last : WasRefused config (ended_lines [] all) output from to (length (ended_lines [] serves.bytes)) =
+          flowed (Err failed) is in
           record {
-            rose = rose_from k0 k1 k2 never_falls rose;
-            bytes = all;
-            output = goes.1 ++ next.0;
-            moved = record { read = read_more; few = omega (arith, length-append goes.0 piece, goes.4); wrote = Appends-trans held0 held1 held2 goes.1 next.0 goes.3 next.1 };
-            ended = false;
-            ended_at = λ never. cc;
-            refused = subst (λ b. IsRefused b (ended_lines [] all) (goes.1 ++ next.0) rise) same next.2;
+            rise = last.rise;
+            raises = last.raises;
+            ended = record {
+              no_read_failed = no_read_failed ∙ serves.no_read_failed;
+              rose = rose_from sink0.faults sink1.faults sink2.faults serves.no_write_failed rose;
+              bytes = all;
+              output = output;
+              moved = moved_on;
+              ended = false;
+              ended_at = λ never. cc;
+              refused = last.refused;
+              all_before = omega (arith, no_more_before serves.bytes piece small, last.all_before);
+            };
           }

@@ -10,7 +10,7 @@ use Rattle.hamming_model.specs.declared.hit.Hit.{Hit}
 use Rattle.query_protocol.specs.Replies.{text, reply_line}
 use Rattle.query_protocol.specs.Replies.{LineReply}
 use Rattle.query_protocol.specs.Replies as reply
-use Rattle.gph_session.specs.QuerySteps.{hit_replies}
+use Rattle.session_model.specs.QuerySteps.{hit_replies}
 use Rattle.gph_session.specs.Writing.{Writes}
 
 -- where a sink refused a part of a piece, it has a part of the whole

@@ -1,5 +1,8 @@
--- What `add` and `range` answer, and the version and the queries that they leave. No public clause cites this module.
-use Rattle.std.specs.Prelude.{◌≡◌, ℕ, ◌<◌, ◌≤◌, ◌⊎◌, true, false, List, [], ◌∷◌, ◌++◌, length, take, None, is_some}
+-- What becomes of an `add` and of a `range`, and the version and the cursors that they leave.
+-- No public clause cites this module.
+use Rattle.std.specs.Prelude.{◌≡◌, ℕ, ◌<◌, ◌≤◌, true, false, None, is_some}
+use Rattle.std.specs.Prelude.{List, [], ◌∷◌, ◌++◌, length, take}
+use Rattle.hamming_model.specs.declared.limits.TheConstants.{ENTRIES_MOST}
 use Rattle.hamming_model.specs.Codes.{StandsFor}
 use Rattle.hamming_model.specs.History.{JournalEntry, code_at}
 use Rattle.hamming_model.specs.History as journal
@@ -9,52 +12,72 @@ use Rattle.shard_query.specs.Opening.{AsksRange, BeginsRange}
 use Rattle.query_protocol.specs.Requests.{bad}
 use Rattle.query_protocol.specs.Replies.{LineReply}
 use Rattle.query_protocol.specs.Replies as reply
+use Rattle.session_model.specs.QuerySteps.{most_open}
+use Rattle.gph_session.specs.declared.adding.Adding.{Adding}
+use Rattle.gph_session.specs.declared.adding.Adding.TheVariants as adding
+use Rattle.gph_session.specs.declared.opening.Opening.{Opening}
+use Rattle.gph_session.specs.declared.opening.Opening.TheVariants as opening
 use Rattle.gph_session.specs.declared.open_query.OpenQuery.{OpenQuery}
-use Rattle.gph_session.specs.QuerySteps.{most_open}
-use Rattle.gph_session.specs.Held.{asked_of, standing_of, IsFree, StandsAt}
-
--- the code of so many bits that words keep
-abbrev pub own_code : ℕ → List ℕ → List ℕ
-own_code bits stored = take bits stored
+use Rattle.gph_session.specs.Cursors.{asked_of, standing_of, IsFree, IsFirstAt}
 
 -- this session's entry that adds a row
 abbrev pub added_entry : ℕ → ℕ → List ℕ → JournalEntry
-added_entry bits key stored = record { who = 0; operation = journal.Add key (own_code bits stored) }
+added_entry bits key stored = record { who = 0; operation = journal.Add key (take bits stored) }
 
--- what words keep stands for a code of a version's bits
-abbrev pub StandsIn : ℕ → Contents → List ℕ → Type 0
-StandsIn W version stored = StandsFor W version.layout.bits stored (own_code version.layout.bits stored)
+-- what words keep is a code of a version's bits
+abbrev pub IsCodeFor : ℕ → Contents → List ℕ → Type 0
+IsCodeFor W version stored =
+    StandsFor W version.layout.bits stored (take version.layout.bits stored)
 
 -- a version with one row more
 abbrev pub with_row : Contents → ℕ → List ℕ → Contents
 with_row version key stored = after_entry version (added_entry version.layout.bits key stored)
 
--- the reply to an add where at most so many entries may stand, and the version that it leaves
-abbrev pub AddsAs : Contents → ℕ → ℕ → List ℕ → LineReply → Contents → Type 0
-AddsAs old limit key stored (reply.Added added at) new =
-    (added ≡ key) × (code_at old.rows key ≡ None) × (old.at < limit) × (new ≡ with_row old key stored) × (at ≡ new.at)
-AddsAs old limit key stored (reply.Taken taken at) new =
-    (taken ≡ key) × (is_some (code_at old.rows key) ≡ true) × (new ≡ old) × (at ≡ old.at)
-AddsAs old limit key stored (reply.Full at) new = (code_at old.rows key ≡ None) × (limit ≤ old.at) × (new ≡ old) × (at ≡ old.at)
-AddsAs old limit key stored reply.NoMemory new = new ≡ old
-AddsAs old limit key stored other new = ⊥
+-- what becomes of an add where at most so many entries may stand, and the version that it leaves
+abbrev pub AddsAs : Contents → ℕ → ℕ → List ℕ → Adding → Contents → Type 0
+AddsAs old limit key stored (adding.Added at) new =
+    (code_at old.rows key ≡ None) × (old.at < limit) × (new ≡ with_row old key stored) × (at ≡ new.at)
+AddsAs old limit key stored (adding.Taken at) new =
+    (is_some (code_at old.rows key) ≡ true) × (new ≡ old) × (at ≡ old.at)
+AddsAs old limit key stored (adding.Full at) new =
+    (code_at old.rows key ≡ None) × (limit ≤ old.at) × (new ≡ old) × (at ≡ old.at)
+AddsAs old limit key stored adding.NoMemory new = new ≡ old
 
--- a query of a tag that asks for all rows of a version within a radius, of which nothing was read or given
-pub record BeginsQuery {W : ℕ} (version : Contents) (room : ℕ) (tag : List ℕ) (tau : ℕ) (stored : List ℕ) (held : OpenQuery W) : Type 0 where
-  pub tag_is : held.tag ≡ tag
-  pub none_given : held.given ≡ 0
-  pub undone : held.done ≡ false
-  pub asks : AsksRange version (own_code version.layout.bits stored) tau room (asked_of held)
-  pub begins : BeginsRange version (asked_of held) (standing_of held)
-  pub lawful : IsLawful (asked_of held) (standing_of held)
-  pub few : length (asked_of held).hits ≤ 1048576
+-- the reply to an add
+abbrev pub reply_to_add : ℕ → Adding → LineReply
+reply_to_add key (adding.Added at) = reply.Added key at
+reply_to_add key (adding.Taken at) = reply.Taken key at
+reply_to_add key (adding.Full at) = reply.Full at
+reply_to_add key adding.NoMemory = reply.NoMemory
 
--- the reply to an opening, and the queries that it leaves
-abbrev pub OpensAs : {W : ℕ} → Contents → ℕ → List (OpenQuery W) → List ℕ → ℕ → List ℕ → LineReply → List (OpenQuery W) → Type 0
-OpensAs {W} version room old tag tau stored (reply.Bad fault) new =
-    (new ≡ old) × (((fault ≡ bad 7) × (place : ℕ) × StandsAt old tag place) ⊎ ((fault ≡ bad 9) × IsFree old tag × (most_open ≤ length old)))
-OpensAs {W} version room old tag tau stored reply.NoMemory new = (new ≡ old) × IsFree old tag × (length old < most_open)
-OpensAs {W} version room old tag tau stored (reply.Open opened at) new =
-    (opened ≡ tag) × (at ≡ version.at) × IsFree old tag × (length old < most_open)
-    × (held : OpenQuery W) × (new ≡ old ++ held ∷ []) × BeginsQuery version room tag tau stored held
-OpensAs {W} version room old tag tau stored other new = ⊥
+-- a cursor of a tag that asks for all rows of a version within a radius, and has given and read nothing
+pub record BeginsQuery {W : ℕ} (version : Contents) (room : ℕ) (tag : List ℕ) (tau : ℕ)
+    (stored : List ℕ) (cursor : OpenQuery W) : Type 0 where
+  pub tag_is : cursor.tag ≡ tag
+  pub none_given : cursor.given ≡ 0
+  pub undone : cursor.done ≡ false
+  pub asks : AsksRange version (take version.layout.bits stored) tau room (asked_of cursor)
+  pub begins : BeginsRange version (asked_of cursor) (standing_of cursor)
+  pub lawful : IsLawful (asked_of cursor) (standing_of cursor)
+  pub few : length (asked_of cursor).hits ≤ ENTRIES_MOST
+
+-- what becomes of an opening, and the cursors that it leaves
+abbrev pub OpensAs : {W : ℕ} → Contents → ℕ → List (OpenQuery W) → List ℕ → ℕ → List ℕ → Opening
+    → List (OpenQuery W) → Type 0
+OpensAs {W} version room old tag tau stored opening.Used new =
+    (new ≡ old) × (place : ℕ) × IsFirstAt old tag place
+OpensAs {W} version room old tag tau stored opening.Many new =
+    (new ≡ old) × IsFree old tag × (most_open ≤ length old)
+OpensAs {W} version room old tag tau stored opening.NoMemory new =
+    (new ≡ old) × IsFree old tag × (length old < most_open)
+OpensAs {W} version room old tag tau stored (opening.Open at) new =
+    (at ≡ version.at) × IsFree old tag × (length old < most_open)
+    × (cursor : OpenQuery W) × (new ≡ old ++ cursor ∷ [])
+    × BeginsQuery version room tag tau stored cursor
+
+-- the reply to an opening
+abbrev pub reply_to_open : List ℕ → Opening → LineReply
+reply_to_open tag (opening.Open at) = reply.Open tag at
+reply_to_open tag opening.Used = reply.Bad (bad 7)
+reply_to_open tag opening.Many = reply.Bad (bad 9)
+reply_to_open tag opening.NoMemory = reply.NoMemory

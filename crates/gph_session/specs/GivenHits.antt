@@ -1,5 +1,6 @@
 -- What giving hits does to a source, to its query and to the sink. No public clause cites this module.
 use Rattle.std.specs.Prelude.{◌≡◌, ℕ, ◌+◌, ◌<◌, ◌≤◌, ◌⊎◌, min, nat_lt, true, if◌then◌else◌, List, length, take, drop, Option, Result, OnOk, IfOk}
+use Rattle.hamming_model.specs.declared.limits.TheConstants.{ENTRIES_MOST}
 use Rattle.hit_source.specs.Sources.{Asked, Standing, IsLawful}
 use Rattle.line_io.specs.declared.source.Failed.{Failed}
 use Rattle.query_protocol.specs.Requests.{bad}
@@ -7,12 +8,12 @@ use Rattle.query_protocol.specs.Replies.{text, reply_line}
 use Rattle.query_protocol.specs.Replies as reply
 use Rattle.gph_session.specs.declared.open_query.OpenQuery.{OpenQuery}
 use Rattle.gph_session.specs.declared.session.Turn.{Turn}
-use Rattle.gph_session.specs.QuerySteps.{next_replies, hit_replies}
-use Rattle.gph_session.specs.Held.{asked_of, standing_of, IsFree, Changes}
+use Rattle.session_model.specs.QuerySteps.{next_replies, hit_replies}
+use Rattle.gph_session.specs.Cursors.{asked_of, standing_of, IsFree, Changes}
 use Rattle.gph_session.specs.Writing.{Writes}
 
 -- a source reads on, a step of the ledger a posting, and reads no more once it has ended
-pub record ReadsOn (a : Asked) (old new : Standing) (from to : ℕ) : Type 0 where
+pub record PollsOn (a : Asked) (old new : Standing) (from to : ℕ) : Type 0 where
   pub ledger : to + old.reads ≡ from + new.reads
   pub rises : old.reads ≤ new.reads
   pub stays_ended : old.ended ≡ true → (new.ended ≡ true) × (new.reads ≡ old.reads)
@@ -24,13 +25,13 @@ IsFilled s = (s.ended ≡ true) ⊎ (0 < length s.waiting)
 
 -- a source with room for a hit is polled until it is filled
 pub record FillsUp (a : Asked) (old new : Standing) (from to : ℕ) : Type 0 where
-  pub reads : ReadsOn a old new from to
+  pub reads : PollsOn a old new from to
   pub given : new.given ≡ old.given
   pub filled : 1 ≤ a.room → IsFilled new
 
 -- the next hits of a source, at most so many, are given and written, and it is filled again
 pub record GivesHits (a : Asked) (tag : List ℕ) (count : ℕ) (old new : Standing) (before after : Option (List ℕ)) (from to : ℕ) (result : Result ℕ Failed) : Type 0 where
-  pub reads : ReadsOn a old new from to
+  pub reads : PollsOn a old new from to
   pub filled : 1 ≤ a.room → OnOk result (IsFilled new)
   pub written : 1 ≤ a.room → Writes before after result (text (hit_replies tag (take count (drop old.given a.hits))))
   pub number : IfOk result (λ n. new.given ≡ old.given + n)
@@ -40,7 +41,7 @@ pub record GivesHits (a : Asked) (tag : List ℕ) (count : ℕ) (old new : Stand
 pub record IsCounted {W : ℕ} (held : OpenQuery W) : Type 0 where
   pub room : 1 ≤ (asked_of held).room
   pub given : held.given ≡ (standing_of held).given
-  pub few : length (asked_of held).hits ≤ 1048576
+  pub few : length (asked_of held).hits ≤ ENTRIES_MOST
 
 -- a query in memory after so many more hits were asked
 pub record IsGiven {W : ℕ} (count : ℕ) (before after : OpenQuery W) : Type 0 where
@@ -53,7 +54,7 @@ pub record IsGiven {W : ℕ} (count : ℕ) (before after : OpenQuery W) : Type 0
 pub record GivesQuery {W : ℕ} (tag : List ℕ) (count : ℕ) (before after : OpenQuery W) (held held' : Option (List ℕ)) (from to : ℕ) (result : Result Turn Failed) : Type 0 where
   pub tag_same : after.tag ≡ before.tag
   pub asked : asked_of after ≡ asked_of before
-  pub reads : ReadsOn (asked_of before) (standing_of before) (standing_of after) from to
+  pub reads : PollsOn (asked_of before) (standing_of before) (standing_of after) from to
   pub wrote : IsCounted before → Writes held held' result (text (next_replies tag count before.given (asked_of before).hits))
   pub given : IsCounted before → OnOk result (IsGiven count before after)
 

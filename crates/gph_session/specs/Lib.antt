@@ -1,14 +1,8 @@
-pub mod State
-pub mod Ledger
-pub mod Entries
-pub mod QuerySteps
-pub mod Step
-pub mod Run
-pub mod Outcomes
-pub mod Held
+pub mod Cursors
 pub mod Writing
 pub mod GivenHits
 pub mod Asking
 pub mod Changing
 pub mod Meaning
 pub mod Flow
+pub mod Serving

@@ -1,85 +1,111 @@
 -- How the session's fields mean a state. No public clause cites this module.
-use Rattle.std.specs.Prelude.{◌≡◌, ℕ, ◌≤◌, true, List, [], ◌∷◌, length, take}
+use Rattle.std.specs.Prelude.{◌≡◌, ℕ, ◌≤◌, true, false, None, List, [], ◌∷◌, length, take}
+use Rattle.std.specs.List.{AllByRecursion}
+use Rattle.std.specs.Arc.{arc_value}
+use Rattle.hamming_model.specs.declared.limits.TheConstants.{ENTRIES_MOST, ROOM_MOST}
 use Rattle.hamming_model.specs.Stored.{AreCodes}
 use Rattle.hamming_model.specs.History.{JournalEntry, rows_of}
+use Rattle.hamming_model.specs.Layouts.{IsLayout}
 use Rattle.hamming_model.specs.Scan.{Ask}
 use Rattle.hamming_model.specs.Scan as ask
 use Rattle.hit_source.specs.Sources.{Asked, IsLawful}
 use Rattle.shard_version.specs.Contents.{Contents}
 use Rattle.shard_query.specs.Opening.{AsksRange}
 use Rattle.part_layout.specs.declared.config.Config.{Config}
+use Rattle.part_layout.specs.Contiguous.{contiguous}
 use Rattle.part_layout.specs.Laid.{Laid}
 use Rattle.gph_codes.specs.Allowed.{IsAllowed}
+use Rattle.session_model.specs.State.{Query, State, open_queries}
+use Rattle.session_model.specs.Ledger.{IsBounded}
 use Rattle.gph_session.specs.declared.open_query.OpenQuery.{OpenQuery}
-use Rattle.gph_session.specs.State.{Query, State}
-use Rattle.gph_session.specs.Ledger.{layout_of, IsBound}
-use Rattle.gph_session.specs.Held.{asked_of, standing_of}
+use Rattle.gph_session.specs.declared.session.Session.{Session}
+use Rattle.gph_session.specs.Cursors.{asked_of, standing_of}
 
--- the layout of a session's versions
+-- the layout of a session's one shard
+abbrev pub layout_of : Config → List (List ℕ)
+layout_of config = contiguous config.bits config.parts
+
+-- the same with its number of bits
 abbrev pub laid_of : Config → Laid
 laid_of config = record { bits = config.bits; parts = layout_of config }
 
 -- the one shard of a session after a history
 abbrev pub contents_of : Config → List JournalEntry → Contents
-contents_of config history =
-    record { shard = 0; shards = 1; at = length history; layout = laid_of config; rows = rows_of history }
+contents_of config history = record {
+  shard = 0;
+  shards = 1;
+  at = length history;
+  layout = laid_of config;
+  rows = rows_of history;
+}
+
+-- the contents of a session's version
+abbrev pub contents_in : {W : ℕ} → Session W → Contents
+contents_in session = (arc_value session.version).contents
 
 -- what a source is asked is this question on the rows of a history
 abbrev pub AsksOn : Ask → Config → List JournalEntry → Asked → Type 0
-AsksOn (ask.Range tau code) config history asked = AsksRange (contents_of config history) code tau config.room asked
+AsksOn (ask.Range tau code) config history asked =
+    AsksRange (contents_of config history) code tau config.room asked
 AsksOn (ask.Near number code) config history asked = ⊥
 
--- a query in memory is this one of the state, in a history
-pub record Keeps {W : ℕ} (config : Config) (history : List JournalEntry) (held : OpenQuery W) (query : Query) : Type 0 where
-  pub tag : held.tag ≡ query.tag
+-- a cursor is this open query of the state, in a history
+pub record Keeps {W : ℕ} (config : Config) (history : List JournalEntry) (cursor : OpenQuery W)
+    (query : Query) : Type 0 where
+  pub tag : cursor.tag ≡ query.tag
   pub within : query.position ≤ length history
-  pub asks : AsksOn query.ask config (take query.position history) (asked_of held)
-  pub few : length (asked_of held).hits ≤ 1048576
-  pub given : held.given ≡ query.given
-  pub counted : held.given ≡ (standing_of held).given
-  pub done : held.done ≡ query.done
-  pub lawful : IsLawful (asked_of held) (standing_of held)
-  pub ended : query.done ≡ true → (standing_of held).ended ≡ true
-  pub told : query.told_reads ≤ (standing_of held).reads
-  pub told_done : query.told_all ≡ true → query.done ≡ true
-  pub told_all : query.told_all ≡ true → (standing_of held).reads ≡ query.told_reads
+  pub asks : AsksOn query.ask config (take query.position history) (asked_of cursor)
+  pub few : length (asked_of cursor).hits ≤ ENTRIES_MOST
+  pub pinned : query.pinned ≡ layout_of config ∷ []
+  pub given : cursor.given ≡ query.given
+  pub counted : cursor.given ≡ (standing_of cursor).given
+  pub done : cursor.done ≡ query.done
+  pub lawful : IsLawful (asked_of cursor) (standing_of cursor)
+  pub ended : query.done ≡ true → (standing_of cursor).ended ≡ true
+  pub reads : query.reads ≡ (standing_of cursor).reads ∷ []
+  pub opened : query.closed ≡ false
 
--- a query in memory has read what the state's query may have read
-pub record HasRead {W : ℕ} (config : Config) (history : List JournalEntry) (held : OpenQuery W) (query : Query) : Type 0 where
-  pub bound : ℕ
-  pub is_bound : IsBound config history query bound
-  pub within : (standing_of held).reads ≤ bound
-  pub told : query.told_reads ≤ (standing_of held).reads
-  pub told_all : query.told_all ≡ true → (standing_of held).reads ≡ query.told_reads
-
--- the queries in memory are those of the state, in their order
+-- the cursors are these queries, in their order
 abbrev pub AllKeep : {W : ℕ} → Config → List JournalEntry → List (OpenQuery W) → List Query → Type 0
 AllKeep config history [] [] = Unit {0}
 AllKeep config history [] (query ∷ queries) = ⊥
-AllKeep config history (held ∷ helds) [] = ⊥
-AllKeep config history (held ∷ helds) (query ∷ queries) = Keeps config history held query × AllKeep config history helds queries
+AllKeep config history (cursor ∷ cursors) [] = ⊥
+AllKeep config history (cursor ∷ cursors) (query ∷ queries) =
+    Keeps config history cursor query × AllKeep config history cursors queries
 
--- the queries in memory have read what those of the state may have read
-abbrev pub AllRead : {W : ℕ} → Config → List JournalEntry → List (OpenQuery W) → List Query → Type 0
-AllRead config history [] [] = Unit {0}
-AllRead config history [] (query ∷ queries) = ⊥
-AllRead config history (held ∷ helds) [] = ⊥
-AllRead config history (held ∷ helds) (query ∷ queries) = HasRead config history held query × AllRead config history helds queries
+-- a query, open or closed, stands in the history and has read within its bounds
+pub record IsSettled (config : Config) (history : List JournalEntry) (query : Query) : Type 0 where
+  pub within : query.position ≤ length history
+  pub bounded : IsBounded config history query
 
--- the fields mean a state of a session that is alone, in the history so far
-pub record Means (W : ℕ) (config : Config) (version : Contents) (queries : List (OpenQuery W)) (history : List JournalEntry) (s : State) : Type 0 where
+-- the version and the cursors mean a state of a session that is alone, in the history so far
+pub record MeansBy (W : ℕ) (config : Config) (version : Contents) (cursors : List (OpenQuery W))
+    (history : List JournalEntry) (s : State) : Type 0 where
   pub version_is : version ≡ contents_of config history
   pub codes : AreCodes config.bits history
-  pub keep : AllKeep config history queries s.queries
+  pub keep : AllKeep config history cursors (open_queries s.queries)
+  pub settled : AllByRecursion (IsSettled config history) s.queries
   pub position : s.position ≡ length history
   pub who : s.who ≡ 0
+  pub layouts : s.layouts ≡ layout_of config ∷ []
+  pub no_build : s.build ≡ None
+
+-- a session means a state in a history
+abbrev pub Means : {W : ℕ} → Session W → List JournalEntry → State → Type 0
+Means {W} session history s =
+    MeansBy W session.config (contents_in session) session.queries.items history s
 
 -- what a session was asked to be fits its words, and its version has the one shard's layout
-pub record IsReady (W : ℕ) (config : Config) (version : Contents) : Type 0 where
+pub record IsReadyBy (W : ℕ) (config : Config) (version : Contents) : Type 0 where
   pub allowed : IsAllowed W config.bits
   pub some_room : 1 ≤ config.room
-  pub small_room : config.room ≤ 256
-  pub few_entries : config.entries ≤ 1048576
+  pub small_room : config.room ≤ ROOM_MOST
+  pub few_entries : config.entries ≤ ENTRIES_MOST
+  pub alone : config.shards ≡ 1
   pub one_shard : version.shards ≡ 1
   pub laid : version.layout ≡ laid_of config
-  pub few_parts : length (layout_of config) ≤ 64
+  pub layout : IsLayout config.bits (layout_of config)
+
+-- a session is so
+abbrev pub IsReady : {W : ℕ} → Session W → Type 0
+IsReady {W} session = IsReadyBy W session.config (contents_in session)

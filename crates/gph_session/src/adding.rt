@@ -5,7 +5,7 @@ ghost use Rattle.std.specs.Arc.{arc_value};
 ghost use Rattle.hamming_model.specs.History.{code_at};
 ghost use Rattle.hamming_model.specs.declared.limits.TheConstants.{ENTRIES_MOST};
 ghost use Rattle.query_protocol.specs.Replies.{line_of};
-ghost use Rattle.gph_session.specs.Changing.{AddsAs, StandsIn, with_row};
+ghost use Rattle.gph_session.specs.Changing.{AddsAs, IsCodeFor, with_row, reply_to_add};
 
 use entry_log::{Decision, Entry, Op, decide};
 use gph_codes::Code;
@@ -16,6 +16,29 @@ use shard_version::Version;
 use std::alloc::Global;
 use std::sync::Arc;
 
+/// What became of an `add`: its place in the history, or how many entries it found there.
+#[derive(Clone, Copy)]
+pub(crate) enum Adding {
+    Added { at: u64 },
+    Taken { at: u64 },
+    Full { at: u64 },
+    NoMemory,
+}
+
+impl Adding {
+    /// The reply to an `add` of this key.
+    pub(crate) fn reply(self, key: u64) -> Reply
+        ensures { line_of result ≡ reply_to_add key self }
+    {
+        match self {
+            Adding::Added { at } => Reply::Added { key, at },
+            Adding::Taken { at } => Reply::Taken { key, at },
+            Adding::Full { at } => Reply::Full { at },
+            Adding::NoMemory => Reply::NoMemory,
+        }
+    }
+}
+
 /// Commits an entry that adds a row, where at most `limit` entries may stand, and says what came of it. The version that was
 /// there before stays as it is for the queries that stand on it.
 pub(crate) fn add<const W: usize>(
@@ -24,12 +47,13 @@ pub(crate) fn add<const W: usize>(
     limit: u64,
     key: u64,
     code: Code<W>,
-) -> Reply
+) -> Adding
     requires few_words { W ≤ 8 }
     requires few_entries { limit ≤ ENTRIES_MOST }
     requires one_shard { (arc_value version.old).contents.shards ≡ 1 }
-    requires code { StandsIn W (arc_value version.old).contents code }
-    ensures { AddsAs (arc_value version.old).contents limit key code.entry (line_of result) (arc_value version.new).contents }
+    requires code { IsCodeFor W (arc_value version.old).contents code }
+    ensures { AddsAs (arc_value version.old).contents limit key code.entry result
+        (arc_value version.new).contents }
 {
     let op = Op::Add { key, code };
     match decide(&op, version.has_key(key), version.at(), limit) {
@@ -37,15 +61,12 @@ pub(crate) fn add<const W: usize>(
             Ok(next) => {
                 let at = next.at();
                 *version = next;
-                Reply::Added { key, at }
+                Adding::Added { at }
             }
-            Err(NoMemory) => Reply::NoMemory,
+            Err(NoMemory) => Adding::NoMemory,
         },
-        Decision::Taken => Reply::Taken {
-            key,
-            at: version.at(),
-        },
-        Decision::Full => Reply::Full { at: version.at() },
+        Decision::Taken => Adding::Taken { at: version.at() },
+        Decision::Full => Adding::Full { at: version.at() },
         // An operation that adds is never decided so.
         Decision::Deleted | Decision::Absent => unreachable!(),
     }
@@ -60,9 +81,10 @@ fn added_to<const W: usize>(
 ) -> Result<Arc<Version<W>>, NoMemory>
     requires few_words { W ≤ 8 }
     requires room { version.now.contents.at < ENTRIES_MOST }
-    requires code { StandsIn W version.now.contents code }
+    requires code { IsCodeFor W version.now.contents code }
     requires absent { code_at version.now.contents.rows key ≡ None }
-    ensures { IfOk result (λ next. (arc_value next).contents ≡ with_row version.now.contents key code.entry) }
+    ensures { IfOk result (λ next. (arc_value next).contents
+        ≡ with_row version.now.contents key code.entry) }
 {
     let entry = Entry {
         who: 0,

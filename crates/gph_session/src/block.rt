@@ -1,12 +1,9 @@
 //! Bytes as they come.
 
-ghost use Rattle.std.specs.Prelude.{◌≡◌, ℕ, ◌+◌, ◌<◌, ◌≤◌, List, ◌++◌, length, take};
-ghost use Rattle.std.specs.Arc.{arc_value};
-ghost use Rattle.std.specs.Io.KnownBytes.{Appends};
+ghost use Rattle.std.specs.Prelude.{◌≡◌, ◌<◌, ◌≤◌, length, take};
 ghost use Rattle.gph_session.specs.Meaning.{IsReady};
-ghost use Rattle.gph_session.specs.Held.{reads_of};
 ghost use Rattle.gph_session.specs.Writing.{IsCaused};
-ghost use Rattle.gph_session.specs.Flow.{Stands, FlowIs, EndIs};
+ghost use Rattle.gph_session.specs.Flow.{FlowsOn, EndsOn};
 
 use crate::session::{Session, Turn, answer};
 use line_io::{Failed, Sink};
@@ -20,14 +17,11 @@ pub(crate) fn answer_block<const W: usize, K: Sink, L>(
     steps: &mut Steps<L>,
 ) -> Result<Turn, Failed>
     requires few_words { W ≤ 8 }
-    requires ready { IsReady W session.old.config (arc_value session.old.version).contents }
-    ensures flow { (bytes output : List ℕ) →
-        Stands W session.old.config bytes output (arc_value session.old.version).contents session.old.queries.items session.old.cutter.held →
-        (more : List ℕ) × Appends (K.held sink.old) (K.held sink.new) more
-        × FlowIs result W session.old.config (bytes ++ block.now) (output ++ more) (arc_value session.new.version).contents session.new.queries.items session.new.cutter.held }
-    ensures ready { IsReady W session.new.config (arc_value session.new.version).contents }
+    requires ready { IsReady session.old }
+    ensures flow { FlowsOn result session.old session.new block.now (K.held sink.old) (K.held sink.new)
+        steps.old steps.new }
+    ensures ready { IsReady session.new }
     ensures config { session.new.config ≡ session.old.config }
-    ensures ledger { steps.new + reads_of session.old.queries.items ≡ steps.old + reads_of session.new.queries.items }
     ensures cause { IsCaused (K.faults sink.old) (K.faults sink.new) result }
 {
     let mut done = 0;
@@ -50,16 +44,13 @@ fn answer_line<const W: usize, K: Sink, L>(
     steps: &mut Steps<L>,
 ) -> (usize, Result<Turn, Failed>)
     requires few_words { W ≤ 8 }
-    requires ready { IsReady W session.old.config (arc_value session.old.version).contents }
+    requires ready { IsReady session.old }
     requires some { 0 < length bytes.now }
     ensures progress { (0 < result.0) × (result.0 ≤ length bytes.now) }
-    ensures flow { (before output : List ℕ) →
-        Stands W session.old.config before output (arc_value session.old.version).contents session.old.queries.items session.old.cutter.held →
-        (more : List ℕ) × Appends (K.held sink.old) (K.held sink.new) more
-        × FlowIs result.1 W session.old.config (before ++ take result.0 bytes.now) (output ++ more) (arc_value session.new.version).contents session.new.queries.items session.new.cutter.held }
-    ensures ready { IsReady W session.new.config (arc_value session.new.version).contents }
+    ensures flow { FlowsOn result.1 session.old session.new (take result.0 bytes.now) (K.held sink.old)
+        (K.held sink.new) steps.old steps.new }
+    ensures ready { IsReady session.new }
     ensures config { session.new.config ≡ session.old.config }
-    ensures ledger { steps.new + reads_of session.old.queries.items ≡ steps.old + reads_of session.new.queries.items }
     ensures cause { IsCaused (K.faults sink.old) (K.faults sink.new) result.1 }
 {
     let (taken, cut) = session.cutter.push(bytes);
@@ -76,11 +67,8 @@ pub(crate) fn answer_end<const W: usize, K: Sink, L>(
     steps: &mut Steps<L>,
 ) -> Result<Turn, Failed>
     requires few_words { W ≤ 8 }
-    requires ready { IsReady W session.old.config (arc_value session.old.version).contents }
-    ensures flow { (bytes output : List ℕ) →
-        Stands W session.old.config bytes output (arc_value session.old.version).contents session.old.queries.items session.old.cutter.held →
-        (more : List ℕ) × Appends (K.held sink.old) (K.held sink.new) more × EndIs result session.old.config bytes (output ++ more) (reads_of session.new.queries.items) }
-    ensures ledger { steps.new + reads_of session.old.queries.items ≡ steps.old + reads_of session.new.queries.items }
+    requires ready { IsReady session.old }
+    ensures flow { EndsOn result session.old (K.held sink.old) (K.held sink.new) steps.old steps.new }
     ensures cause { IsCaused (K.faults sink.old) (K.faults sink.new) result }
 {
     match session.cutter.finish() {

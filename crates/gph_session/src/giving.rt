@@ -24,7 +24,8 @@ pub(crate) fn give<const W: usize, K: Sink, L>(
     sink: &mut K,
     steps: &mut Steps<L>,
 ) -> Result<Turn, Failed>
-    ensures gives { GivesAs queries.old.items tag.now count (K.held sink.old) (K.held sink.new) steps.old steps.new result queries.new.items }
+    ensures gives { GivesAs queries.old.items tag.now count (K.held sink.old) (K.held sink.new)
+        steps.old steps.new result queries.new.items }
     ensures cause { IsCaused (K.faults sink.old) (K.faults sink.new) result }
     ensures goes { IfOk result (λ turn. turn ≡ Turn.Goes) }
 {
@@ -43,7 +44,8 @@ fn give_query<const W: usize, K: Sink, L>(
     sink: &mut K,
     steps: &mut Steps<L>,
 ) -> Result<Turn, Failed>
-    ensures gives { GivesQuery tag.now count query.old query.new (K.held sink.old) (K.held sink.new) steps.old steps.new result }
+    ensures gives { GivesQuery tag.now count query.old query.new (K.held sink.old) (K.held sink.new)
+        steps.old steps.new result }
     ensures cause { IsCaused (K.faults sink.old) (K.faults sink.new) result }
     ensures goes { IfOk result (λ turn. turn ≡ Turn.Goes) }
 {
@@ -76,8 +78,8 @@ fn give_hits<H: HitSource, K: Sink, L>(
     sink: &mut K,
     steps: &mut Steps<L>,
 ) -> Result<u32, Failed>
-    ensures gives { GivesHits (H.asked source.old) tag.now count (H.standing source.old) (H.standing source.new)
-        (K.held sink.old) (K.held sink.new) steps.old steps.new result }
+    ensures gives { GivesHits (H.asked source.old) tag.now count (H.standing source.old)
+        (H.standing source.new) (K.held sink.old) (K.held sink.new) steps.old steps.new result }
     ensures asked { H.asked source.new ≡ H.asked source.old }
     ensures cause { IsCaused (K.faults sink.old) (K.faults sink.new) result }
 {
@@ -100,7 +102,8 @@ fn give_hits<H: HitSource, K: Sink, L>(
 
 // Polls a source until a hit waits or it has ended.
 fn fill<H: HitSource, L>(source: &mut H, steps: &mut Steps<L>)
-    ensures fills { FillsUp (H.asked source.old) (H.standing source.old) (H.standing source.new) steps.old steps.new }
+    ensures fills { FillsUp (H.asked source.old) (H.standing source.old) (H.standing source.new)
+        steps.old steps.new }
     ensures asked { H.asked source.new ≡ H.asked source.old }
 {
     while source.head().is_none() {

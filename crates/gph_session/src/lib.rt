@@ -8,12 +8,11 @@ mod costing;
 mod giving;
 mod open_query;
 mod opening;
-mod outcome;
 mod output;
 mod planning;
 mod serve;
 mod session;
 mod top;
 
-pub use outcome::Outcome;
+pub use session_model::Outcome;
 pub use top::run;

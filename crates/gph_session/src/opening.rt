@@ -2,8 +2,9 @@
 
 ghost use Rattle.std.specs.Prelude.{◌≡◌, ◌*◌, ◌++◌, ◌≤◌, [], ◌∷◌, ℕ, OnErr, OnOk};
 ghost use Rattle.std.specs.Arc.{arc_value};
+ghost use Rattle.hamming_model.specs.declared.limits.TheConstants.{ROOM_MOST};
 ghost use Rattle.query_protocol.specs.Replies.{line_of};
-ghost use Rattle.gph_session.specs.Changing.{OpensAs, StandsIn};
+ghost use Rattle.gph_session.specs.Changing.{OpensAs, IsCodeFor, reply_to_open};
 
 use crate::open_query::{MOST_OPEN, OpenQuery, place_of};
 use gph_codes::Code;
@@ -14,6 +15,29 @@ use shard_version::Version;
 use std::alloc::Global;
 use std::sync::Arc;
 
+/// What became of a `range`: the prefix that its query stands on, or why there is no query.
+#[derive(Clone, Copy)]
+pub(crate) enum Opening {
+    Open { at: u64 },
+    Used,
+    Many,
+    NoMemory,
+}
+
+impl Opening {
+    /// The reply to an opening of this tag.
+    pub(crate) fn reply(self, tag: &Tag) -> Reply
+        ensures { line_of result ≡ reply_to_open tag.now self }
+    {
+        match self {
+            Opening::Open { at } => Reply::Open { tag: *tag, at },
+            Opening::Used => Reply::Bad(Bad::tag_in_use()),
+            Opening::Many => Reply::Bad(Bad::too_many_queries()),
+            Opening::NoMemory => Reply::NoMemory,
+        }
+    }
+}
+
 /// Opens a query for all codes of a version at most `tau` away, of whose hits `room` may wait, and says what came of it.
 pub(crate) fn open<const W: usize>(
     alloc: Global,
@@ -23,25 +47,26 @@ pub(crate) fn open<const W: usize>(
     tag: Tag,
     tau: u32,
     code: Code<W>,
-) -> Reply
+) -> Opening
     requires few_words { W ≤ 8 }
-    requires code { StandsIn W (arc_value version.now).contents code }
+    requires code { IsCodeFor W (arc_value version.now).contents code }
     requires near { tau ≤ (arc_value version.now).contents.layout.bits }
     requires some_room { 1 ≤ room }
-    requires small_room { room ≤ 256 }
-    ensures { OpensAs (arc_value version.now).contents room queries.old.items tag tau code.entry (line_of result) queries.new.items }
+    requires small_room { room ≤ ROOM_MOST }
+    ensures { OpensAs (arc_value version.now).contents room queries.old.items tag tau code.entry result
+        queries.new.items }
 {
-    if place_of(queries, &tag).is_some() {
-        return Reply::Bad(Bad::tag_in_use());
+    if let Some(_place) = place_of(queries, &tag) {
+        return Opening::Used;
     }
     if queries.len() >= MOST_OPEN {
-        return Reply::Bad(Bad::too_many_queries());
+        return Opening::Many;
     }
     let Ok(pinned) = version.clone() else {
-        return Reply::NoMemory;
+        return Opening::NoMemory;
     };
     let Ok(task) = RangeTask::open(alloc, pinned, code, tau, room as usize) else {
-        return Reply::NoMemory;
+        return Opening::NoMemory;
     };
     let query = OpenQuery {
         tag,
@@ -50,11 +75,8 @@ pub(crate) fn open<const W: usize>(
         done: false,
     };
     match put(queries, query) {
-        Ok(()) => Reply::Open {
-            tag,
-            at: version.at(),
-        },
-        Err(NoMemory) => Reply::NoMemory,
+        Ok(()) => Opening::Open { at: version.at() },
+        Err(NoMemory) => Opening::NoMemory,
     }
 }
 

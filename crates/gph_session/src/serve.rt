@@ -1,20 +1,17 @@
 //! A session from its first read to its end.
 
-ghost use Rattle.std.specs.Prelude.{◌≡◌, ℕ, ◌+◌, ◌<◌, ◌≤◌, [], length};
-ghost use Rattle.std.specs.Arc.{arc_value};
+ghost use Rattle.std.specs.Prelude.{◌≡◌, ◌≤◌, [], length};
+ghost use Rattle.session_model.specs.declared.limits.TheConstants.{BLOCK_MOST};
+ghost use Rattle.session_model.specs.Outcomes.{ends};
 ghost use Rattle.gph_session.specs.Meaning.{IsReady};
-ghost use Rattle.gph_session.specs.Held.{reads_of};
-ghost use Rattle.gph_session.specs.Flow.{Stands};
-ghost use Rattle.gph_session.specs.Outcomes.{Ends, EndsAs};
+ghost use Rattle.gph_session.specs.Flow.{HasAnswered};
+ghost use Rattle.gph_session.specs.Serving.{EndsAs};
 
-use crate::Outcome;
 use crate::block::{answer_block, answer_end};
 use crate::session::{Session, Turn};
 use line_io::{Failed, Sink, Source};
 use read_meter::Steps;
-
-/// The most bytes of a read.
-pub(crate) const BLOCK: usize = 4096;
+use session_model::{BLOCK_MOST, Outcome};
 
 /// Reads and answers, at most the input's limit, until the input ends or a line ends the session.
 pub(crate) fn serve<const W: usize, S: Source, K: Sink, L>(
@@ -25,21 +22,18 @@ pub(crate) fn serve<const W: usize, S: Source, K: Sink, L>(
     steps: &mut Steps<L>,
 ) -> Outcome
     requires few_words { W ≤ 8 }
-    requires ready { IsReady W session.old.config (arc_value session.old.version).contents }
-    requires room { length block.old ≡ BLOCK }
-    requires new { Stands W session.old.config [] [] (arc_value session.old.version).contents session.old.queries.items session.old.cutter.held }
-    ensures ends { EndsAs result session.old.config
-        (record { bytes = S.left source.old; faults = S.faults source.old })
-        (record { bytes = S.left source.new; faults = S.faults source.new })
-        (record { bytes = K.held sink.old; faults = K.faults sink.old })
-        (record { bytes = K.held sink.new; faults = K.faults sink.new })
-        (reads_of session.new.queries.items) }
-    ensures ledger { steps.new + reads_of session.old.queries.items ≡ steps.old + reads_of session.new.queries.items }
+    requires ready { IsReady session.old }
+    requires room { length block.old ≡ BLOCK_MOST }
+    requires new { HasAnswered session.old steps.old steps.old [] [] }
+    ensures { EndsAs result session.old.config
+        (ends (S.left source.old) (S.faults source.old)) (ends (S.left source.new) (S.faults source.new))
+        (ends (K.held sink.old) (K.faults sink.old)) (ends (K.held sink.new) (K.faults sink.new))
+        steps.old steps.new }
 {
     let limit = session.config.input;
     let mut taken: u64 = 0;
     loop {
-        let room = (limit - taken).clamp(1, BLOCK as u64) as usize;
+        let room = (limit - taken).clamp(1, BLOCK_MOST as u64) as usize;
         match source.read(&mut block[..room]) {
             Err(Failed) => return Outcome::ReadFault,
             Ok(0) => {

@@ -1,17 +1,15 @@
 //! One session: what it holds, and its answer to one line.
 
-ghost use Rattle.std.specs.Prelude.{◌≡◌, ◌*◌, ◌+◌, ◌≤◌, ℕ, List, [], ◌∷◌, IfOk, IfSome, Some, Ok};
+ghost use Rattle.std.specs.Prelude.{◌≡◌, ◌*◌, ◌≤◌, ℕ, List, [], ◌∷◌, IfOk, Some, Ok};
 ghost use Rattle.std.specs.Arc.{arc_value};
-ghost use Rattle.hamming_model.specs.History.{JournalEntry};
-ghost use Rattle.query_protocol.specs.Requests.{reading, stored_reading, IsFit};
-ghost use Rattle.line_io.specs.Kept.{kept, TellsOf};
+ghost use Rattle.query_protocol.specs.Requests.{reading, unstored, IsFit, IsFitReading, ReadsAs};
+ghost use Rattle.line_io.specs.Cut.{held_of, TellsOf};
 ghost use Rattle.gph_codes.specs.Allowed.{IsAllowed};
 ghost use Rattle.part_layout.specs.Ranges.{IsConfig};
-ghost use Rattle.gph_session.specs.State.{State};
-ghost use Rattle.gph_session.specs.Held.{reads_of};
-ghost use Rattle.gph_session.specs.Meaning.{Means, IsReady, contents_of, laid_of};
+ghost use Rattle.part_layout.specs.Laid.{IsLaid};
+ghost use Rattle.gph_session.specs.Meaning.{IsReady, contents_in, contents_of, laid_of};
 ghost use Rattle.gph_session.specs.Writing.{IsCaused};
-ghost use Rattle.gph_session.specs.Flow.{TurnIs};
+ghost use Rattle.gph_session.specs.Flow.{AnswersAs};
 
 use crate::adding::add;
 use crate::costing::cost;
@@ -55,9 +53,10 @@ pub(crate) fn new_session<const W: usize>(
     requires room { config.now.bits ≤ 64 * W }
     requires config { IsConfig config.now }
     ensures config { IfOk result (λ session. session.config ≡ config.now) }
-    ensures version { IfOk result (λ session. (arc_value session.version).contents ≡ contents_of config.now []) }
+    ensures version { IfOk result (λ session. contents_in session ≡ contents_of config.now []) }
+    ensures laid { IfOk result (λ _. IsLaid (laid_of config.now)) }
     ensures queries { IfOk result (λ session. session.queries.items ≡ []) }
-    ensures cutter { IfOk result (λ session. session.cutter.held ≡ kept []) }
+    ensures cutter { IfOk result (λ session. session.cutter.held ≡ held_of []) }
 {
     let Ok(version) = first_version(alloc, config) else {
         return Err(NoMemory);
@@ -89,7 +88,8 @@ fn first_version<const W: usize>(
     requires few_words { W ≤ 8 }
     requires room { config.now.bits ≤ 64 * W }
     requires config { IsConfig config.now }
-    ensures { IfOk result (λ version. (arc_value version).contents ≡ contents_of config.now []) }
+    ensures first { IfOk result (λ version. (arc_value version).contents ≡ contents_of config.now []) }
+    ensures laid { IfOk result (λ _. IsLaid (laid_of config.now)) }
 {
     let Ok(layout) = starting_layout(alloc, config) else {
         return Err(NoMemory);
@@ -109,10 +109,15 @@ fn first_version<const W: usize>(
 // The contiguous layout. What a session may be asked can be cut so, and only memory may be wanting.
 fn starting_layout(alloc: Global, config: &Config) -> Result<Layout, NoMemory>
     requires { IsConfig config.now }
-    ensures { IfOk result (λ layout. layout ≡ laid_of config.now) }
+    ensures value { IfOk result (λ layout. layout ≡ laid_of config.now) }
+    ensures laid { IfOk result (λ _. IsLaid (laid_of config.now)) }
 {
     match Layout::contiguous(alloc, config.bits, config.parts) {
-        Ok(layout) => Ok(layout),
+        Ok(layout) => {
+            // Each exchange tells a layout: the call says that this is one.
+            let _parts = layout.parts();
+            Ok(layout)
+        }
         Err(LayoutFault::NoMemory) => Err(NoMemory),
         Err(_) => unreachable!(),
     }
@@ -126,15 +131,13 @@ pub(crate) fn answer<const W: usize, K: Sink, L>(
     steps: &mut Steps<L>,
 ) -> Result<Turn, Failed>
     requires few_words { W ≤ 8 }
-    requires ready { IsReady W session.old.config (arc_value session.old.version).contents }
-    ensures answers { (history : List JournalEntry) (s : State) →
-        Means W session.old.config (arc_value session.old.version).contents session.old.queries.items history s →
-        (line : List ℕ) → TellsOf (Some cut) session.old.cutter.line (line ∷ []) →
-        TurnIs result W session.old.config history s line (K.held sink.old) (K.held sink.new) (arc_value session.new.version).contents session.new.queries.items }
+    requires ready { IsReady session.old }
+    ensures answers { (line : List ℕ) → TellsOf (Some cut) session.old.cutter.line (line ∷ []) →
+        AnswersAs result session.old session.new line (K.held sink.old) (K.held sink.new)
+        steps.old steps.new }
     ensures cutter { session.new.cutter ≡ session.old.cutter }
-    ensures ready { IsReady W session.new.config (arc_value session.new.version).contents }
+    ensures ready { IsReady session.new }
     ensures config { session.new.config ≡ session.old.config }
-    ensures ledger { steps.new + reads_of session.old.queries.items ≡ steps.old + reads_of session.new.queries.items }
     ensures cause { IsCaused (K.faults sink.old) (K.faults sink.new) result }
 {
     match read_cut(&session.config, &session.cutter, cut) {
@@ -152,26 +155,25 @@ fn meet<const W: usize, K: Sink, L>(
     steps: &mut Steps<L>,
 ) -> Result<Turn, Failed>
     requires few_words { W ≤ 8 }
-    requires ready { IsReady W session.old.config (arc_value session.old.version).contents }
+    requires ready { IsReady session.old }
     requires fit { IsFit W session.old.config.bits request }
-    ensures answers { (history : List JournalEntry) (s : State) →
-        Means W session.old.config (arc_value session.old.version).contents session.old.queries.items history s →
-        (line : List ℕ) → Ok (Some request.entry) ≡ stored_reading W (reading session.old.config line) →
-        TurnIs result W session.old.config history s line (K.held sink.old) (K.held sink.new) (arc_value session.new.version).contents session.new.queries.items }
+    ensures answers { (line : List ℕ) →
+        Ok (Some (unstored session.old.config.bits request.entry)) ≡ reading session.old.config line →
+        AnswersAs result session.old session.new line (K.held sink.old) (K.held sink.new)
+        steps.old steps.new }
     ensures cutter { session.new.cutter ≡ session.old.cutter }
-    ensures ready { IsReady W session.new.config (arc_value session.new.version).contents }
+    ensures ready { IsReady session.new }
     ensures config { session.new.config ≡ session.old.config }
-    ensures ledger { steps.new + reads_of session.old.queries.items ≡ steps.old + reads_of session.new.queries.items }
     ensures cause { IsCaused (K.faults sink.old) (K.faults sink.new) result }
 {
     match request {
         Request::Add { key, code } => {
             let limit = session.config.entries;
-            let reply = add(session.alloc, &mut session.version, limit, key, code);
-            say(&mut session.out, sink, &reply)
+            let adding = add(session.alloc, &mut session.version, limit, key, code);
+            say(&mut session.out, sink, &adding.reply(key))
         }
         Request::Range { tag, tau, code } => {
-            let reply = open(
+            let opening = open(
                 session.alloc,
                 &session.version,
                 session.config.room,
@@ -180,7 +182,7 @@ fn meet<const W: usize, K: Sink, L>(
                 tau,
                 code,
             );
-            say(&mut session.out, sink, &reply)
+            say(&mut session.out, sink, &opening.reply(&tag))
         }
         Request::Next { tag, n } => give(
             &mut session.queries,
@@ -216,8 +218,9 @@ fn read_cut<const W: usize>(
 ) -> Result<Option<Request<W>>, Bad>
     requires few_words { W ≤ 8 }
     requires allowed { IsAllowed W config.now.bits }
-    ensures reads { (line : List ℕ) → TellsOf (Some cut) cutter.now.line (line ∷ []) → result ≡ stored_reading W (reading config.now line) }
-    ensures fit { IfOk result (λ asked. IfSome asked (IsFit W config.now.bits)) }
+    ensures reads { (line : List ℕ) → TellsOf (Some cut) cutter.now.line (line ∷ []) →
+        ReadsAs W config.now.bits result (reading config.now line) }
+    ensures fit { IsFitReading W config.now.bits result }
 {
     match cut {
         Cut::Line => read_line(config, cutter.line()),

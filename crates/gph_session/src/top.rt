@@ -4,16 +4,19 @@ ghost use Rattle.std.specs.Prelude.{◌≡◌, ℕ, ◌↔◌, ◌≤◌, map, s
 ghost use Rattle.gph_codes.specs.Allowed.{IsAllowed};
 ghost use Rattle.part_layout.specs.Ranges.{IsConfig};
 ghost use Rattle.command_line.specs.CommandWords.{IsPinned, asked};
-ghost use Rattle.gph_session.specs.Outcomes.{Untouched, IsDone, IsReadFault, IsWriteFault, IsInputLimit, ServesAs, ForConfig, IsComplete, IsUnread, ends};
+ghost use Rattle.session_model.specs.Run.{IsRunAlone};
+ghost use Rattle.session_model.specs.Outcomes.{Untouched, IsDone, IsReadFault, IsWriteFault, IsInputLimit};
+ghost use Rattle.session_model.specs.Outcomes.{ForConfig, IsComplete, IsUnread, ends};
+ghost use Rattle.gph_session.specs.Serving.{ServedAs};
 
-use crate::Outcome;
-use crate::serve::{BLOCK, serve};
+use crate::serve::serve;
 use crate::session::new_session;
 use command_line::read_words;
 use gph_codes::for_width;
 use line_io::{Sink, Source};
 use part_layout::Config;
 use read_meter::Meters;
+use session_model::{BLOCK_MOST, Outcome};
 use std::alloc::Global;
 
 /// Serves one session over `source` and `sink`, as the words ask: `run`, and the options `--bits`, `--parts` and `--input`. Reads
@@ -30,20 +33,25 @@ pub fn run<S: Source, K: Sink, L>(
     ensures usage { (word : ℕ) → (asked (map string_bytes words.now) ≡ Err word) ↔ (result ≡ Outcome.Usage word) }
     ensures unread { IsUnread result → Untouched
         (ends (S.left source.old) (S.faults source.old)) (ends (S.left source.new) (S.faults source.new))
-        (ends (K.held sink.old) (K.faults sink.old)) (ends (K.held sink.new) (K.faults sink.new)) meters.old meters.new }
+        (ends (K.held sink.old) (K.faults sink.old)) (ends (K.held sink.new) (K.faults sink.new))
+        meters.old meters.new }
     // What was read, written and counted, by each other outcome, with its cause.
-    ensures done { result ≡ Outcome.Done → ForConfig IsDone (asked (map string_bytes words.now))
+    ensures done { result ≡ Outcome.Done → ForConfig (IsDone IsRunAlone) (asked (map string_bytes words.now))
         (ends (S.left source.old) (S.faults source.old)) (ends (S.left source.new) (S.faults source.new))
-        (ends (K.held sink.old) (K.faults sink.old)) (ends (K.held sink.new) (K.faults sink.new)) meters.old meters.new }
-    ensures read_fault { result ≡ Outcome.ReadFault → ForConfig IsReadFault (asked (map string_bytes words.now))
+        (ends (K.held sink.old) (K.faults sink.old)) (ends (K.held sink.new) (K.faults sink.new))
+        meters.old meters.new }
+    ensures read_fault { result ≡ Outcome.ReadFault → ForConfig (IsReadFault IsRunAlone) (asked (map string_bytes words.now))
         (ends (S.left source.old) (S.faults source.old)) (ends (S.left source.new) (S.faults source.new))
-        (ends (K.held sink.old) (K.faults sink.old)) (ends (K.held sink.new) (K.faults sink.new)) meters.old meters.new }
-    ensures write_fault { result ≡ Outcome.WriteFault → ForConfig IsWriteFault (asked (map string_bytes words.now))
+        (ends (K.held sink.old) (K.faults sink.old)) (ends (K.held sink.new) (K.faults sink.new))
+        meters.old meters.new }
+    ensures write_fault { result ≡ Outcome.WriteFault → ForConfig (IsWriteFault IsRunAlone) (asked (map string_bytes words.now))
         (ends (S.left source.old) (S.faults source.old)) (ends (S.left source.new) (S.faults source.new))
-        (ends (K.held sink.old) (K.faults sink.old)) (ends (K.held sink.new) (K.faults sink.new)) meters.old meters.new }
-    ensures input_limit { result ≡ Outcome.InputLimit → ForConfig IsInputLimit (asked (map string_bytes words.now))
+        (ends (K.held sink.old) (K.faults sink.old)) (ends (K.held sink.new) (K.faults sink.new))
+        meters.old meters.new }
+    ensures input_limit { result ≡ Outcome.InputLimit → ForConfig (IsInputLimit IsRunAlone) (asked (map string_bytes words.now))
         (ends (S.left source.old) (S.faults source.old)) (ends (S.left source.new) (S.faults source.new))
-        (ends (K.held sink.old) (K.faults sink.old)) (ends (K.held sink.new) (K.faults sink.new)) meters.old meters.new }
+        (ends (K.held sink.old) (K.faults sink.old)) (ends (K.held sink.new) (K.faults sink.new))
+        meters.old meters.new }
     // No input within the limit is turned away, unless a fault rose or memory lacked.
     ensures complete { IsComplete result (asked (map string_bytes words.now))
         (ends (S.left source.old) (S.faults source.old)) (ends (S.left source.new) (S.faults source.new))
@@ -65,9 +73,10 @@ fn serve_any<S: Source, K: Sink, L>(
 ) -> Outcome
     requires config { IsConfig config.now }
     requires pinned { IsPinned config.now }
-    ensures { ServesAs result config.now
+    ensures { ServedAs result config.now
         (ends (S.left source.old) (S.faults source.old)) (ends (S.left source.new) (S.faults source.new))
-        (ends (K.held sink.old) (K.faults sink.old)) (ends (K.held sink.new) (K.faults sink.new)) meters.old meters.new }
+        (ends (K.held sink.old) (K.faults sink.old)) (ends (K.held sink.new) (K.faults sink.new))
+        meters.old meters.new }
 {
     for_width!(config.bits, serve_width<_, _, _>, alloc, config, source, sink, meters)
 }
@@ -84,14 +93,15 @@ fn serve_width<const W: usize, S: Source, K: Sink, L>(
     requires allowed { IsAllowed W config.now.bits }
     requires config { IsConfig config.now }
     requires pinned { IsPinned config.now }
-    ensures { ServesAs result config.now
+    ensures { ServedAs result config.now
         (ends (S.left source.old) (S.faults source.old)) (ends (S.left source.new) (S.faults source.new))
-        (ends (K.held sink.old) (K.faults sink.old)) (ends (K.held sink.new) (K.faults sink.new)) meters.old meters.new }
+        (ends (K.held sink.old) (K.faults sink.old)) (ends (K.held sink.new) (K.faults sink.new))
+        meters.old meters.new }
 {
     let Ok(mut session) = new_session::<W>(alloc, config) else {
         return Outcome::NoMemory;
     };
-    let Ok(mut block) = Vec::from_elem(alloc, 0u8, BLOCK) else {
+    let Ok(mut block) = Vec::from_elem(alloc, 0u8, BLOCK_MOST) else {
         return Outcome::NoMemory;
     };
     serve(

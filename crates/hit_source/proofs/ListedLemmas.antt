@@ -13,12 +13,16 @@ use Rattle.hit_source.specs.Listed.{asked_of_list, standing_of_list, IsListed}
 use Rattle.hit_source.specs.WindowLaws.{ascends_drop, floor_rises, rest_waits}
 
 -- taking the first hit that waits
-pub listed_pops : (w : Window) (reads : ℕ) → IsListed w reads → Pops (standing_of_list w reads) (standing_of_list (with_given w) reads) (first_of (waiting_of w))
+pub listed_pops : (w : Window) (reads : ℕ) → IsListed w reads
+    → Pops (standing_of_list w reads) (standing_of_list (with_given w) reads) (first_of (waiting_of w))
 listed_pops w reads is = record {
   head = refl;
   waiting = rest_waits w is.window;
   given = refl;
-  floor = subst (λ hits. NotBelow (first_distance (left_of w)) (first_distance hits)) (drop-drop (length (take 1 (waiting_of w))) w.given w.found) (floor_rises (length (take 1 (waiting_of w))) (left_of w) (ascends_drop w.given w.found (ascends_from_sorted w.found is.ascends)));
+  floor = subst (λ hits. NotBelow (first_distance (left_of w)) (first_distance hits))
+      (drop-drop (length (take 1 (waiting_of w))) w.given w.found)
+      (floor_rises (length (take 1 (waiting_of w))) (left_of w)
+      (ascends_drop w.given w.found (ascends_from_sorted w.found is.ascends)));
   reads = refl;
   ended = refl;
   begun = refl;
@@ -26,7 +30,8 @@ listed_pops w reads is = record {
 }
 
 -- hits put in order are a list of which nothing was read
-pub listed_begins : (hits : List Hit) (room : ℕ) → All (λ hit. hit.dist ≤ BITS_MOST) hits → 1 ≤ room → IsListed (put_in_order (window_of hits (length hits) room)) 0
+pub listed_begins : (hits : List Hit) (room : ℕ) → All (λ hit. hit.dist ≤ BITS_MOST) hits → 1 ≤ room
+    → IsListed (put_in_order (window_of hits (length hits) room)) 0
 listed_begins hits room near some = record {
   ascends = in_order_sorted hits;
   near = All-permutation (λ (hit : Hit). hit.dist ≤ BITS_MOST) hits (in_order hits) (in_order_permutation hits) near;
@@ -38,5 +43,7 @@ listed_begins hits room near some = record {
 }
 
 -- the same hits and room ask the same
-pub asked_alike : (hits others : List Hit) (room space : ℕ) → hits ≡ others → room ≡ space → asked_of_list hits room ≡ asked_of_list others space
-asked_alike hits others room space same as_wide = ap (λ xs. asked_of_list xs room) same ∙ ap (λ n. asked_of_list others n) as_wide
+pub asked_alike : (hits others : List Hit) (room space : ℕ) → hits ≡ others → room ≡ space
+    → asked_of_list hits room ≡ asked_of_list others space
+asked_alike hits others room space same as_wide = ap (λ xs. asked_of_list xs room) same
+    ∙ ap (λ n. asked_of_list others n) as_wide

@@ -24,7 +24,8 @@ same_radius (Some one) None same = absurd (omega (arith, same))
 same_radius (Some one) (Some other) same = (let e : one ≡ other = omega (arith, same) in ap (λ n. Some n) e)
 
 -- a radius begun after another is within the limit as well
-begins_again : (limit old mid new : Option ℕ) → BeginsWithin limit old mid → BeginsWithin limit mid new → BeginsWithin limit old new
+begins_again : (limit old mid new : Option ℕ) → BeginsWithin limit old mid → BeginsWithin limit mid new
+    → BeginsWithin limit old new
 begins_again limit old mid new first (inr within) = inr within
 begins_again limit old mid new first (inl same) = subst (BeginsWithin limit old) (sym same) first
 
@@ -63,7 +64,8 @@ works_again limit count more old mid new from at to first then = record {
   spent = omega (arith, first.spent, then.spent);
   begun = begins_again limit old.begun mid.begun new.begun first.begun then.begun;
   farther = omega (arith, first.farther, then.farther);
-  stays_ended = λ ended. (let kept = first.stays_ended ended in stays_again old mid new kept (then.stays_ended kept.ended));
+  stays_ended = λ ended. (let kept = first.stays_ended ended in
+      stays_again old mid new kept (then.stays_ended kept.ended));
   units = omega (arith, first.units, then.units);
   exact = λ same. (let last = ap radii_begun same in
       let mid_is = same_radius mid.begun old.begun (omega (arith, last, first.farther, then.farther)) in
@@ -71,7 +73,8 @@ works_again limit count more old mid new from at to first then = record {
 }
 
 -- work that begins no radius is the same at any limit
-pub works_at : (limit other : Option ℕ) (count : ℕ) (old new : Standing) (from to : ℕ) → new.begun ≡ old.begun → Works limit count old new from to → Works other count old new from to
+pub works_at : (limit other : Option ℕ) (count : ℕ) (old new : Standing) (from to : ℕ) → new.begun ≡ old.begun
+    → Works limit count old new from to → Works other count old new from to
 works_at limit other count old new from to same works = record {
   given = works.given;
   floor = works.floor;
@@ -95,12 +98,16 @@ moved_on a s answers (inr full) = go s.ended refl
     go true e = let f : Moved ≡ Ended = answers.ended.1 e in cc
     go false e = let f : Moved ≡ Full = answers.full.1 (e, full) in cc
 
-module _ (budget count : ℕ) (a b : Asked) (old new : Standing) (from to : ℕ) (result : Polled) (some : 1 ≤ budget) (none : old.waiting ≡ []) (same : b ≡ a)
-    (works : Works old.floor count old new from to) (within : count ≤ budget) (stops : (count ≡ budget) ⊎ (IsStopped b new ⊎ AwaitsRadius b old.floor new)) (answers : PollAnswers b new result) where
+module _ (budget count : ℕ) (a b : Asked) (old new : Standing) (from to : ℕ) (result : Polled) (some : 1 ≤ budget)
+    (none : old.waiting ≡ []) (same : b ≡ a)
+    (works : Works old.floor count old new from to) (within : count ≤ budget)
+        (stops : (count ≡ budget) ⊎ (IsStopped b new ⊎ AwaitsRadius b old.floor new))
+        (answers : PollAnswers b new result) where
   whole_or_waits : result ≡ Moved → (count ≡ budget) ⊎ AwaitsRadius b old.floor new
   whole_or_waits moved = go stops
     where
-      go : (count ≡ budget) ⊎ (IsStopped b new ⊎ AwaitsRadius b old.floor new) → (count ≡ budget) ⊎ AwaitsRadius b old.floor new
+      go : (count ≡ budget) ⊎ (IsStopped b new ⊎ AwaitsRadius b old.floor new)
+          → (count ≡ budget) ⊎ AwaitsRadius b old.floor new
       go (inl all) = inl all
       go (inr (inl stopped)) = absurd (moved_on b new (subst (λ r. PollAnswers b new r) moved answers) stopped)
       go (inr (inr waits)) = inr waits
@@ -108,7 +115,8 @@ module _ (budget count : ℕ) (a b : Asked) (old new : Standing) (from to : ℕ)
   none_idle : AwaitsRadius b old.floor new → count ≡ 0 → ⊥
   none_idle waits idle =
       let empty : length old.waiting ≡ 0 = ap length none in
-      waits.onward (nil_from_length new.waiting (omega (arith, works.spent, works.rises, works.farther, empty, idle))) (works.idle idle)
+      waits.onward (nil_from_length new.waiting (omega (arith, works.spent, works.rises, works.farther, empty, idle)))
+          (works.idle idle)
 
   -- a poll is at most a budget of units of work, and stops before the budget is spent only where none can be done, or a radius would be begun above the floor
   pub polls_by_work : Polls budget a old new from to result
@@ -140,15 +148,19 @@ module _ (budget count : ℕ) (a b : Asked) (old new : Standing) (from to : ℕ)
           go zero e = absurd (none_idle waits e)
           go (suc n) e = omega (arith, works.units, e)
 
-      spends : (count ≡ budget) ⊎ AwaitsRadius b old.floor new → (new.units + budget ≤ old.units) ⊎ AwaitsRadius a old.floor new
+      spends : (count ≡ budget) ⊎ AwaitsRadius b old.floor new
+          → (new.units + budget ≤ old.units) ⊎ AwaitsRadius a old.floor new
       spends (inl all) = inl (omega (arith, works.units, all))
       spends (inr waits) = inr (subst (λ x. AwaitsRadius x old.floor new) same waits)
 
 -- a poll of a source that begins no radius
-pub polls_by_range : (budget count : ℕ) (a b : Asked) (old new : Standing) (from to : ℕ) (result : Polled) → 1 ≤ budget → old.waiting ≡ [] → b ≡ a → new.begun ≡ old.begun
-    → Works None count old new from to → count ≤ budget → (count ≡ budget) ⊎ IsStopped b new → PollAnswers b new result → Polls budget a old new from to result
+pub polls_by_range : (budget count : ℕ) (a b : Asked) (old new : Standing) (from to : ℕ) (result : Polled) → 1 ≤ budget
+    → old.waiting ≡ [] → b ≡ a → new.begun ≡ old.begun
+    → Works None count old new from to → count ≤ budget → (count ≡ budget) ⊎ IsStopped b new → PollAnswers b new result
+        → Polls budget a old new from to result
 polls_by_range budget count a b old new from to result some none same still works within stops answers =
-    polls_by_work budget count a b old new from to result some none same (works_at None old.floor count old new from to still works) within (stopped stops) answers
+    polls_by_work budget count a b old new from to result some none same
+        (works_at None old.floor count old new from to still works) within (stopped stops) answers
   where
     stopped : (count ≡ budget) ⊎ IsStopped b new → (count ≡ budget) ⊎ (IsStopped b new ⊎ AwaitsRadius b old.floor new)
     stopped (inl all) = inl all

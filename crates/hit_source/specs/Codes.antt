@@ -16,12 +16,23 @@ some_code = coded_option coded_ℕ
 abbrev pub Parts : Type 0
 Parts = (ℕ × (List Hit × Option ℕ)) × ((ℕ × Bool) × (Option ℕ × ℕ))
 
+-- and these as a tuple
 abbrev pub parts_code : Coded Parts
-parts_code = coded× (coded× coded_ℕ (coded× (coded_list hit_code) some_code)) (coded× (coded× coded_ℕ coded_bool) (coded× some_code coded_ℕ))
+parts_code =
+    coded× (coded× coded_ℕ (coded× (coded_list hit_code) some_code))
+    (coded× (coded× coded_ℕ coded_bool) (coded× some_code coded_ℕ))
 
 -- a standing by its parts
 abbrev pub standing_code : Coded Standing
 standing_code = code_by Parts parts_code
     (λ s. ((s.given, (s.waiting, s.floor)), ((s.reads, s.ended), (s.begun, s.units))))
-    (λ p. record { given = p.0.0; waiting = p.0.1.0; floor = p.0.1.1; reads = p.1.0.0; ended = p.1.0.1; begun = p.1.1.0; units = p.1.1.1 })
+    (λ p. record {
+      given = p.0.0;
+      waiting = p.0.1.0;
+      floor = p.0.1.1;
+      reads = p.1.0.0;
+      ended = p.1.0.1;
+      begun = p.1.1.0;
+      units = p.1.1.1;
+    })
     (λ _. refl)

@@ -48,7 +48,8 @@ pub record Polls (budget : ℕ) (a : Asked) (old new : Standing) (from to : ℕ)
   pub floor : NotBelow old.floor new.floor
   pub rises : old.reads ≤ new.reads
   pub ledger : to + old.reads ≡ from + new.reads
-  pub spent : new.reads + length new.waiting + radii_begun new.begun ≤ old.reads + radii_begun old.begun + budget
+  pub spent : new.reads + length new.waiting + radii_begun new.begun
+      ≤ old.reads + radii_begun old.begun + budget
   pub begun : BeginsWithin old.floor old.begun new.begun
   pub farther : radii_begun old.begun ≤ radii_begun new.begun
   pub stays_ended : old.ended ≡ true → StaysEnded old new

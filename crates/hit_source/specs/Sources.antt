@@ -76,7 +76,7 @@ pub record IsEnd (a : Asked) (s : Standing) : Type 0 where
   pub of_near : a.near ≡ true → reached s ≡ length a.hits → s.ended ≡ true
 
 -- a range begins no radius, and a near query none above the farthest
-pub record IsBegun (a : Asked) (s : Standing) : Type 0 where
+pub record HasBegun (a : Asked) (s : Standing) : Type 0 where
   pub range : a.near ≡ false → s.begun ≡ None
   pub near : IfSome s.begun (λ radius. radius ≤ a.farthest)
 
@@ -87,7 +87,7 @@ pub record IsLawful (a : Asked) (s : Standing) : Type 0 where
   pub within : reached s ≤ length a.hits
   pub room : length s.waiting ≤ a.room
   pub each_read : reached s ≤ s.reads
-  pub begun : IsBegun a s
+  pub begun : HasBegun a s
   pub bounded : s.reads ≤ a.bound s.begun
   pub floor : IsFloor a s
   pub end : IsEnd a s

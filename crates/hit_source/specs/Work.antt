@@ -12,7 +12,8 @@ pub record Works (limit : Option ℕ) (count : ℕ) (old new : Standing) (from t
   pub idle : count ≡ 0 → new.floor ≡ old.floor
   pub rises : old.reads ≤ new.reads
   pub ledger : to + old.reads ≡ from + new.reads
-  pub spent : new.reads + length new.waiting + radii_begun new.begun ≤ old.reads + length old.waiting + radii_begun old.begun + count
+  pub spent : new.reads + length new.waiting + radii_begun new.begun
+      ≤ old.reads + length old.waiting + radii_begun old.begun + count
   pub begun : BeginsWithin limit old.begun new.begun
   pub farther : radii_begun old.begun ≤ radii_begun new.begun
   pub stays_ended : old.ended ≡ true → StaysEnded old new
@@ -26,4 +27,12 @@ IsStopped a s = (s.ended ≡ true) ⊎ (length s.waiting ≡ a.room)
 -- where a source stands whose hits are those of a window
 abbrev pub window_standing : Window → ℕ → Bool → ℕ → Standing
 window_standing w reads ended units =
-    record { given = w.given; waiting = waiting_of w; floor = first_distance (left_of w); reads = reads; ended = ended; begun = None; units = units }
+    record {
+      given = w.given;
+      waiting = waiting_of w;
+      floor = first_distance (left_of w);
+      reads = reads;
+      ended = ended;
+      begun = None;
+      units = units;
+    }

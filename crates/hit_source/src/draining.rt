@@ -22,12 +22,13 @@ pub fn drain<H: HitSource, L>(
     requires budget { 1 ≤ budget }
     requires some_room { 1 ≤ (H.asked source.old).room }
     // It ends with every hit.
-    ensures ends { OnOk result (Drains
-        (H.asked source.old) (H.standing source.old) (H.standing source.new) out.old.items out.new.items) }
+    ensures ends { OnOk result (Drains (H.asked source.old)
+        (H.standing source.old) (H.standing source.new) out.old.items out.new.items) }
     // In any case what was taken are the next hits, and what was read stands on the ledger.
-    ensures takes { Takes
-        (H.asked source.old) (H.standing source.old) (H.standing source.new) out.old.items out.new.items }
-    ensures ledger { steps.new + (H.standing source.old).reads ≡ steps.old + (H.standing source.new).reads }
+    ensures takes { Takes (H.asked source.old)
+        (H.standing source.old) (H.standing source.new) out.old.items out.new.items }
+    ensures ledger { steps.new + (H.standing source.old).reads
+        ≡ steps.old + (H.standing source.new).reads }
     ensures asked { H.asked source.new ≡ H.asked source.old }
     ensures lawful { IsLawful (H.asked source.new) (H.standing source.new) }
 {
@@ -48,8 +49,8 @@ pub fn drain<H: HitSource, L>(
 /// `NoMemory` where there is no memory for one hit more in `out`: that hit still waits.
 pub fn take_waiting<H: HitSource>(source: &mut H, out: &mut Vec<Hit>) -> Result<(), NoMemory>
     ensures empties { OnOk result ((H.standing source.new).waiting ≡ []) }
-    ensures takes { Takes
-        (H.asked source.old) (H.standing source.old) (H.standing source.new) out.old.items out.new.items }
+    ensures takes { Takes (H.asked source.old)
+        (H.standing source.old) (H.standing source.new) out.old.items out.new.items }
     ensures gives { OnlyGives (H.standing source.old) (H.standing source.new) }
     ensures asked { H.asked source.new ≡ H.asked source.old }
     ensures lawful { IsLawful (H.asked source.new) (H.standing source.new) }

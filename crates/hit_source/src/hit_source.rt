@@ -27,7 +27,8 @@ pub trait HitSource: Send {
     fn poll<L>(&mut self, budget: u32, steps: &mut Steps<L>) -> Polled
         requires budget { 1 ≤ budget }
         requires none_waits { (standing self.old).waiting ≡ [] }
-        ensures polls { Polls budget (asked self.old) (standing self.old) (standing self.new) steps.old steps.new result }
+        ensures polls { Polls budget (asked self.old)
+            (standing self.old) (standing self.new) steps.old steps.new result }
         ensures asked { asked self.new ≡ asked self.old }
         ensures lawful { IsLawful (asked self.new) (standing self.new) };
 

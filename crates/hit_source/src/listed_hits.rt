@@ -26,8 +26,10 @@ impl ListedHits {
         requires near { All (λ hit. hit.dist ≤ BITS_MOST) hits.items }
         requires some_room { 1 ≤ room }
         requires small_room { room ≤ ROOM_MOST }
-        ensures asked { ⟦<ListedHits as HitSource>⟧.asked result ≡ asked_of_list (in_order hits.items) room }
-        ensures standing { ⟦<ListedHits as HitSource>⟧.standing result ≡ start_of_list (in_order hits.items) }
+        ensures asked { ⟦<ListedHits as HitSource>⟧.asked result
+            ≡ asked_of_list (in_order hits.items) room }
+        ensures standing { ⟦<ListedHits as HitSource>⟧.standing result
+            ≡ start_of_list (in_order hits.items) }
     {
         let mut window = HitWindow::of(hits, room);
         window.sort();

@@ -1,7 +1,7 @@
 ghost use Rattle.std.specs.Prelude.{◌≤◌};
 
 use crate::plain::after;
-use gph_codes::{Code, CodeFault, dist, dist_under, for_width};
+use gph_codes::{Code, CodeFault, dist, for_width};
 use std::process::Abort;
 
 // The numbers of bits that are tried: of one to four words, whole words and others.
@@ -115,23 +115,6 @@ fn words_keep_the_bits_from_the_top(rt: HostRuntime) -> Result<(), CodeFault> {
     let two: Code<2> = Code::from_hex(72, b"80000000000000010f")?;
     assert!(rt; one.words() == [0x8100_0000_0000_0000]);
     assert!(rt; two.words() == [0x8000_0000_0000_0001, 0x0f00_0000_0000_0000]);
-    Ok(())
-}
-
-#[test]
-fn a_distance_under_a_mask_is_that_at_its_positions(rt: HostRuntime) -> Result<(), CodeFault> {
-    let code: Code<2> = Code::from_hex(72, b"0123456789abcdef01")?;
-    let other: Code<2> = Code::from_hex(72, b"7edcba9876543210ff")?;
-    let mut mask = Code::zeros();
-    let mut apart: u32 = 0;
-    for third in 0..24 {
-        let position = 3 * third;
-        mask.set(position);
-        if code.bit(position) != other.bit(position) && apart < 72 {
-            apart += 1;
-        }
-        assert!(rt; dist_under(&mask, &code, &other) == apart);
-    }
     Ok(())
 }
 

@@ -6,6 +6,10 @@ use Rattle.std.specs.Prelude.{Result, Ok, Err, IfOk, OnErr, Option, None, Some, 
 abbrev pub Rose : ℕ → ℕ → Type 0
 Rose before after = (before < after) ⊎ (after ≡ 2 ^ 64 - 1)
 
+-- so many more, up to the greatest u64
+abbrev pub raised : ℕ → ℕ → ℕ
+raised count more = min (count + more) (2 ^ 64 - 1)
+
 -- one more, up to the greatest u64
 abbrev pub counted : ℕ → ℕ
 counted count = min (count + 1) (2 ^ 64 - 1)

@@ -28,6 +28,11 @@ pub record Counted (T : Type 0) : Type 0 where
   pub end : T
   pub faults : ℕ
 
+-- a sink into a shared buffer: the faults that it has met, and how many bytes it has added there
+pub record Adding : Type 0 where
+  pub faults : ℕ
+  pub added : ℕ
+
 -- a writer, the bytes on their way to it, and whether giving bytes out has failed
 pub record Outgoing (T : Type 0) : Type 0 where
   pub writer : T

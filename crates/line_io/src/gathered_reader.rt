@@ -4,6 +4,7 @@ ghost use Rattle.std.specs.Io.KnownBytes.{ReadConsumes};
 ghost use Rattle.line_io.specs.Faults.{HasCause, IsSteady, StaysTold, counted};
 
 use crate::gathered::Gathered;
+use crate::read_after::ReadAfter;
 use crate::read_end::ReadEnd;
 use crate::source::{Failed, Source, fault};
 use crate::write_end::WriteEnd;
@@ -12,7 +13,7 @@ use std::marker::Model;
 /// A reader of std that has what was gathered given out before each read.
 #[derive(Drop)]
 pub struct GatheredReader<'g, R: ReadEnd, W: WriteEnd + Drop> {
-    reader: R,
+    reader: ReadAfter<R>,
     gathered: &'g Gathered<W>,
     faults: u64,
 }
@@ -32,7 +33,7 @@ impl<'g, R: ReadEnd, W: WriteEnd + Drop> GatheredReader<'g, R, W> {
         ensures faults { result.faults ≡ 0 }
     {
         GatheredReader {
-            reader,
+            reader: ReadAfter::new(reader),
             gathered,
             faults: 0,
         }
@@ -56,9 +57,7 @@ impl<'g, R: ReadEnd, W: WriteEnd + Drop> Source for GatheredReader<'g, R, W> {
         ensures call { R.one_read self.old.end self.new.end room.new result }
         ensures count { OnErr result (self.new.faults ≡ counted self.old.faults) }
     {
-        // A giving-out that fails is told by the next write.
-        let _ = self.gathered.give_out();
-        match self.reader.read_once(room) {
+        match self.reader.read(self.gathered.give_out(), room) {
             Ok(read) => Ok(read),
             Err(Failed) => Err(fault(&mut self.faults)),
         }

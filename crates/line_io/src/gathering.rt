@@ -2,6 +2,7 @@ ghost use Rattle.std.specs.Prelude.{◌≡◌, ◌↔◌, ℕ, ◌<◌, ◌≤�
 ghost use Rattle.std.specs.Prelude.{not, IsTrue, IsFalse, IsOk, IsErr, IfOk};
 ghost use Rattle.std.specs.Io.KnownBytes.{Keeps, Appends};
 ghost use Rattle.line_io.specs.declared.cutter.TheConstants.{LINE_MOST};
+ghost use Rattle.line_io.specs.Faults.{raised};
 ghost use Rattle.line_io.specs.Objects.{told_and_pending};
 ghost use Rattle.line_io.specs.GivingOut.{GoesOut};
 
@@ -43,12 +44,34 @@ impl<'p> Model for Added<'p> {
     ghost view = { λ a. a.bytes.now };
 }
 
-impl<'p> Added<'p> {
-    /// How many they are.
-    pub(crate) fn count(self) -> usize
-        ensures { result ≡ length self.entry }
+/// How many bytes were added, up to the greatest u64. Only additions raise it.
+#[derive(Drop)]
+pub(crate) struct AddedSoFar {
+    count: u64,
+}
+
+impl Model for AddedSoFar {
+    ghost use Rattle.std.specs.Prelude.{ℕ};
+
+    ghost Value = { ℕ };
+
+    ghost view = { λ a. a.count };
+}
+
+impl AddedSoFar {
+    pub(crate) fn none() -> AddedSoFar
+        ensures { result ≡ 0 }
     {
-        let Added { bytes } = self;
+        AddedSoFar { count: 0 }
+    }
+
+    /// Counts bytes that were added, and returns how many they are.
+    pub(crate) fn count(&mut self, added: Added<'_>) -> usize
+        ensures value { result ≡ length added.entry }
+        ensures rise { self.new ≡ raised self.old (length added.entry) }
+    {
+        let Added { bytes } = added;
+        self.count = self.count.saturating_add(bytes.len() as u64);
         bytes.len()
     }
 }

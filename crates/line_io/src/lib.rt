@@ -13,6 +13,7 @@ mod laws;
 mod memory_sink;
 mod memory_source;
 mod pieces;
+mod read_after;
 mod read_end;
 mod sink;
 mod source;

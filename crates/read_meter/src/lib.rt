@@ -1,5 +1,5 @@
-//! A ledger is a number that only `tick` changes, and sixteen of them are a list of sixteen numbers.
-//! Each ledger starts at 0, and a tick adds exactly one.
+//! A ledger is a number that only `tick` changes, and sixteen of them are a list of sixteen
+//! numbers. Each ledger starts at 0, and a tick adds exactly one.
 #![tactic(auto)]
 
 mod meters;

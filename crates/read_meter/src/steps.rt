@@ -4,8 +4,8 @@ use crate::tally::Tally;
 use std::env::Env;
 use std::marker::{Model, PhantomData};
 
-/// A counter of steps on the ledger `L`: a number that starts at 0 and that only `tick` changes. At run
-/// time it is one byte that nobody reads, so that a slice of counters has elements to lend.
+/// A counter of steps on the ledger `L`: a number that starts at 0 and that only `tick` changes. At
+/// run time it is one byte that nobody reads, so that a slice of counters has elements to lend.
 #[derive(Drop)]
 pub struct Steps<L> {
     byte: u8,
@@ -39,8 +39,8 @@ impl<L> Steps<L> {
     }
 }
 
-/// The ledger of upkeep, at 0. It asks for `Env`, which `main` has and which no call below it is given, so
-/// a body below `main` can't count on a ledger of its own.
+/// The ledger of upkeep, at 0. It asks for `Env`, which `main` has and which no call below it is
+/// given, so a body below `main` can't count on a ledger of its own.
 pub fn upkeep<M, Rt: Env>(_rt: &Rt) -> Steps<M>
     ensures { result ≡ 0 }
 {

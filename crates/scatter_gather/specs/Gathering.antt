@@ -1,5 +1,5 @@
 -- Many sources of hits asked at once: their merge, the answer, and where a gathering of them stands.
-use Rattle.std.specs.Prelude.{ℕ, nat_le, nat_lt, ◌&&◌, Bool, List, length, take, drop, Option, map}
+use Rattle.std.specs.Prelude.{ℕ, min, nat_le, nat_lt, ◌&&◌, Bool, List, length, take, drop, Option, map}
 use Rattle.std.specs.List.{flat_map, list_all, sum_by}
 use Rattle.hamming_model.specs.declared.hit.Hit.{Hit}
 use Rattle.hamming_model.specs.Scan.{in_order}
@@ -46,8 +46,8 @@ abbrev pub seen : {S : Type 0} → (S → Asked) → (S → Standing) → Gather
 seen asks stands g = gathering_of (sources_of asks stands g.sources) g.limit g.given g.last
 
 -- what the sources are asked
-abbrev pub asked_of : List Source → List Asked
-asked_of sources = map (λ s. s.asked) sources
+abbrev pub all_asked : List Source → List Asked
+all_asked sources = map (λ s. s.asked) sources
 
 -- how many hits each gave
 abbrev pub given_of : List Source → List ℕ
@@ -59,7 +59,7 @@ merged asks = in_order (flat_map (λ a. a.hits) asks)
 
 -- the answer: the merge, cut at the limit
 abbrev pub answer_of : Gathering → List Hit
-answer_of g = take g.limit (merged (asked_of g.sources))
+answer_of g = take g.limit (merged (all_asked g.sources))
 
 -- the hits of the answer that were not given
 abbrev pub answer_left : Gathering → List Hit
@@ -77,6 +77,14 @@ has_more g = nat_lt g.given (length (answer_of g))
 abbrev pub reaches_by_rows : Gathering → Bool
 reaches_by_rows g = list_all (λ s. s.asked.near) g.sources && nat_le g.limit (sum_by (λ s. s.asked.rows) g.sources)
 
+-- the reads of all sources, at most the greatest number of 64 bits
+abbrev pub all_reads : {S : Type 0} → (S → Standing) → Gathered S → ℕ
+all_reads stands g = min (sum_by (λ source. (stands source).reads) g.sources) 18446744073709551615
+
+-- the bounds of all sources for the last hit given, at most that number
+abbrev pub all_bounds : {S : Type 0} → (S → Asked) → Gathered S → ℕ
+all_bounds asks g = min (sum_by (λ source. (asks source).bound g.last) g.sources) 18446744073709551615
+
 -- the hits that their sources have not given
-abbrev pub hits_left : List Source → List Hit
-hits_left sources = flat_map (λ s. drop s.standing.given s.asked.hits) sources
+abbrev pub left_hits : List Source → List Hit
+left_hits sources = flat_map (λ s. drop s.standing.given s.asked.hits) sources

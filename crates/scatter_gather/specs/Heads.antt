@@ -1,5 +1,5 @@
 -- The first of the hits that wait at some sources, and when it may go.
-use Rattle.std.specs.Prelude.{◌≡◌, ℕ, ◌<◌, nat_le, Bool, true, false, List, [], ◌∷◌, take, length, Option, Some, None, IfSome, slice_index_or, if◌then◌else◌}
+use Rattle.std.specs.Prelude.{◌≡◌, ℕ, ◌<◌, nat_le, Bool, true, false, List, take, length, Option, Some, None, IfSome, slice_index_or, if◌then◌else◌}
 use Rattle.std.specs.Option.{MatchOption}
 use Rattle.std.specs.List.{AllByRecursion}
 use Rattle.std.specs.Ordering.{is_gt}
@@ -33,7 +33,7 @@ abbrev pub HeadNotBefore : Hit → Source → Type 0
 HeadNotBefore hit s = IfSome (first_of s.standing.waiting) (λ other. is_gt (hit_cmp hit other) ≡ false)
 
 -- this hit is the first that waits at one source, and among the first n sources none waits before it
-pub record IsBest (sources : List Source) (n shard : ℕ) (hit : Hit) : Type 0 where
+pub record IsBestHead (sources : List Source) (n shard : ℕ) (hit : Hit) : Type 0 where
   pub within : shard < length sources
   pub waits : (d : Source) → first_of (slice_index_or sources shard d).standing.waiting ≡ Some hit
   pub first : AllByRecursion (HeadNotBefore hit) (take n sources)
@@ -41,7 +41,7 @@ pub record IsBest (sources : List Source) (n shard : ℕ) (hit : Hit) : Type 0 w
 -- the first of the hits that wait at the first n sources, with the number of its source
 abbrev pub BestOf : List Source → ℕ → Option (ℕ × Hit) → Type 0
 BestOf sources n None = AllByRecursion (λ s. first_of s.standing.waiting ≡ None) (take n sources)
-BestOf sources n (Some best) = IsBest sources n best.0 best.1
+BestOf sources n (Some best) = IsBestHead sources n best.0 best.1
 
 -- the better of the best so far and the head of a source, if one waits
 abbrev pub better : Option (ℕ × Hit) → ℕ → Option Hit → Option (ℕ × Hit)
@@ -60,8 +60,8 @@ has_to_wait None (Some floor) = true
 has_to_wait (Some best) (Some floor) = nat_le floor best.1.dist
 
 -- the best head where it goes first; where none does, some source may have the next hit, or no hit waits
-pub record IsReady (sources : List Source) (result : Option (ℕ × Hit)) : Type 0 where
-  pub best : IfSome result (λ best. IsBest sources (length sources) best.0 best.1)
+pub record IsReadyHead (sources : List Source) (result : Option (ℕ × Hit)) : Type 0 where
+  pub best : IfSome result (λ best. IsBestHead sources (length sources) best.0 best.1)
   pub held : MatchOption result
       (any_may_have_next sources ≡ false → AllByRecursion (λ s. first_of s.standing.waiting ≡ None) sources)
       (λ best. any_may_have_next sources ≡ false)

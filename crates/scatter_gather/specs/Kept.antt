@@ -4,7 +4,7 @@ use Rattle.std.specs.List.{AllByRecursion}
 use Rattle.hamming_model.specs.declared.limits.TheConstants.{SHARDS_MOST}
 use Rattle.hamming_model.specs.Scan.{in_order}
 use Rattle.hit_source.specs.Sources.{Asked, IsLawful}
-use Rattle.scatter_gather.specs.Gathering.{Source, Gathering, asked_of, merged, hits_left}
+use Rattle.scatter_gather.specs.Gathering.{Source, Gathering, all_asked, merged, left_hits}
 
 -- a radius that was begun, if one was, is at most so far
 abbrev pub IsUpTo : Option ℕ → Option ℕ → Type 0
@@ -25,11 +25,11 @@ AreOneLength asks = AllByRecursion (λ a. a.farthest ≡ length_of asks) asks
 pub record IsGathering (g : Gathering) : Type 0 where
   pub some : 1 ≤ length g.sources
   pub few : length g.sources ≤ SHARDS_MOST
-  pub merge : drop g.given (merged (asked_of g.sources)) ≡ in_order (hits_left g.sources)
+  pub merge : drop g.given (merged (all_asked g.sources)) ≡ in_order (left_hits g.sources)
   pub within : g.given ≤ g.limit
-  pub one_length : AreOneLength (asked_of g.sources)
-  pub last : IfSome g.last (λ far. far ≤ length_of (asked_of g.sources))
-  pub later : IfSome g.last (λ far. AllByRecursion (λ hit. far ≤ hit.dist) (hits_left g.sources))
+  pub one_length : AreOneLength (all_asked g.sources)
+  pub last : IfSome g.last (λ far. far ≤ length_of (all_asked g.sources))
+  pub later : IfSome g.last (λ far. AllByRecursion (λ hit. far ≤ hit.dist) (left_hits g.sources))
 
 -- every source is lawful
 abbrev pub AreLawful : List Source → Type 0

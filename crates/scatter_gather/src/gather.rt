@@ -1,19 +1,23 @@
 //! A gathering of the hits of many sources.
 
-ghost use Rattle.std.specs.Prelude.{◌≡◌, ◌<◌, ◌≤◌, ◌↔◌, true, false, is_some, map, min, sum_by, length, IfOk, IfSome, Some, None, slice_index_or};
+ghost use Rattle.std.specs.Prelude.{◌≡◌, ◌<◌, ◌≤◌, ◌↔◌, true, false, is_some, map, length};
+ghost use Rattle.std.specs.Prelude.{IfOk, IfSome, Some, None, slice_index_or};
 ghost use Rattle.std.specs.List.{AllByRecursion};
 ghost use Rattle.std.specs.Thread.{IsSync};
 ghost use Rattle.hamming_model.specs.declared.hit.Hit.{Hit};
 ghost use Rattle.hamming_model.specs.declared.limits.TheConstants.{SHARDS_MOST};
 ghost use Rattle.hit_source.specs.Sources.{IsFresh};
-ghost use Rattle.scatter_gather.specs.Gathering.{gathered, seen, source_of, next_hit, has_more, reaches_by_rows};
+ghost use Rattle.scatter_gather.specs.Gathering.{gathered, seen, source_of, next_hit, has_more};
+ghost use Rattle.scatter_gather.specs.Gathering.{all_reads, all_bounds, reaches_by_rows};
 ghost use Rattle.scatter_gather.specs.Due.{is_due, some_due};
 ghost use Rattle.scatter_gather.specs.Heads.{MayGo};
 ghost use Rattle.scatter_gather.specs.Kept.{AreOneLength, IsGathering};
 ghost use Rattle.scatter_gather.specs.Polling.{PollsAll, PollsSome};
-ghost use Rattle.scatter_gather.specs.Moves.{PollsOne, Gives, Waited, Gave, Looks, BeginsForNext, BeginsUpTo, BegunWithin, distance_of};
+ghost use Rattle.scatter_gather.specs.Moves.{PollsOne, GivesReady, Waited, Gave, Looks, distance_of};
+ghost use Rattle.scatter_gather.specs.Moves.{BeginsForNext, BeginsUpTo, BegunWithin};
 
-use crate::looks::{all_near, any_may_have_next, any_waits, bound_of, least_floor, may_have_next, reads_of, ready_head, rows_of};
+use crate::looks::{all_near, any_may_have_next, any_waits, bound_of, least_floor, may_have_next};
+use crate::looks::{reads_of, ready_head, rows_of};
 use crate::round::{poll_all, poll_by};
 use crate::{Gate, Tally};
 use hamming_model::Hit;
@@ -25,8 +29,8 @@ use std::thread::Threads;
 
 /// The hits of up to sixteen sources in order of distance and key, up to a limit.
 ///
-/// A source is due where no hit waits at it, its floor is the least of all, and the limit isn't reached:
-/// before it was polled nobody knows whether the next hit is its own.
+/// A source is due where no hit waits at it, its floor is the least of all, and the limit isn't
+/// reached: until it was polled nobody knows whether the next hit is its own.
 #[derive(Drop)]
 pub struct Gather<H: HitSource> {
     sources: Vec<H>,
@@ -43,7 +47,8 @@ impl<H: HitSource> Model for Gather<H> {
 
     ghost view = { λ g. gathered g.sources.items g.limit g.given g.last };
 
-    ghost invariant = { λ g. IsGathering (seen H.asked H.standing (gathered g.sources.items g.limit g.given g.last)) };
+    ghost invariant = { λ g. IsGathering
+        (seen H.asked H.standing (gathered g.sources.items g.limit g.given g.last)) };
 }
 
 impl<H: HitSource> Gather<H> {
@@ -91,11 +96,14 @@ impl<H: HitSource> Gather<H> {
 
     /// Gives the next hit where it waits already and no source may have one before it.
     pub fn ready(&mut self) -> Option<Hit>
-        ensures may_go { (hit : Hit) → (result ≡ Some hit) ↔ MayGo (seen H.asked H.standing self.old) hit }
-        ensures gives { IfSome result (λ hit. next_hit (seen H.asked H.standing self.old) ≡ Some hit) }
-        ensures last { result ≡ None → some_due (seen H.asked H.standing self.old) ≡ false
+        ensures may_go { (hit : Hit)
+            → (result ≡ Some hit) ↔ MayGo (seen H.asked H.standing self.old) hit }
+        ensures gives { IfSome result
+            (λ hit. next_hit (seen H.asked H.standing self.old) ≡ Some hit) }
+        ensures none_left { result ≡ None → some_due (seen H.asked H.standing self.old) ≡ false
             → next_hit (seen H.asked H.standing self.old) ≡ None }
-        ensures after { Gives H.asked H.standing self.old self.new result }
+        ensures after { GivesReady H.asked H.standing self.old self.new result }
+        ensures shards { length self.new.sources ≡ length self.old.sources }
         // For the loops of `next` and `more`.
         ensures holds { IsGathering (seen H.asked H.standing self.new) }
         ensures rises { IfSome result (λ hit. IfSome self.old.last (λ last. last ≤ hit.dist)) }
@@ -127,11 +135,13 @@ impl<H: HitSource> Gather<H> {
         ensures stays { result ≡ None → self.new ≡ self.old }
         ensures ledgers { result ≡ None → meters.new ≡ meters.old }
         // Else it was polled, on its own ledger.
+        ensures shards { length self.new.sources ≡ length self.old.sources }
         ensures polls { IfSome result (PollsOne H.asked H.standing budget shard
             self.old self.new meters.old meters.new) }
         ensures begins { BeginsForNext H.asked H.standing self.old self.new }
     {
-        if self.given == self.limit || !may_have_next(&self.sources[shard], least_floor(&self.sources)) {
+        let least = least_floor(&self.sources);
+        if self.given == self.limit || !may_have_next(&self.sources[shard], least) {
             return None;
         }
         Some(self.sources[shard].poll(budget, &mut meters.as_mut()[shard]))
@@ -149,11 +159,15 @@ impl<H: HitSource> Gather<H> {
         requires budget { 1 ≤ budget }
         // Where none is due nothing happens.
         ensures none { some_due (seen H.asked H.standing self.old) ≡ false → self.new ≡ self.old }
-        ensures no_step { some_due (seen H.asked H.standing self.old) ≡ false → meters.new ≡ meters.old }
+        ensures no_step { some_due (seen H.asked H.standing self.old) ≡ false
+            → meters.new ≡ meters.old }
         // Else each one that is due was polled once, on its own ledger.
-        ensures polled { some_due (seen H.asked H.standing self.old) ≡ true → PollsAll H.asked H.standing
-            budget self.old.sources self.new.sources meters.old meters.new }
-        ensures stays { self.new ≡ gathered self.new.sources self.old.limit self.old.given self.old.last }
+        ensures shards { length self.new.sources ≡ length self.old.sources }
+        ensures polled { some_due (seen H.asked H.standing self.old) ≡ true
+            → PollsAll H.asked H.standing budget
+            self.old.sources self.new.sources meters.old meters.new }
+        ensures stays { self.new
+            ≡ gathered self.new.sources self.old.limit self.old.given self.old.last }
         ensures begins { BeginsForNext H.asked H.standing self.old self.new }
     {
         if self.given == self.limit || !any_may_have_next(&self.sources) {
@@ -162,8 +176,8 @@ impl<H: HitSource> Gather<H> {
         let _goes_on = poll_all(rt, gate, budget, self.sources.as_mut_slice(), meters);
     }
 
-    // Polls the sources that are due, side by side if there is much to do, else one after the other. It
-    // answers none where none is due, else whether one of them has more to do at once.
+    // Polls the sources that are due, side by side if there is much to do, else one after the other.
+    // It answers none where none is due, else whether one of them has more to do at once.
     fn poll_some<R: Threads + Sync, G: Gate, L: Send>(
         &mut self,
         rt: &R,
@@ -179,7 +193,8 @@ impl<H: HitSource> Gather<H> {
         ensures no_step { is_some result ≡ false → meters.new ≡ meters.old }
         ensures polled { is_some result ≡ true → PollsSome H.asked H.standing
             self.old.sources self.new.sources meters.old meters.new }
-        ensures stays { self.new ≡ gathered self.new.sources self.old.limit self.old.given self.old.last }
+        ensures stays { self.new
+            ≡ gathered self.new.sources self.old.limit self.old.given self.old.last }
         ensures holds { IsGathering (seen H.asked H.standing self.new) }
     {
         if self.given == self.limit || !any_may_have_next(&self.sources) {
@@ -200,8 +215,10 @@ impl<H: HitSource> Gather<H> {
         requires budget { 1 ≤ budget }
         ensures gives { result ≡ next_hit (seen H.asked H.standing self.old) }
         ensures gave { Gave H.asked H.standing self.old self.new meters.old meters.new result }
+        ensures shards { length self.new.sources ≡ length self.old.sources }
         // No source begins a radius above the distance of the hit.
-        ensures begins { BeginsUpTo H.standing (distance_of result) self.old.sources self.new.sources }
+        ensures begins { BeginsUpTo H.standing (distance_of result)
+            self.old.sources self.new.sources }
         ensures within { reaches_by_rows (seen H.asked H.standing self.old) ≡ true
             → BegunWithin H.standing self.old.last self.old.sources
             → BegunWithin H.standing self.new.last self.new.sources }
@@ -230,9 +247,12 @@ impl<H: HitSource> Gather<H> {
         requires budget { 1 ≤ budget }
         ensures more { result ≡ has_more (seen H.asked H.standing self.old) }
         ensures waited { Waited H.asked H.standing self.old self.new meters.old meters.new }
+        ensures shards { length self.new.sources ≡ length self.old.sources }
         // Where every row is a hit, and there are as many as the limit, nothing is read.
-        ensures near { reaches_by_rows (seen H.asked H.standing self.old) ≡ true → self.new ≡ self.old }
-        ensures no_step { reaches_by_rows (seen H.asked H.standing self.old) ≡ true → meters.new ≡ meters.old }
+        ensures near { reaches_by_rows (seen H.asked H.standing self.old) ≡ true
+            → self.new ≡ self.old }
+        ensures no_step { reaches_by_rows (seen H.asked H.standing self.old) ≡ true
+            → meters.new ≡ meters.old }
     {
         if self.given == self.limit {
             return false;
@@ -255,9 +275,11 @@ impl<H: HitSource> Gather<H> {
     /// Plans one source for the distance of the last hit given, and answers the cost.
     pub fn plan(&mut self, shard: usize) -> u64
         requires { shard < length self.old.sources }
-        ensures cost { (d : H) → result ≡ ((H.asked (slice_index_or self.old.sources shard d)).plan self.old.last).1 }
+        ensures cost { (d : H) → result
+            ≡ ((H.asked (slice_index_or self.old.sources shard d)).plan self.old.last).1 }
         ensures vector { (d : H) → H.planned (slice_index_or self.new.sources shard d)
             ≡ ((H.asked (slice_index_or self.old.sources shard d)).plan self.old.last).0 }
+        ensures shards { length self.new.sources ≡ length self.old.sources }
         ensures looks { Looks H.asked H.standing self.old self.new }
     {
         let last = self.last;
@@ -272,14 +294,16 @@ impl<H: HitSource> Gather<H> {
         self.sources[shard].thresholds()
     }
 
-    /// The sums of the reads and of the bounds for the distance of the last hit given, each at most the
-    /// greatest u64.
+    /// The sums of the reads and of the bounds for the distance of the last hit given, each at most
+    /// the greatest u64.
     pub fn cost(&mut self) -> (u64, u64)
-        ensures reads { result.0 ≡ min (sum_by (λ source. (H.standing source).reads) self.old.sources) u64.MAX }
-        ensures bound { result.1 ≡ min (sum_by (λ source. (H.asked source).bound self.old.last) self.old.sources) u64.MAX }
+        ensures reads { result.0 ≡ all_reads H.standing self.old }
+        ensures bound { result.1 ≡ all_bounds H.asked self.old }
+        ensures shards { length self.new.sources ≡ length self.old.sources }
         ensures looks { Looks H.asked H.standing self.old self.new }
-        // Where no source began a radius above the last hit's distance, the reads are within the bound.
-        ensures within { BegunWithin H.standing self.old.last self.old.sources → result.0 ≤ result.1 }
+        // Where no source began a radius above the last hit's distance, it reads within the bound.
+        ensures within { BegunWithin H.standing self.old.last self.old.sources
+            → result.0 ≤ result.1 }
     {
         let last = self.last;
         let reads = reads_of(&self.sources);
@@ -290,7 +314,7 @@ impl<H: HitSource> Gather<H> {
     pub fn cancel(self) -> Tally
         where H: Drop
         ensures given { result.given ≡ self.given }
-        ensures reads { result.reads ≡ min (sum_by (λ source. (H.standing source).reads) self.sources) u64.MAX }
+        ensures reads { result.reads ≡ all_reads H.standing self }
     {
         Tally {
             given: self.given,

@@ -1,5 +1,5 @@
-//! A gathering is many sources of hits, a limit, and how many hits it gave: its answer is the merge of their hits by distance and
-//! key, cut at the limit. It gives the answer in order, and polls no source past what the next hit needs.
+//! A gathering is many sources of hits and a limit: its answer is the merge of their hits, cut there.
+//! It gives the answer in order, and begins no radius above the distance of the next hit.
 #![tactic(auto)]
 
 mod either;

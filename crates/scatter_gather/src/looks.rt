@@ -1,10 +1,12 @@
-//! What many sources show: their least floor, which may have the next hit, and the first that waits.
+//! What many sources show: their least floor, which may have the next hit, the first that waits.
 
-ghost use Rattle.std.specs.Prelude.{◌≡◌, ◌<◌, ◌≤◌, ℕ, length, map, min, sum_by, IfSome, slice_index_or};
+ghost use Rattle.std.specs.Prelude.{◌≡◌, ◌<◌, ◌≤◌, ℕ, length, map};
+ghost use Rattle.std.specs.Prelude.{min, sum_by, IfSome, slice_index_or};
 ghost use Rattle.std.specs.List.{list_any, list_all};
 ghost use Rattle.scatter_gather.specs.Gathering.{source_of, sources_of};
-ghost use Rattle.scatter_gather.specs.Due.{lower, least_floor, is_least, may_have_next, any_may_have_next, has_head};
-ghost use Rattle.scatter_gather.specs.Heads.{better, empty_floor, has_to_wait, IsReady};
+ghost use Rattle.scatter_gather.specs.Due.{lower, least_floor, is_least, may_have_next};
+ghost use Rattle.scatter_gather.specs.Due.{any_may_have_next, has_head};
+ghost use Rattle.scatter_gather.specs.Heads.{better, empty_floor, has_to_wait, IsReadyHead};
 
 use hamming_model::Hit;
 use hit_source::HitSource;
@@ -96,7 +98,7 @@ fn empty_floor<H: HitSource>(source: &H) -> Option<u32>
     }
 }
 
-// Whether the best head has to wait for a source at which none waits, of which the least floor is given.
+// Whether the best head has to wait for a source at which none waits: this is their least floor.
 fn has_to_wait(best: Option<(usize, Hit)>, floor: Option<u32>) -> bool
     ensures { result ≡ has_to_wait best floor }
 {
@@ -109,9 +111,9 @@ fn has_to_wait(best: Option<(usize, Hit)>, floor: Option<u32>) -> bool
     }
 }
 
-// The first of the hits that wait, with the number of its source, where it goes before all that may come.
+// The first of the hits that wait, with its source's number, where no other may come before it.
 pub(crate) fn ready_head<H: HitSource>(sources: &[H]) -> Option<(usize, Hit)>
-    ensures { IsReady (sources_of H.asked H.standing sources.now) result }
+    ensures { IsReadyHead (sources_of H.asked H.standing sources.now) result }
 {
     let mut best: Option<(usize, Hit)> = None;
     let mut floor: Option<u32> = None;
@@ -151,7 +153,8 @@ pub(crate) fn all_near<H: HitSource>(sources: &[H]) -> bool
 
 // The sum of the rows of all sources, at most the greatest u64.
 pub(crate) fn rows_of<H: HitSource>(sources: &[H]) -> u64
-    ensures { result ≡ min (sum_by (λ s. s.asked.rows) (sources_of H.asked H.standing sources.now)) u64.MAX }
+    ensures { result
+        ≡ min (sum_by (λ s. s.asked.rows) (sources_of H.asked H.standing sources.now)) u64.MAX }
 {
     let mut rows: u64 = 0;
     for shard in 0..sources.len() {
@@ -173,8 +176,11 @@ pub(crate) fn reads_of<H: HitSource>(sources: &[H]) -> u64
 
 // The sum of the bounds of all sources for a radius, at most the greatest u64.
 pub(crate) fn bound_of<H: HitSource>(sources: &mut [H], given: Option<u32>) -> u64
-    requires { (shard : ℕ) → (d : H) → shard < length sources.old → IfSome given (λ radius. radius ≤ (H.asked (slice_index_or sources.old shard d)).farthest) }
-    ensures bound { result ≡ min (sum_by (λ source. (H.asked source).bound given) sources.old) u64.MAX }
+    requires { (shard : ℕ) → (d : H) → shard < length sources.old
+        → IfSome given
+            (λ radius. radius ≤ (H.asked (slice_index_or sources.old shard d)).farthest) }
+    ensures bound { result
+        ≡ min (sum_by (λ source. (H.asked source).bound given) sources.old) u64.MAX }
     ensures asked { map H.asked sources.new ≡ map H.asked sources.old }
     ensures standing { map H.standing sources.new ≡ map H.standing sources.old }
 {

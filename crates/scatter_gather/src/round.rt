@@ -4,19 +4,26 @@ ghost use Rattle.std.specs.Prelude.{◌≡◌, ◌≤◌, ◌+◌, length};
 ghost use Rattle.std.specs.Thread.{IsSync};
 ghost use Rattle.hamming_model.specs.declared.limits.TheConstants.{SHARDS_MOST};
 ghost use Rattle.scatter_gather.specs.Gathering.{sources_of};
-ghost use Rattle.scatter_gather.specs.Polling.{PollsOnce, EachMarked, MarkedAreEmpty, IsMarked, PollsAll, PollsIfNext, PollsSome};
+ghost use Rattle.scatter_gather.specs.Polling.{PollsOnce, EachMarked, MarkedAreEmpty, IsMarked};
+ghost use Rattle.scatter_gather.specs.Polling.{PollsAll, PollsIfNext, PollsSome};
 
 use crate::Gate;
 use crate::looks::{least_floor, may_have_next};
+use hamming_model::SHARDS_MOST;
 use hit_source::{HitSource, Polled};
 use read_meter::{Meters, Steps};
 use std::thread::{Threads, join_mut};
 
+// One mark for each source that a gathering may have, `SHARDS_MOST` of them.
+const SOURCES: usize = SHARDS_MOST as usize;
+
 // The budget of polls one after the other: about what a thread costs.
 const BUDGET_IN_TURN: u32 = 4096;
 
-// Polls the marked sources, each in a thread of its own where threads can be had. It answers whether one
-// of them has more to do at once.
+// Polls the marked sources, each in a thread of its own where threads can be had. It answers
+// whether one of them has more to do at once.
+//
+// Numbers go into the closures by reference: one that took them by value would lose the slices.
 #[cycle(marked)]
 pub(crate) fn poll_marked<R: Threads + Sync, H: HitSource, G: Gate, L: Send>(
     rt: &R,
@@ -28,25 +35,22 @@ pub(crate) fn poll_marked<R: Threads + Sync, H: HitSource, G: Gate, L: Send>(
     meters: &mut [Steps<L>],
 ) -> bool
     requires budget { 1 ≤ budget.now }
-    requires lengths { (length sources.old ≡ length meters.old) × (length marks.now ≡ length meters.old) }
-    requires small { first.now + length sources.old ≤ 16 }
+    requires ledgers { length sources.old ≡ length meters.old }
+    requires marks { length marks.now ≡ length meters.old }
+    requires small { first.now + length sources.old ≤ SHARDS_MOST }
     requires empty { MarkedAreEmpty H.standing marks.now sources.old }
     ensures each { EachMarked (PollsOnce H.asked H.standing budget.now)
         marks.now sources.old meters.old sources.new meters.new }
 {
     let count = sources.len();
-    if count == 0 {
+    if count == 0 || count == 1 && !marks[0] {
         return false;
     }
     if count == 1 {
-        if !marks[0] {
-            return false;
-        }
         gate.pass(*first);
         let polled = sources[0].poll(*budget, &mut meters[0]);
         return goes_on(polled, &sources[0]);
     }
-    // Numbers are handed in by reference: a closure that takes one by value beside a slice loses the slice.
     let half = count / 2;
     let next = &(*first + half);
     let (front, back) = sources.split_at_mut(half);
@@ -57,8 +61,9 @@ pub(crate) fn poll_marked<R: Threads + Sync, H: HitSource, G: Gate, L: Send>(
         &mut ||
             requires sync { IsSync R.row }
             requires budget { 1 ≤ budget.now }
-            requires lengths { (length front.now ≡ length low.now) × (length marks_low.now ≡ length low.now) }
-            requires small { first.now + length front.now ≤ 16 }
+            requires ledgers { length front.now ≡ length low.now }
+            requires marks { length marks_low.now ≡ length low.now }
+            requires small { first.now + length front.now ≤ SHARDS_MOST }
             requires empty { MarkedAreEmpty H.standing marks_low.now front.now }
             ensures { EachMarked (PollsOnce H.asked H.standing budget.entry.now)
                 marks_low.entry.now front.entry.now low.entry.now front.exit.now low.exit.now }
@@ -66,8 +71,9 @@ pub(crate) fn poll_marked<R: Threads + Sync, H: HitSource, G: Gate, L: Send>(
         &mut ||
             requires sync { IsSync R.row }
             requires budget { 1 ≤ budget.now }
-            requires lengths { (length back.now ≡ length high.now) × (length marks_high.now ≡ length high.now) }
-            requires small { next.now + length back.now ≤ 16 }
+            requires ledgers { length back.now ≡ length high.now }
+            requires marks { length marks_high.now ≡ length high.now }
+            requires small { next.now + length back.now ≤ SHARDS_MOST }
             requires empty { MarkedAreEmpty H.standing marks_high.now back.now }
             ensures { EachMarked (PollsOnce H.asked H.standing budget.entry.now)
                 marks_high.entry.now back.entry.now high.entry.now back.exit.now high.exit.now }
@@ -96,8 +102,8 @@ pub(crate) fn mark<H: HitSource>(sources: &[H], marks: &mut [bool])
     }
 }
 
-// Polls the sources that may have the next hit, side by side. It takes no memory, and answers whether one
-// of them has more to do at once.
+// Polls the sources that may have the next hit, side by side. It takes no memory, and answers
+// whether one of them has more to do at once.
 pub(crate) fn poll_all<R: Threads + Sync, H: HitSource, G: Gate, L: Send>(
     rt: &R,
     gate: &G,
@@ -111,7 +117,7 @@ pub(crate) fn poll_all<R: Threads + Sync, H: HitSource, G: Gate, L: Send>(
     ensures { PollsAll H.asked H.standing budget sources.old sources.new meters.old meters.new }
 {
     let count = sources.len();
-    let mut all_marks = [false; 16];
+    let mut all_marks = [false; SOURCES];
     let (marks, _unused) = all_marks.split_at_mut(count);
     mark(sources, marks);
     let (ours, _others) = meters.as_mut().split_at_mut(count);
@@ -128,7 +134,8 @@ fn poll_if_next<H: HitSource, G: Gate, L>(
     steps: &mut Steps<L>,
 ) -> bool
     requires { 1 ≤ budget }
-    ensures { PollsIfNext H.asked H.standing budget least source.old steps.old source.new steps.new }
+    ensures { PollsIfNext H.asked H.standing budget least
+        source.old steps.old source.new steps.new }
 {
     if !may_have_next(source, least) {
         return false;
@@ -138,8 +145,8 @@ fn poll_if_next<H: HitSource, G: Gate, L>(
     goes_on(polled, source)
 }
 
-// Polls the sources that may have the next hit, one after the other, and answers whether one of them has
-// more to do at once.
+// Polls the sources that may have the next hit, one after the other, and answers whether one of
+// them has more to do at once.
 pub(crate) fn poll_in_turn<H: HitSource, G: Gate, L>(
     gate: &G,
     budget: u32,
@@ -153,14 +160,15 @@ pub(crate) fn poll_in_turn<H: HitSource, G: Gate, L>(
     let least = least_floor(sources);
     let mut goes_on = false;
     for shard in 0..sources.len() {
-        let more = poll_if_next(gate, budget, least, shard, &mut sources[shard], &mut meters[shard]);
+        let steps = &mut meters[shard];
+        let more = poll_if_next(gate, budget, least, shard, &mut sources[shard], steps);
         goes_on = goes_on || more;
     }
     goes_on
 }
 
-// Polls the sources that may have the next hit: side by side if there is much to do, else one after the
-// other with a small budget. It answers whether one of them has more to do at once.
+// Polls the sources that may have the next hit: side by side if there is much to do, else one after
+// the other with a small budget. It answers whether one of them has more to do at once.
 pub(crate) fn poll_by<R: Threads + Sync, H: HitSource, G: Gate, L: Send>(
     rt: &R,
     gate: &G,

@@ -15,17 +15,21 @@ kept_few : (kept : Option Hit) → length (option_to_list kept) ≤ 1
 kept_few None = omega arith
 kept_few (Some hit) = omega arith
 
-none_left : (p : Planned) (w : Place) → length (hits_left p w) ≤ reads_left p w → reads_left p w ≡ 0 → hits_left p w ≡ []
+none_left : (p : Planned) (w : Place) → length (hits_left p w) ≤ reads_left p w → reads_left p w ≡ 0
+    → hits_left p w ≡ []
 none_left p w few none = nil_from_length (hits_left p w) (omega arith)
 
-module _ (p : Planned) (old new : Place) (hits : Window) (reads : ℕ) (is : IsTask p old hits reads) (more : reads < p.least) (place : IsPlace p new) where
-  module _ (kept : Option Hit) (of_hits : hits_left p old ≡ option_to_list kept ++ hits_left p new) (of_reads : reads_left p old ≡ reads_left p new + 1) where
+module _ (p : Planned) (old new : Place) (hits : Window) (reads : ℕ) (is : IsTask p old hits reads)
+    (more : reads < p.least) (place : IsPlace p new) where
+  module _ (kept : Option Hit) (of_hits : hits_left p old ≡ option_to_list kept ++ hits_left p new)
+      (of_reads : reads_left p old ≡ reads_left p new + 1) where
     found_more : length (hits.found ++ option_to_list kept) ≤ reads + 1
     found_more = omega (arith, length-append hits.found (option_to_list kept), kept_few kept, is.few)
 
     answer_kept : in_order ((hits.found ++ option_to_list kept) ++ hits_left p new) ≡ scan_of p
     answer_kept =
-        ap in_order (append_assoc hits.found (option_to_list kept) (hits_left p new)) ∙ ap (λ xs. in_order (hits.found ++ xs)) (sym of_hits) ∙ (is.search more).answer
+        ap in_order (append_assoc hits.found (option_to_list kept) (hits_left p new))
+            ∙ ap (λ xs. in_order (hits.found ++ xs)) (sym of_hits) ∙ (is.search more).answer
 
     -- a posting was read that isn't the last
     pub read_on : reads + 1 ≢ p.least → IsTask p new (with_kept hits kept) (reads + 1)
@@ -46,7 +50,8 @@ module _ (p : Planned) (old new : Place) (hits : Window) (reads : ℕ) (is : IsT
         }
 
     -- the last posting was read, and what was found was put in order
-    pub read_last : length (hits_left p new) ≤ reads_left p new → reads + 1 ≡ p.least → IsTask p new (put_in_order (with_kept hits kept)) (reads + 1)
+    pub read_last : length (hits_left p new) ≤ reads_left p new → reads + 1 ≡ p.least
+        → IsTask p new (put_in_order (with_kept hits kept)) (reads + 1)
     read_last few last =
         let search = is.search more in
         let behind = is.window.behind in
@@ -64,7 +69,8 @@ module _ (p : Planned) (old new : Place) (hits : Window) (reads : ℕ) (is : IsT
           few = omega arith;
           bounded = omega arith;
           search = λ again. absurd (omega arith);
-          found_all = λ all. sym (ap (λ xs. in_order (found ++ xs)) nothing ∙ ap in_order (append-nil found)) ∙ answer_kept;
+          found_all = λ all. sym (ap (λ xs. in_order (found ++ xs)) nothing ∙ ap in_order (append-nil found))
+              ∙ answer_kept;
         }
 
   -- a value of a ball was taken
@@ -79,12 +85,15 @@ module _ (p : Planned) (old new : Place) (hits : Window) (reads : ℕ) (is : IsT
         reserved = is.reserved;
         few = is.few;
         bounded = is.bounded;
-        search = λ again. record { place = place; left = omega arith; answer = ap (λ xs. in_order (hits.found ++ xs)) of_hits ∙ search.answer; none_moved = search.none_moved };
+        search = λ again. record { place = place; left = omega arith; answer =
+            ap (λ xs. in_order (hits.found ++ xs)) of_hits ∙ search.answer; none_moved = search.none_moved };
         found_all = λ all. absurd (omega arith);
       }
 
 -- a query that was opened has nothing found
-pub task_begins : (p : Planned) (w : Place) (room : ℕ) → p.tau ≤ p.version.contents.layout.bits → 1 ≤ room → IsPlace p w → in_order (hits_left p w) ≡ scan_of p → reads_left p w ≡ p.least → length (hits_left p w) ≤ reads_left p w
+pub task_begins : (p : Planned) (w : Place) (room : ℕ) → p.tau ≤ p.version.contents.layout.bits → 1 ≤ room
+    → IsPlace p w → in_order (hits_left p w) ≡ scan_of p → reads_left p w ≡ p.least
+    → length (hits_left p w) ≤ reads_left p w
     → IsTask p w (window_of [] p.least room) 0
 task_begins p w room near some place answer reads few = record {
   window = record { behind = omega arith; among = omega arith; fits = omega arith };

@@ -22,15 +22,18 @@ second true b both = both
 second false b both = cc
 
 -- a step of the search is one unit of work
-pub search_works : (p : Planned) (old new : Place) (hits more_hits : Window) (reads more_reads from to : ℕ) → IsTask p old hits reads → reads < p.least
-    → more_hits.given ≡ hits.given → more_hits.moved ≡ hits.moved → reads ≤ more_reads → more_reads ≤ reads + 1 → to + reads ≡ from + more_reads
+pub search_works : (p : Planned) (old new : Place) (hits more_hits : Window) (reads more_reads from to : ℕ)
+    → IsTask p old hits reads → reads < p.least
+    → more_hits.given ≡ hits.given → more_hits.moved ≡ hits.moved → reads ≤ more_reads → more_reads ≤ reads + 1
+        → to + reads ≡ from + more_reads
     → values_left p new + (p.least - more_reads) + 1 ≡ values_left p old + (p.least - reads)
     → Works None 1 (standing_of p old hits reads) (standing_of p new more_hits more_reads) from to
 search_works p old new hits more_hits reads more_reads from to is more given moved rises fewer ledger units =
     let none = (is.search more).none_moved in
     let waiting = length-take (more_hits.moved - more_hits.given) (left_of more_hits) in
     let searching : (reads == p.least) ≡ false = ne_eqb reads p.least (λ (e : reads ≡ p.least). omega arith) in
-    subst (λ b. Works None 1 (standing_at p old hits reads b) (standing_of p new more_hits more_reads) from to) (sym searching) (record {
+    subst (λ b. Works None 1 (standing_at p old hits reads b) (standing_of p new more_hits more_reads) from to)
+        (sym searching) (record {
       given = given;
       floor = above_zero (cond (more_reads == p.least) (first_distance (left_of more_hits)) (Some 0));
       idle = λ none. cc;
@@ -46,7 +49,8 @@ search_works p old new hits more_hits reads more_reads from to is more given mov
 
 module _ (p : Planned) (w : Place) (hits : Window) (reads : ℕ) (is : IsTask p w hits reads) where
   -- moving a hit into the room is one unit of work
-  pub give_works : (from : ℕ) → reads ≡ p.least → hits.moved < length hits.found → hits.moved < hits.given + hits.room → Works None 1 (standing_of p w hits reads) (standing_of p w (with_moved hits) reads) from from
+  pub give_works : (from : ℕ) → reads ≡ p.least → hits.moved < length hits.found → hits.moved < hits.given + hits.room
+      → Works None 1 (standing_of p w hits reads) (standing_of p w (with_moved hits) reads) from from
   give_works from all next space =
       let few = is.few in
       let waiting = length-take (hits.moved - hits.given) (left_of hits) in
@@ -61,13 +65,16 @@ module _ (p : Planned) (w : Place) (hits : Window) (reads : ℕ) (is : IsTask p 
         spent = omega arith;
         begun = inl refl;
         farther = omega arith;
-        stays_ended = λ ended. absurd (omega (arith, eqb-true hits.moved (length hits.found) (second (reads == p.least) (hits.moved == length hits.found) ended)));
+        stays_ended = λ ended. absurd
+            (omega (arith, eqb-true hits.moved (length hits.found)
+            (second (reads == p.least) (hits.moved == length hits.found) ended)));
         units = omega arith;
       exact = λ same. omega arith;
       }
 
   -- a hit is in the room, and the query stays one
-  pub give_on : reads ≡ p.least → hits.moved < length hits.found → hits.moved < hits.given + hits.room → IsTask p w (with_moved hits) reads
+  pub give_on : reads ≡ p.least → hits.moved < length hits.found → hits.moved < hits.given + hits.room
+      → IsTask p w (with_moved hits) reads
   give_on all next space = record {
     window = record { behind = omega (arith, is.window.behind); among = omega arith; fits = omega arith };
     near = is.near;
@@ -80,16 +87,20 @@ module _ (p : Planned) (w : Place) (hits : Window) (reads : ℕ) (is : IsTask p 
   }
 
   floor_after : (all_read : Bool) → (reads == p.least) ≡ all_read
-      → NotBelow (cond all_read (first_distance (left_of hits)) (Some 0)) (cond all_read (first_distance (left_of (with_given hits))) (Some 0))
+      → NotBelow (cond all_read (first_distance (left_of hits)) (Some 0))
+          (cond all_read (first_distance (left_of (with_given hits))) (Some 0))
   floor_after false searching = omega arith
   floor_after true all =
       let found = is.found_all (eqb-true reads p.least all) in
-      let up : Ascends hits.found = subst Ascends (sym found) (ascends_in_order (hits_within p.version.contents.rows (query_of p) p.tau)) in
-      subst (λ xs. NotBelow (first_distance (left_of hits)) (first_distance xs)) (drop-drop (length (take 1 (waiting_of hits))) hits.given hits.found)
+      let up : Ascends hits.found =
+          subst Ascends (sym found) (ascends_in_order (hits_within p.version.contents.rows (query_of p) p.tau)) in
+      subst (λ xs. NotBelow (first_distance (left_of hits)) (first_distance xs))
+          (drop-drop (length (take 1 (waiting_of hits))) hits.given hits.found)
       (floor_rises (length (take 1 (waiting_of hits))) (left_of hits) (ascends_drop hits.given hits.found up))
 
   -- the first hit that waits is taken
-  pub task_pops : Pops (standing_of p w hits reads) (standing_of p w (with_given hits) reads) (first_of (waiting_of hits))
+  pub task_pops : Pops (standing_of p w hits reads) (standing_of p w (with_given hits) reads)
+      (first_of (waiting_of hits))
   task_pops = record {
     head = refl;
     waiting = rest_waits hits is.window;

@@ -58,14 +58,17 @@ module _ (p : Planned) (w : Place) (hits : Window) (reads : ℕ) (is : IsTask p 
         };
       }
     where
-      none_waits : length (waiting_of hits) ≡ 0 → waiting_of hits ≡ take (length (waiting_of hits)) (drop hits.given (scan_of p))
-      none_waits empty = nil_from_length (waiting_of hits) empty ∙ sym (ap (λ n. take n (drop hits.given (scan_of p))) empty)
+      none_waits : length (waiting_of hits) ≡ 0
+          → waiting_of hits ≡ take (length (waiting_of hits)) (drop hits.given (scan_of p))
+      none_waits empty = nil_from_length (waiting_of hits) empty
+          ∙ sym (ap (λ n. take n (drop hits.given (scan_of p))) empty)
 
   -- when all is read the hits are the answer
   when_read : reads ≡ p.least → IsLawful (asked_of p hits.room) (standing_at p w hits reads true)
   when_read all =
       let found = is.found_all all in
-      let up : Ascends hits.found = subst Ascends (sym found) (ascends_in_order (hits_within p.version.contents.rows (query_of p) p.tau)) in
+      let up : Ascends hits.found =
+          subst Ascends (sym found) (ascends_in_order (hits_within p.version.contents.rows (query_of p) p.tau)) in
       let reached_all = given_or_waiting in
       let number = ap length found in
       let among = is.window.among in
@@ -77,7 +80,8 @@ module _ (p : Planned) (w : Place) (hits : Window) (reads : ℕ) (is : IsTask p 
         each_read = omega (arith, is.few);
         begun = record { range = λ range. refl; near = tt };
         bounded = is.bounded;
-        floor = window_floor (asked_of p hits.room) hits reads (hits.moved == length hits.found) (units_left p w hits reads) (sym found) up is.window
+        floor = window_floor (asked_of p hits.room) hits reads (hits.moved == length hits.found)
+            (units_left p w hits reads) (sym found) up is.window
             (λ given. eq-eqb hits.moved (length hits.found) (omega (arith, given, is.window.behind)));
         end = record {
           all_reached = λ ended. omega (arith, eqb-true hits.moved (length hits.found) ended);
@@ -90,7 +94,9 @@ module _ (p : Planned) (w : Place) (hits : Window) (reads : ℕ) (is : IsTask p 
   -- a range query is lawful
   pub task_lawful : IsLawful (asked_of p hits.room) (standing_of p w hits reads)
   task_lawful =
-      ⊎_elim (λ (more : reads < p.least). subst (λ b. IsLawful (asked_of p hits.room) (standing_at p w hits reads b)) (sym (ne_eqb reads p.least (λ (e : reads ≡ p.least). omega arith))) (while_searching more))
+      ⊎_elim (λ (more : reads < p.least). subst (λ b. IsLawful (asked_of p hits.room) (standing_at p w hits reads b))
+          (sym (ne_eqb reads p.least (λ (e : reads ≡ p.least). omega arith))) (while_searching more))
       (λ (all : p.least ≤ reads). (let read : reads ≡ p.least = omega (arith, is.bounded) in
-      subst (λ b. IsLawful (asked_of p hits.room) (standing_at p w hits reads b)) (sym (eq-eqb reads p.least read)) (when_read read)))
+      subst (λ b. IsLawful (asked_of p hits.room) (standing_at p w hits reads b)) (sym (eq-eqb reads p.least read))
+          (when_read read)))
       (cases_lt reads p.least)

@@ -46,12 +46,14 @@ impl<const W: usize> RangeTask<W> {
         room: usize,
     ) -> Result<RangeTask<W>, NoMemory>
         requires few_words { W ≤ WORDS_MOST }
-        requires code { StandsFor W (arc_value version).contents.layout.bits query (code_of (arc_value version).contents query) }
+        requires code { StandsFor W (arc_value version).contents.layout.bits query
+            (code_of (arc_value version).contents query) }
         requires near { tau ≤ (arc_value version).contents.layout.bits }
         requires some_room { 1 ≤ room }
         requires small_room { room ≤ ROOM_MOST }
         ensures asked { IfOk result (λ task.
-            AsksRange (arc_value version.entry).contents (code_of (arc_value version.entry).contents query.entry) tau room (⟦<RangeTask<W> as HitSource>⟧.asked task)) }
+            AsksRange (arc_value version.entry).contents (code_of (arc_value version.entry).contents query.entry)
+            tau room (⟦<RangeTask<W> as HitSource>⟧.asked task)) }
         ensures begins { IfOk result (λ task. BeginsRange (arc_value version.entry).contents
             (⟦<RangeTask<W> as HitSource>⟧.asked task) (⟦<RangeTask<W> as HitSource>⟧.standing task)) }
     {

@@ -1,5 +1,6 @@
 -- What a query on a version keeps: its values at the parts, and the masks of the parts.
-use Rattle.std.proofs.Common.{◌≡◌, ℕ, ◌+◌, ◌-◌, ◌*◌, ◌^◌, ◌<◌, ◌≤◌, List, [], length, replicate, drop, set, get_or, sym, ap, ◌∙◌, subst, arith}
+use Rattle.std.proofs.Common.{◌≡◌, ℕ, ◌+◌, ◌-◌, ◌*◌, ◌^◌, ◌<◌, ◌≤◌, List, [], length, replicate}
+use Rattle.std.proofs.Common.{drop, set, get_or, sym, ap, ◌∙◌, subst, arith}
 use Rattle.std.proofs.lemmas.List.{drop_more, drop_all, get_or-map, length-append, length-replicate}
 use Rattle.hamming_model.specs.Codes.{IsCode, StandsFor}
 use Rattle.hamming_model.specs.Layouts.{part_value, part_distance}
@@ -29,22 +30,27 @@ mask_step mask new part all place position less at is before =
 -- a mask to which nothing is left to add
 pub mask_end : (mask part all : List ℕ) (place : ℕ) → length part ≤ place
     → with_ones mask (drop place part) ≡ all → mask ≡ all
-mask_end mask part all place past before = sym (ap (with_ones mask) (drop_all place part past)) ∙ before
+mask_end mask part all place past before =
+    sym (ap (with_ones mask) (drop_all place part past)) ∙ before
 
 -- words that keep a code have all their positions
-pub stored_size : (words bits : ℕ) (stored code : List ℕ) → StandsFor words bits stored code → bits ≤ 64 * words
+pub stored_size : (words bits : ℕ) (stored code : List ℕ)
+    → StandsFor words bits stored code → bits ≤ 64 * words
     → length stored ≡ 64 * words
 stored_size words bits stored code stands room =
     let size = stands.is_code.size in
     let zeros : length (replicate {A = ℕ} (64 * words - length code) 0) ≡ 64 * words - length code =
     length-replicate (64 * words - length code) 0 in
-    let all = ap length stands.is_padded ∙ length-append code (replicate (64 * words - length code) 0) in
+    let joined = length-append code (replicate (64 * words - length code) 0) in
+    let all = ap length stands.is_padded ∙ joined in
     omega arith
 
 -- codes that are alike at all parts are alike at one
-pub alike_at : (layout : List (List ℕ)) (part : ℕ) (stored other code query : List ℕ) → part < length layout
+pub alike_at : (layout : List (List ℕ)) (part : ℕ) (stored other code query : List ℕ)
+    → part < length layout
     → part_distances layout stored other ≡ part_distances layout code query
-    → part_distance (get_or layout part []) stored other ≡ part_distance (get_or layout part []) code query
+    → part_distance (get_or layout part []) stored other
+    ≡ part_distance (get_or layout part []) code query
 alike_at layout part stored other code query less same =
     sym (get_or-map (λ positions. part_distance positions stored other) layout part [] 0 less)
     ∙ ap (λ ns. get_or ns part 0) same

@@ -15,4 +15,5 @@ pub record IsTable (counts : List ℕ) (tau parts : ℕ) : Type 0 where
 -- the counts at the first so many parts
 abbrev pub HasCounts : List ℕ → ℕ → ℕ → (ℕ → ℕ → ℕ) → Type 0
 HasCounts counts tau parts count =
-    (part units : ℕ) → part < parts → units ≤ tau + 1 → count_in counts tau part units ≡ count part units
+    (part units : ℕ) → part < parts → units ≤ tau + 1 →
+    count_in counts tau part units ≡ count part units

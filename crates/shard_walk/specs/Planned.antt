@@ -24,64 +24,75 @@ abbrev pub planned_code : Coded Planned
 planned_code =
     code_by (Tabled × (List ℕ × (ℕ × (List ℤ × ℕ))))
     (coded× tabled_code (coded× (coded_list coded_ℕ) (coded× coded_ℕ (coded× (coded_list coded_ℤ) coded_ℕ))))
-    (λ p. (p.version, (p.stored, (p.tau, (p.thresholds, p.least)))))
+    (λ plan. (plan.version, (plan.stored, (plan.tau, (plan.thresholds, plan.least)))))
     (λ t. record { version = t.0; stored = t.1.0; tau = t.1.1.0; thresholds = t.1.1.1.0; least = t.1.1.1.1 })
     (λ _. refl)
 
 -- a plan by its parts
 abbrev pub planned_of : Tabled → List ℕ → ℕ → List ℤ → ℕ → Planned
-planned_of version stored tau thresholds least = record { version = version; stored = stored; tau = tau; thresholds = thresholds; least = least }
+planned_of version stored tau thresholds least = record {
+  version = version;
+  stored = stored;
+  tau = tau;
+  thresholds = thresholds;
+  least = least;
+}
 
 -- the parts of the version's layout
 abbrev pub parts_of : Planned → List (List ℕ)
-parts_of p = parts_in p.version
+parts_of plan = parts_in plan.version
 
 -- the positions of a part
 abbrev pub part_of : Planned → ℕ → List ℕ
-part_of p part = part_in p.version part
+part_of plan part = part_in plan.version part
 
 -- the code that words keep
 abbrev pub code_of : Planned → List ℕ → List ℕ
-code_of p stored = code_in p.version stored
+code_of plan stored = code_in plan.version stored
 
 -- words that keep a code
 abbrev pub IsStored : ℕ → Planned → List ℕ → Type 0
-IsStored words p stored = KeepsCode words p.version stored
+IsStored words plan stored = KeepsCode words plan.version stored
 
 -- the code of the query
 abbrev pub query_of : Planned → List ℕ
-query_of p = code_of p p.stored
+query_of plan = code_of plan plan.stored
 
 -- the rows in the posting list of a part's value, in the order of the list
 abbrev pub list_of : Planned → ℕ → ℕ → List (ℕ × List ℕ)
-list_of p part value = list_in p.version part value
+list_of plan part value = list_in plan.version part value
 
 -- whether a part finds a code
 abbrev pub is_found : Planned → ℕ → List ℕ → Bool
-is_found p part code = nat_lt (part_distance (part_of p part) code (query_of p)) (units_of (threshold_at p.thresholds part))
+is_found plan part code =
+    nat_lt (part_distance (part_of plan part) code (query_of plan)) (units_of (threshold_at plan.thresholds part))
 
 -- the first part that finds a code
 abbrev pub part_found : Planned → List ℕ → ℕ
-part_found p code = first_part (map units_of p.thresholds) (part_distances (parts_of p) code (query_of p))
+part_found plan code =
+    first_part (map units_of plan.thresholds) (part_distances (parts_of plan) code (query_of plan))
 
 -- the hit of a row, if a part keeps it
 abbrev pub kept_hit : Planned → ℕ → ℕ × List ℕ → Option Hit
-kept_hit p part row =
-    if is_kept (parts_of p) p.thresholds (query_of p) p.tau part row then Some (hit_of (query_of p) row) else None
+kept_hit plan part row =
+    if is_kept (parts_of plan) plan.thresholds (query_of plan) plan.tau part row
+    then Some (hit_of (query_of plan) row) else None
 
 -- the thresholds are the first of the cheapest vectors, for codes of so many words
-pub record IsPlan (words : ℕ) (p : Planned) : Type 0 where
+pub record IsPlan (words : ℕ) (plan : Planned) : Type 0 where
   pub few_words : words ≤ 8
-  pub version : IsVersion p.version.contents
-  pub tables : HasTables words p.version
-  pub query : IsStored words p p.stored
-  pub near : p.tau ≤ p.version.contents.layout.bits
-  pub choice : IsChoice (row_counts p.version.contents.rows (parts_of p) (query_of p)) p.tau (length (parts_of p)) p.thresholds
-  pub least : IsLeast (row_counts p.version.contents.rows (parts_of p) (query_of p)) p.tau (length (parts_of p)) p.least
-  pub few : p.least ≤ length p.version.contents.rows
+  pub version : IsVersion plan.version.contents
+  pub tables : HasTables words plan.version
+  pub query : IsStored words plan plan.stored
+  pub near : plan.tau ≤ plan.version.contents.layout.bits
+  pub choice : IsChoice (row_counts plan.version.contents.rows (parts_of plan) (query_of plan))
+      plan.tau (length (parts_of plan)) plan.thresholds
+  pub least : IsLeast (row_counts plan.version.contents.rows (parts_of plan) (query_of plan))
+      plan.tau (length (parts_of plan)) plan.least
+  pub few : plan.least ≤ length plan.version.contents.rows
 
 -- what a plan is of: a query on a version
-pub record Plans (version : Tabled) (stored : List ℕ) (tau : ℕ) (p : Planned) : Type 0 where
-  pub version_is : p.version ≡ version
-  pub stored_is : p.stored ≡ stored
-  pub tau_is : p.tau ≡ tau
+pub record Plans (version : Tabled) (stored : List ℕ) (tau : ℕ) (plan : Planned) : Type 0 where
+  pub version_is : plan.version ≡ version
+  pub stored_is : plan.stored ≡ stored
+  pub tau_is : plan.tau ≡ tau

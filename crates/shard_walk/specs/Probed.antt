@@ -1,4 +1,5 @@
--- A query on a version: the words that keep its code, and what the version's layout and posting lists are to it.
+-- A query on a version: the words that keep its code, and what the version's layout and posting
+-- lists are to it.
 use Rattle.std.specs.Prelude.{ℕ, ◌≤◌, List, [], map, take, slice_index_or, refl}
 use Rattle.std.specs.Coded.{Coded, code_by, coded×, coded_list, coded_ℕ}
 use Rattle.hamming_model.specs.Codes.{StandsFor}

@@ -1,4 +1,5 @@
--- A walk over the posting lists of a plan, part by part, each by the values of its ball: where it stands, and what it still has to read.
+-- A walk over the posting lists of a plan, part by part, each by the values of its ball: where it
+-- stands, and what it still has to read.
 use Rattle.std.specs.Prelude.{◌≡◌, ℕ, ◌+◌, ◌^◌, ◌<◌, ◌≤◌, ℤ, List, [], ◌∷◌, ◌++◌, length, take, drop, All}
 use Rattle.std.specs.List.{flat_map}
 use Rattle.hamming_model.specs.declared.hit.Hit.{Hit}
@@ -10,7 +11,8 @@ use Rattle.search_model.specs.Reading.{parts_read, number_read}
 use Rattle.search_model.specs.Keeping.{hits_of_parts}
 use Rattle.shard_walk.specs.Planned.{Planned, parts_of, part_of, query_of, list_of}
 
--- the part, the values of its ball that are left, and the posting list of a value: the next place in it, and where it ends
+-- the part, the values of its ball that are left, and the posting list of a value: the next place in
+-- it, and where it ends
 pub record Place : Type 0 where
   pub part : ℕ
   pub ball : List ℕ
@@ -20,71 +22,81 @@ pub record Place : Type 0 where
 
 -- the ball of a part
 abbrev pub ball_of : Planned → ℕ → List ℕ
-ball_of p part =
-    ball (part_value (query_of p) (part_of p part)) (length (part_of p part)) (units_of (threshold_at p.thresholds part))
+ball_of plan part =
+    ball (part_value (query_of plan) (part_of plan part)) (length (part_of plan part))
+    (units_of (threshold_at plan.thresholds part))
 
 -- a part of which nothing was read
 abbrev pub part_begun : Planned → ℕ → Place
-part_begun p part = record { part = part; ball = ball_of p part; value = 0; next = 0; size = 0 }
+part_begun plan part =
+    record { part = part; ball = ball_of plan part; value = 0; next = 0; size = 0 }
 
 -- a value of the ball is next, and no posting of it was read
 abbrev pub value_begun : Planned → Place → ℕ → List ℕ → Place
-value_begun p w value rest = record w { ball = rest; value = value; next = 0; size = length (list_of p w.part value) }
+value_begun plan place value rest =
+    record place { ball = rest; value = value; next = 0; size = length (list_of plan place.part value) }
 
 -- one posting more was read
 abbrev pub after_posting : Place → Place
-after_posting w = record w { next = w.next + 1 }
+after_posting place = record place { next = place.next + 1 }
 
 -- the rows of the posting list that are left
 abbrev pub rest_of_list : Planned → Place → List (ℕ × List ℕ)
-rest_of_list p w = drop w.next (take w.size (list_of p w.part w.value))
+rest_of_list plan place = drop place.next (take place.size (list_of plan place.part place.value))
 
 -- the rows that are left to read, by part
 abbrev pub rows_left : Planned → Place → List (List (ℕ × List ℕ))
-rows_left p w =
-    (rest_of_list p w ++ flat_map (list_of p w.part) w.ball)
-    ∷ parts_read (list_of p) (w.part + 1) (drop (w.part + 1) (parts_of p)) (drop (w.part + 1) p.thresholds) (query_of p)
+rows_left plan place =
+    (rest_of_list plan place ++ flat_map (list_of plan place.part) place.ball)
+    ∷ parts_read (list_of plan) (place.part + 1) (drop (place.part + 1) (parts_of plan))
+    (drop (place.part + 1) plan.thresholds) (query_of plan)
 
 -- how many they are
 abbrev pub reads_left : Planned → Place → ℕ
-reads_left p w = number_read (rows_left p w)
+reads_left plan place = number_read (rows_left plan place)
 
 -- the hits that will be kept of them
 abbrev pub hits_left : Planned → Place → List Hit
-hits_left p w = hits_of_parts (parts_of p) p.thresholds (query_of p) p.tau w.part (rows_left p w)
+hits_left plan place =
+    hits_of_parts (parts_of plan) plan.thresholds (query_of plan) plan.tau place.part
+    (rows_left plan place)
 
 -- how many values the balls of parts have
 abbrev pub values_of : List (List ℕ) → List ℤ → List ℕ → ℕ
 values_of [] thresholds query = 0
 values_of (part ∷ parts) [] query = 0
-values_of (part ∷ parts) (t ∷ ts) query = length (ball (part_value query part) (length part) (units_of t)) + values_of parts ts query
+values_of (part ∷ parts) (t ∷ ts) query =
+    length (ball (part_value query part) (length part) (units_of t)) + values_of parts ts query
 
 -- how many values of balls are left
 abbrev pub values_left : Planned → Place → ℕ
-values_left p w = length w.ball + values_of (drop (w.part + 1) (parts_of p)) (drop (w.part + 1) p.thresholds) (query_of p)
+values_left plan place =
+    length place.ball
+    + values_of (drop (place.part + 1) (parts_of plan)) (drop (place.part + 1) plan.thresholds)
+    (query_of plan)
 
 -- a place at a part of the plan, in the posting list of a value there
-pub record IsPlace (p : Planned) (w : Place) : Type 0 where
-  pub few_parts : length (parts_of p) ≤ 64
-  pub thresholds : length p.thresholds ≡ length (parts_of p)
-  pub part : w.part < length (parts_of p)
-  pub ball : All (λ value. value < 2 ^ length (part_of p w.part)) w.ball
-  pub value : w.value < 2 ^ length (part_of p w.part)
-  pub next : w.next ≤ w.size
-  pub size : w.size ≤ length (list_of p w.part w.value)
+pub record IsPlace (plan : Planned) (place : Place) : Type 0 where
+  pub few_parts : length (parts_of plan) ≤ 64
+  pub thresholds : length plan.thresholds ≡ length (parts_of plan)
+  pub part : place.part < length (parts_of plan)
+  pub ball : All (λ value. value < 2 ^ length (part_of plan place.part)) place.ball
+  pub value : place.value < 2 ^ length (part_of plan place.part)
+  pub next : place.next ≤ place.size
+  pub size : place.size ≤ length (list_of plan place.part place.value)
 
 -- the next value of a ball was taken, and what is left to read is as before
-pub record BeginsValue (p : Planned) (old new : Place) : Type 0 where
-  pub place : IsPlace p new
-  pub hits : hits_left p new ≡ hits_left p old
-  pub reads : reads_left p new ≡ reads_left p old
-  pub values : values_left p old ≡ values_left p new + 1
+pub record BeginsValue (plan : Planned) (old new : Place) : Type 0 where
+  pub place : IsPlace plan new
+  pub hits : hits_left plan new ≡ hits_left plan old
+  pub reads : reads_left plan new ≡ reads_left plan old
+  pub values : values_left plan old ≡ values_left plan new + 1
 
 -- a part with nothing left was passed, and what is left to read is as before
-pub record PassesPart (p : Planned) (old new : Place) : Type 0 where
-  pub place : IsPlace p new
+pub record PassesPart (plan : Planned) (old new : Place) : Type 0 where
+  pub place : IsPlace plan new
   pub next_part : new.part ≡ old.part + 1
   pub at_start : new.next ≡ new.size
-  pub hits : hits_left p new ≡ hits_left p old
-  pub reads : reads_left p new ≡ reads_left p old
-  pub values : values_left p new ≡ values_left p old
+  pub hits : hits_left plan new ≡ hits_left plan old
+  pub reads : reads_left plan new ≡ reads_left plan old
+  pub values : values_left plan new ≡ values_left plan old

@@ -22,8 +22,8 @@ use std::alloc::Global;
 use std::marker::Model;
 use std::sync::Arc;
 
-/// A query on a version, with the value of the query at each part and the mask of the part's positions.
-/// All that a search asks of the version goes through it.
+/// A query on a version, with the value of the query at each part and the mask of the part's
+/// positions. All that a search asks of the version goes through it.
 #[derive(Drop)]
 pub(crate) struct Probe<const W: usize> {
     version: Arc<Version<W>>,
@@ -93,7 +93,8 @@ impl<const W: usize> Probe<W> {
         requires { part < length (parts_in self.now.version) }
         ensures { let version = self.now.version in
             (units : ℕ) → units < length out.old → slice_index out.new units
-            ≡ row_counts version.contents.rows (parts_in version) (code_in version self.now.stored) part units }
+            ≡ row_counts version.contents.rows (parts_in version)
+            (code_in version self.now.stored) part units }
     {
         counts_are_of_the_rows();
         changes_follow_a_list();

@@ -11,8 +11,8 @@ use std::alloc::Global;
 use threshold_dp::PartCounts;
 use threshold_model::counts_of_rows_are_lawful;
 
-/// How many rows of a version are within each radius of a query, part by part: `tau + 2` numbers for each
-/// part, for the radii -1 to tau.
+/// How many rows of a version are within each radius of a query, part by part: `tau + 2` numbers for
+/// each part, for the radii -1 to tau.
 #[derive(Drop)]
 pub(crate) struct RadiusCounts {
     tau: u32,
@@ -37,7 +37,8 @@ impl RadiusCounts {
         ensures parts { IfOk result (λ table. table.parts ≡ length (parts_in probe.now.version)) }
         ensures counts { IfOk result (λ table. let version = probe.now.version in
             HasCounts table.counts.items tau (length (parts_in version))
-            (row_counts version.contents.rows (parts_in version) (code_in version probe.now.stored))) }
+            (row_counts version.contents.rows (parts_in version)
+            (code_in version probe.now.stored))) }
     {
         counts_of_rows_are_lawful();
         let parts = probe.parts();

@@ -1,83 +1,161 @@
 -- A row written into the rows of picks, and a split read out of them.
-use Rattle.std.proofs.Common.{◌≡◌, ℤ, ℕ, ◌+◌, ◌-◌, ◌<◌, ◌≤◌, List, [], ◌∷◌, ◌++◌, length, get_or, set, map, drop, sym, ap, ◌∙◌, subst, arith}
-use Rattle.std.specs.Global.{Vec}
-use Rattle.std.specs.Vec.{with_items}
-use Rattle.std.proofs.lemmas.List.{with_items_is, at_drop_more, get_or-map, get_or_read, append_assoc, map-set, drop-set, drop_all, length-map}
-use Rattle.std.proofs.lemmas.List.Elements.{All-set, All-get_or}
+use Rattle.std.proofs.Common.{◌≡◌, ℤ, ℕ, zero, suc, ◌+◌, ◌-◌, ◌*◌, ◌<◌, ◌≤◌, List, [], ◌∷◌, ◌++◌, length, take, get_or, map}
+use Rattle.std.proofs.Common.{drop, refl, sym, ap, ◌∙◌, subst, arith}
+use Rattle.std.proofs.Math.Nat.{mul_comm}
+use Rattle.std.proofs.lemmas.List.{length-take-le, length-drop, length-append, take_at, drop_at, drop-drop, get_or-take, get_or-drop, append_assoc}
+use Rattle.std.proofs.lemmas.Nat.{mul-add-lt}
+use borrow.Rule.Slice.PartMut.{put_mid, post_of}
 use Rattle.threshold_model.specs.Splits.{units_total, threshold_of}
-use Rattle.threshold_dp.specs.Table.{rows_of, HaveWidth, KeepWidths, follow, AreAsked, IsRowFrom, IsLastRow, IsSolved}
+use Rattle.threshold_dp.specs.Table.{rows_of, follow, AreAsked, IsRowFrom, IsLastRow, IsSolved}
 use Rattle.threshold_dp.proofs.TableLemmas.{solved_last, solved_more}
 
-pub keep_then : (old mid new : List (Vec ℕ)) → KeepWidths old mid → KeepWidths mid new → KeepWidths old new
-keep_then old mid new first second = record { widths = λ width wide. second.widths width (first.widths width wide) }
+-- a place in a row
+pub place_below : (part parts width at : ℕ) → part < parts → at < width → part * width + at < parts * width
+place_below part parts width at less within =
+    omega (arith, mul-add-lt part width at parts less within, mul_comm width parts)
+
+-- a row lies within all rows
+pub row_within : (part parts width : ℕ) → part < parts → 0 < width → part * width + width ≤ parts * width
+row_within part parts width less some =
+    let last = place_below part parts width (width - 1) less (omega arith) in
+    omega arith
+
+-- the next row begins a width later
+next_row : (part width : ℕ) → part * width + width ≡ (part + 1) * width
+next_row part width = omega arith
+
+-- the rows of one part more
+rows_more : (width parts part : ℕ) (picks : List ℕ) → part < parts
+    → rows_of width (parts - part) (drop (part * width) picks)
+    ≡ take width (drop (part * width) picks) ∷ rows_of width (parts - (part + 1)) (drop ((part + 1) * width) picks)
+rows_more width parts part picks less =
+    let more : parts - part ≡ suc (parts - (part + 1)) = omega arith in
+    let rest : List ℕ = drop (part * width) picks in
+    ap (λ n. rows_of width n rest) more
+    ∙ ap (λ xs. take width rest ∷ rows_of width (parts - (part + 1)) xs)
+    (drop-drop width (part * width) picks ∙ ap (λ n. drop n picks) (next_row part width))
 
 -- the row of one part is written
-module _ (picks : List (Vec ℕ)) (part : ℕ) (row : Vec ℕ) (items : List ℕ)
-    (within : part < length picks) (size : length items ≡ length (get_or picks part row).items) where
-  abbrev pub written : List (Vec ℕ)
-  written = set picks part (with_items (get_or picks part row) items)
+module _ (picks row : List ℕ) (width parts part span : ℕ) (wide : span ≡ width) (less : part < parts) (some : 0 < width)
+    (size : length row ≡ width) (room : parts * width ≤ length picks) where
+  abbrev pub written : List ℕ
+  written = put_mid (part * width) span picks row
 
-  items_are : (with_items (get_or picks part row) items).items ≡ items
-  items_are = with_items_is (get_or picks part row) items (size ∙ sym (get_or picks part row).ok.0)
+  front_size : length (take (part * width) picks) ≡ part * width
+  front_size = length-take-le (part * width) picks (omega (arith, row_within part parts width less some, room))
 
-  pub keep_written : KeepWidths picks written
-  keep_written =
-      record {
-        widths = λ width wide.
-            All-set (λ row. width ≤ length row.items) picks part (with_items (get_or picks part row) items)
-            (let here = All-get_or (λ row. width ≤ length row.items) picks part row within wide in omega (arith, here, ap length items_are)) wide;
-      }
+  from_row : drop (part * width) written ≡ row ++ drop width (drop (part * width) picks)
+  from_row =
+      drop_at (take (part * width) picks) (row ++ post_of (part * width) span picks) (part * width) front_size
+      ∙ ap (λ n. row ++ post_of (part * width) n picks) wide
 
-  rows_written : drop part (rows_of written) ≡ items ∷ drop (part + 1) (rows_of picks)
+  row_there : take width (drop (part * width) written) ≡ row
+  row_there = ap (take width) from_row ∙ take_at row (drop width (drop (part * width) picks)) width size
+
+  rest_kept : drop ((part + 1) * width) written ≡ drop ((part + 1) * width) picks
+  rest_kept =
+      ap (λ n. drop n written) (sym (next_row part width)) ∙ sym (drop-drop width (part * width) written)
+      ∙ ap (drop width) from_row ∙ drop_at row (drop width (drop (part * width) picks)) width size
+      ∙ drop-drop width (part * width) picks ∙ ap (λ n. drop n picks) (next_row part width)
+
+  rows_written : rows_of width (parts - part) (drop (part * width) written)
+      ≡ row ∷ rows_of width (parts - (part + 1)) (drop ((part + 1) * width) picks)
   rows_written =
-      ap (drop part) (map-set (λ row. row.items) picks part (with_items (get_or picks part row) items))
-      ∙ drop-set (rows_of picks) part (with_items (get_or picks part row) items).items (omega (arith, length-map picks (λ (row : Vec ℕ). row.items)))
-      ∙ ap (λ z. z ∷ drop (part + 1) (rows_of picks)) items_are
+      rows_more width parts part written less
+      ∙ ap (λ one. one ∷ rows_of width (parts - (part + 1)) (drop ((part + 1) * width) written)) row_there
+      ∙ ap (λ xs. row ∷ rows_of width (parts - (part + 1)) xs) rest_kept
 
-  pub solved_first : (count : ℕ → ℕ → ℕ) (width : ℕ) (asked costs : List ℕ) → length picks ≡ part + 1
-      → AreAsked count part width asked → IsLastRow width asked costs items → IsSolved count part (drop part (rows_of written)) costs width
-  solved_first count width asked costs last asks row_is =
-      let size : length (rows_of picks) ≤ part + 1 = omega (arith, length-map picks (λ (row : Vec ℕ). row.items)) in
-      subst (λ rows. IsSolved count part rows costs width) (sym (rows_written ∙ ap (λ z. items ∷ z) (drop_all (part + 1) (rows_of picks) size)))
-      (solved_last count part width asked costs items asks row_is)
+  -- the last part is solved
+  pub solved_first : (count : ℕ → ℕ → ℕ) (asked costs : List ℕ) → parts ≡ part + 1 → AreAsked count part width asked
+      → IsLastRow width asked costs row
+      → IsSolved count part (rows_of width (parts - part) (drop (part * width) written)) costs width
+  solved_first count asked costs last asks is_row =
+      let none : parts - (part + 1) ≡ 0 = omega arith in
+      subst (λ rows. IsSolved count part rows costs width)
+      (sym (rows_written ∙ ap (λ n. row ∷ rows_of width n (drop ((part + 1) * width) picks)) none))
+      (solved_last count part width asked costs row asks is_row)
 
-  pub solved_next : (count : ℕ → ℕ → ℕ) (width next : ℕ) (asked before costs : List ℕ) → next ≡ part + 1
-      → AreAsked count part width asked → IsSolved count next (drop next (rows_of picks)) before width → IsRowFrom 0 width asked before costs items
-      → IsSolved count part (drop part (rows_of written)) costs width
-  solved_next count width next asked before costs is_next asks solved row_is =
+  -- one part more is solved
+  pub solved_next : (count : ℕ → ℕ → ℕ) (next : ℕ) (asked before costs : List ℕ) → next ≡ part + 1
+      → AreAsked count part width asked
+      → IsSolved count next (rows_of width (parts - next) (drop (next * width) picks)) before width
+      → IsRowFrom 0 width asked before costs row
+      → IsSolved count part (rows_of width (parts - part) (drop (part * width) written)) costs width
+  solved_next count next asked before costs is_next asks solved is_row =
       subst (λ rows. IsSolved count part rows costs width) (sym rows_written)
-      (solved_more count part width (drop (part + 1) (rows_of picks)) asked before costs items asks
-      (subst (λ part. IsSolved count part (drop part (rows_of picks)) before width) is_next solved) row_is)
+      (solved_more count part width (rows_of width (parts - (part + 1)) (drop ((part + 1) * width) picks))
+      asked before costs row asks
+      (subst (λ n. IsSolved count n (rows_of width (parts - n) (drop (n * width) picks)) before width) is_next solved)
+      is_row)
 
--- one more entry read out
-module _ (picks : List (Vec ℕ)) (units i left pick taken : ℕ) (row : Vec ℕ)
-    (within : i < length picks) (wide : HaveWidth (units + 1) picks) (few : left ≤ units) (here : row ≡ get_or picks i row)
-    (read : pick ≡ get_or row.items left pick) (is_taken : taken ≡ pick)
-    (sum : units_total (follow (drop i (rows_of picks)) left) ≡ left) where
-  read_next : follow (drop i (rows_of picks)) left ≡ pick ∷ follow (drop (i + 1) (rows_of picks)) (left - pick)
+  -- and all rows are as many as before
+  pub written_size : length written ≡ length picks
+  written_size =
+      let from : ℕ = part * width in
+      let within = row_within part parts width less some in
+      let past : length (drop width (drop from picks)) ≡ length (drop from picks) - width = length-drop width (drop from picks) in
+      let back : length (drop from picks) ≡ length picks - from = length-drop from picks in
+      let same = ap (λ n. length (put_mid from n picks row)) wide in
+      let joined = length-append (take from picks) (row ++ post_of from width picks) in
+      let both = length-append row (post_of from width picks) in
+      omega (arith, front_size, within)
+
+-- the part of the rows that is lent for one row
+pub lent_size : (picks : List ℕ) (width parts part span : ℕ) → span ≡ width → part < parts → 0 < width
+    → parts * width ≤ length picks → length (take span (drop (part * width) picks)) ≡ width
+lent_size picks width parts part span wide less some room =
+    let back : length (drop (part * width) picks) ≡ length picks - part * width = length-drop (part * width) picks in
+    length-take-le span (drop (part * width) picks) (omega (arith, row_within part parts width less some)) ∙ wide
+
+-- there are so many rows
+pub rows_number : (width parts : ℕ) (picks : List ℕ) → length (rows_of width parts picks) ≡ parts
+rows_number width zero picks = refl
+rows_number width (suc parts) picks = ap suc (rows_number width parts (drop width picks))
+
+-- all rows, from the first on
+pub from_first : (count : ℕ → ℕ → ℕ) (width parts part : ℕ) (picks costs : List ℕ) → part ≡ 0
+    → IsSolved count part (rows_of width (parts - part) (drop (part * width) picks)) costs width
+    → IsSolved count 0 (rows_of width parts picks) costs width
+from_first count width parts part picks costs none solved =
+    let all : parts - part ≡ parts = omega arith in
+    let start : part * width ≡ 0 = ap (λ n. n * width) none ∙ omega arith in
+    subst (λ n. IsSolved count n (rows_of width parts picks) costs width) none
+    (subst (λ n. IsSolved count part (rows_of width n picks) costs width) all
+    (subst (λ n. IsSolved count part (rows_of width (parts - part) (drop n picks)) costs width) start solved))
+
+-- one more entry is read out
+module _ (picks : List ℕ) (width parts part left pick taken : ℕ) (less : part < parts) (inside : left < width)
+    (read : pick ≡ get_or picks (part * width + left) 0) (is_taken : taken ≡ pick)
+    (sum : units_total (follow (rows_of width (parts - part) (drop (part * width) picks)) left) ≡ left) where
+  abbrev rest : List (List ℕ)
+  rest = rows_of width (parts - (part + 1)) (drop ((part + 1) * width) picks)
+
+  picked : get_or (take width (drop (part * width) picks)) left 0 ≡ pick
+  picked =
+      get_or-take width (drop (part * width) picks) left 0 inside
+      ∙ get_or-drop (part * width) picks left 0 ∙ sym read
+
+  read_next : follow (rows_of width (parts - part) (drop (part * width) picks)) left ≡ pick ∷ follow rest (left - pick)
   read_next =
-      let size : i < length (rows_of picks) = omega (arith, length-map picks (λ (row : Vec ℕ). row.items)) in
-      let items : get_or (rows_of picks) i row.items ≡ row.items = get_or-map (λ (r : Vec ℕ). r.items) picks i row row.items within ∙ ap (λ (r : Vec ℕ). r.items) (sym here) in
-      let room : units + 1 ≤ length row.items = subst (λ (r : Vec ℕ). units + 1 ≤ length r.items) (sym here) (wide i row within) in
-      let is_pick : pick ≡ get_or row.items left 0 = get_or_read row.items left pick (omega arith) read 0 in
-      at_drop_more (λ rows. follow rows left) (rows_of picks) i row.items size
-      ∙ ap (λ items. follow (items ∷ drop (i + 1) (rows_of picks)) left) items
-      ∙ ap (λ pick. pick ∷ follow (drop (i + 1) (rows_of picks)) (left - pick)) (sym is_pick)
+      ap (λ rows. follow rows left) (rows_more width parts part picks less)
+      ∙ ap (λ n. n ∷ follow rest (left - n)) picked
 
-  next_total : pick + units_total (follow (drop (i + 1) (rows_of picks)) (left - pick)) ≡ left
+  next_total : pick + units_total (follow rest (left - pick)) ≡ left
   next_total = sym (ap units_total read_next) ∙ sum
 
   pub read_fits : taken ≤ left
   read_fits = omega (arith, next_total)
 
-  pub read_total : units_total (follow (drop (i + 1) (rows_of picks)) (left - taken)) ≡ left - taken
+  pub read_total : units_total (follow rest (left - taken)) ≡ left - taken
   read_total =
-      let same : units_total (follow (drop (i + 1) (rows_of picks)) (left - taken)) ≡ units_total (follow (drop (i + 1) (rows_of picks)) (left - pick)) = ap (λ n. units_total (follow (drop (i + 1) (rows_of picks)) (left - n))) is_taken in
+      let same : units_total (follow rest (left - taken)) ≡ units_total (follow rest (left - pick)) =
+      ap (λ n. units_total (follow rest (left - n))) is_taken in
       omega (arith, next_total)
 
-  pub read_entries : (out all : List ℤ) → out ++ map threshold_of (follow (drop i (rows_of picks)) left) ≡ all
-      → (out ++ threshold_of pick ∷ []) ++ map threshold_of (follow (drop (i + 1) (rows_of picks)) (left - taken)) ≡ all
+  pub read_entries : (out all : List ℤ)
+      → out ++ map threshold_of (follow (rows_of width (parts - part) (drop (part * width) picks)) left) ≡ all
+      → (out ++ threshold_of pick ∷ []) ++ map threshold_of (follow rest (left - taken)) ≡ all
   read_entries out all so_far =
-      append_assoc out (threshold_of pick ∷ []) (map threshold_of (follow (drop (i + 1) (rows_of picks)) (left - taken)))
-      ∙ ap (λ n. out ++ (threshold_of pick ∷ map threshold_of (follow (drop (i + 1) (rows_of picks)) (left - n)))) is_taken
+      append_assoc out (threshold_of pick ∷ []) (map threshold_of (follow rest (left - taken)))
+      ∙ ap (λ n. out ++ (threshold_of pick ∷ map threshold_of (follow rest (left - n)))) is_taken
       ∙ ap (λ us. out ++ map threshold_of us) (sym read_next) ∙ so_far

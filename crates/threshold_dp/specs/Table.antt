@@ -1,29 +1,17 @@
 -- The table of the allocation: for each part a row of picks, and the costs of the parts from one on.
 -- No public clause cites this module.
-use Rattle.std.specs.Prelude.{◌≡◌, ℕ, ◌+◌, ◌-◌, ◌*◌, ◌<◌, ◌≤◌, List, [], ◌∷◌, length, map, take, slice_index, All}
-use Rattle.std.specs.Global.{Vec}
+use Rattle.std.specs.Prelude.{◌≡◌, ℕ, zero, suc, ◌+◌, ◌-◌, ◌*◌, ◌<◌, ◌≤◌, List, [], ◌∷◌, length, take, drop, slice_index}
 use Rattle.threshold_model.specs.Splits.{split_cost, IsBest}
 
--- the picks of the rows
-abbrev pub rows_of : List (Vec ℕ) → List (List ℕ)
-rows_of picks = map (λ row. row.items) picks
-
--- each row has room for so many picks
-abbrev pub HaveWidth : ℕ → List (Vec ℕ) → Type 0
-HaveWidth width picks = All (λ row. width ≤ length row.items) picks
-
--- each row keeps its room
-pub record KeepWidths (old new : List (Vec ℕ)) : Type 0 where
-  pub widths : (width : ℕ) → HaveWidth width old → HaveWidth width new
+-- so many rows of one width, one behind another
+abbrev pub rows_of : ℕ → ℕ → List ℕ → List (List ℕ)
+rows_of width zero picks = []
+rows_of width (suc parts) picks = take width picks ∷ rows_of width parts (drop width picks)
 
 -- the split that the rows of picks lead to
 abbrev pub follow : List (List ℕ) → ℕ → List ℕ
 follow [] units = []
 follow (row ∷ rows) units = slice_index row units ∷ follow rows (units - slice_index row units)
-
--- the split of so many units that the first so many rows lead to
-abbrev pub split_at : List (Vec ℕ) → ℕ → ℕ → List ℕ
-split_at picks parts units = follow (rows_of (take parts picks)) units
 
 -- the first of the places up to the last one at which a function is least
 pub record IsFirstLeast (value : ℕ → ℕ) (last place : ℕ) : Type 0 where

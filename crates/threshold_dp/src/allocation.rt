@@ -12,7 +12,7 @@ use crate::thresholds::Thresholds;
 /// A vector has one whole number of at least -1 for each part, with the sum tau - parts + 1; its
 /// cost is the sum over the parts of the count at the part's threshold. This is the threshold
 /// allocation of GPH (Qin et al., ICDE 2018), a dynamic program over the parts. It asks each count
-/// once, parts * (tau + 2) in all, and does parts * (tau + 2)^2 / 2 additions.
+/// once, parts * (tau + 2) in all, and does at most parts * (tau + 2)^2 / 2 additions.
 pub fn allocate<C: PartCounts>(
     scratch: &mut Scratch,
     tau: u32,
@@ -43,6 +43,6 @@ pub fn allocate<C: PartCounts>(
         scratch.costs.as_mut_slice(),
         scratch.picks.as_mut_slice(),
     );
-    read_out(&scratch.picks[..parts], tau as usize + 1, out);
+    read_out(scratch.picks.as_slice(), tau, parts, out);
     least
 }

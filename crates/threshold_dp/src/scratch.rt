@@ -1,5 +1,4 @@
-ghost use Rattle.std.specs.Prelude.{◌≡◌, ◌<◌, ◌≤◌, IfOk, vec_len};
-ghost use Rattle.threshold_dp.specs.Table.{HaveWidth};
+ghost use Rattle.std.specs.Prelude.{◌≡◌, ◌<◌, ◌≤◌, IfOk};
 
 use read_meter::NoMemory;
 use std::alloc::Global;
@@ -9,21 +8,21 @@ use std::marker::Model;
 /// no memory.
 #[derive(Drop)]
 pub struct Scratch {
+    parts: usize,
     tau: u32,
     pub(crate) asked: Vec<u32>,
     pub(crate) costs: Vec<u64>,
-    pub(crate) picks: Vec<Vec<u16>>,
+    pub(crate) picks: Vec<u16>,
 }
 
 impl Model for Scratch {
-    ghost use Rattle.std.specs.Prelude.{◌≡◌, ◌+◌, ◌≤◌, length, vec_len};
     ghost use Rattle.threshold_dp.specs.Room.{TableRoom};
 
     ghost Value = { TableRoom };
 
-    ghost use Rattle.threshold_dp.specs.Layout.{HasRoom};
+    ghost use Rattle.threshold_dp.specs.Kept.{HasRoom};
 
-    ghost view = { λ s. record { parts = vec_len s.picks; tau = s.tau } };
+    ghost view = { λ s. record { parts = s.parts; tau = s.tau } };
 
     ghost invariant = { HasRoom };
 }
@@ -43,31 +42,15 @@ impl Scratch {
         let Ok(costs) = vec![in alloc; 0u64; width] else {
             return Err(NoMemory);
         };
-        let picks = rows(alloc, parts, width)?;
+        let Ok(picks) = vec![in alloc; 0u16; parts * width] else {
+            return Err(NoMemory);
+        };
         Ok(Scratch {
+            parts,
             tau,
             asked,
             costs,
             picks,
         })
     }
-}
-
-// So many rows of so many picks.
-fn rows(alloc: Global, parts: usize, width: usize) -> Result<Vec<Vec<u16>>, NoMemory>
-    ensures size { IfOk result (λ picks. vec_len picks ≡ parts) }
-    ensures widths { IfOk result (λ picks. HaveWidth width picks.items) }
-{
-    let Ok(mut picks) = Vec::with_capacity(alloc, parts) else {
-        return Err(NoMemory);
-    };
-    for _part in 0..parts {
-        let Ok(row) = vec![in alloc; 0u16; width] else {
-            return Err(NoMemory);
-        };
-        let Ok(()) = picks.push(row) else {
-            return Err(NoMemory);
-        };
-    }
-    Ok(picks)
 }

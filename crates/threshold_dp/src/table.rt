@@ -2,7 +2,8 @@
 
 ghost use Rattle.std.specs.Prelude.{◌≡◌, ℕ, ◌+◌, ◌*◌, ◌<◌, ◌≤◌, length, map, slice_index};
 ghost use Rattle.threshold_model.specs.Splits.{threshold_of, units_total, split_cost, IsBest};
-ghost use Rattle.threshold_dp.specs.Table.{rows_of, HaveWidth, KeepWidths, AreAsked, IsFirstLeast, NeverFallIn, joint_cost, IsRowFrom, IsLastRow, IsSolved, follow, split_at};
+ghost use Rattle.threshold_dp.specs.Table.{AreAsked, IsFirstLeast, NeverFallIn, joint_cost};
+ghost use Rattle.threshold_dp.specs.Table.{IsRowFrom, IsLastRow, IsSolved, rows_of, follow};
 
 use crate::part_counts::PartCounts;
 use crate::thresholds::Thresholds;
@@ -90,29 +91,34 @@ fn add_last_part(asked: &[u32], costs: &mut [u64], picks: &mut [u16])
     }
 }
 
-// Solves the parts from the last one to the first, for all units below the width of the slices.
+// Solves so many parts from the last one to the first, for all units below the width of the counts.
 fn solve_parts<C: PartCounts>(
     counts: &C,
+    parts: usize,
     asked: &mut [u32],
     costs: &mut [u64],
-    picks: &mut [Vec<u16>],
+    picks: &mut [u16],
 )
-    requires some { 0 < length picks.old }
-    requires few { length picks.old ≤ 64 }
-    requires counted { length picks.old ≤ C.parts counts.now }
+    requires some { 0 < parts }
+    requires few { parts ≤ 64 }
+    requires counted { parts ≤ C.parts counts.now }
+    requires wide { 0 < length asked.old }
     requires narrow { length asked.old ≤ 514 }
     requires costs { length costs.old ≡ length asked.old }
-    requires wide { HaveWidth (length asked.old) picks.old }
-    ensures solved { IsSolved (C.counts counts.now) 0 (rows_of picks.new) costs.new (length asked.old) }
-    ensures widths { KeepWidths picks.old picks.new }
+    requires room { parts * length asked.old ≤ length picks.old }
+    ensures solved { let width = length asked.old in
+        IsSolved (C.counts counts.now) 0 (rows_of width parts picks.new) costs.new width }
 {
-    let mut part = picks.len() - 1;
+    let width = asked.len();
+    let mut part = parts - 1;
+    let last = part * width;
     read_counts(counts, part, asked);
-    add_last_part(asked, costs, picks[part].as_mut_slice());
+    add_last_part(asked, costs, &mut picks[last..last + width]);
     while part > 0 {
         part -= 1;
+        let from = part * width;
         read_counts(counts, part, asked);
-        add_part(asked, costs, picks[part].as_mut_slice());
+        add_part(asked, costs, &mut picks[from..from + width]);
     }
 }
 
@@ -123,7 +129,7 @@ pub(crate) fn solve<C: PartCounts>(
     parts: usize,
     asked: &mut [u32],
     costs: &mut [u64],
-    picks: &mut [Vec<u16>],
+    picks: &mut [u16],
 ) -> u64
     requires some { 0 < parts }
     requires few { parts ≤ 64 }
@@ -131,34 +137,38 @@ pub(crate) fn solve<C: PartCounts>(
     requires near { tau ≤ 512 }
     requires asked { tau + 2 ≤ length asked.old }
     requires costs { tau + 2 ≤ length costs.old }
-    requires picks { parts ≤ length picks.old }
-    requires wide { HaveWidth (tau + 2) picks.old }
-    ensures best { IsBest (C.counts counts.now) 0 parts (tau + 1) (split_at picks.new parts (tau + 1)) }
-    ensures cost { result ≡ split_cost (C.counts counts.now) 0 (split_at picks.new parts (tau + 1)) }
-    ensures widths { KeepWidths picks.old picks.new }
+    requires picks { parts * (tau + 2) ≤ length picks.old }
+    ensures best { let split = follow (rows_of (tau + 2) parts picks.new) (tau + 1) in
+        IsBest (C.counts counts.now) 0 parts (tau + 1) split }
+    ensures cost { let split = follow (rows_of (tau + 2) parts picks.new) (tau + 1) in
+        result ≡ split_cost (C.counts counts.now) 0 split }
 {
     let width = tau as usize + 2;
     solve_parts(
         counts,
+        parts,
         &mut asked[..width],
         &mut costs[..width],
-        &mut picks[..parts],
+        picks,
     );
     costs[width - 1]
 }
 
-// Reads the split of so many units out of the rows.
-pub(crate) fn read_out(picks: &[Vec<u16>], units: usize, out: &mut Thresholds)
-    requires room { length picks.now ≤ out.old.room }
-    requires wide { HaveWidth (units + 1) picks.now }
-    requires sum { units_total (follow (rows_of picks.now) units) ≡ units }
-    ensures entries { out.new.entries ≡ map threshold_of (follow (rows_of picks.now) units) }
+// Reads the split of tau + 1 units out of the rows of so many parts.
+pub(crate) fn read_out(picks: &[u16], tau: u32, parts: usize, out: &mut Thresholds)
+    requires room { parts ≤ out.old.room }
+    requires near { tau ≤ 512 }
+    requires wide { parts * (tau + 2) ≤ length picks.now }
+    requires sum { units_total (follow (rows_of (tau + 2) parts picks.now) (tau + 1)) ≡ tau + 1 }
+    ensures entries { out.new.entries
+        ≡ map threshold_of (follow (rows_of (tau + 2) parts picks.now) (tau + 1)) }
     ensures room { out.new.room ≡ out.old.room }
 {
     out.clear();
-    let mut left = units;
-    for row in picks {
-        let pick = row[left];
+    let width = tau as usize + 2;
+    let mut left = width - 1;
+    for part in 0..parts {
+        let pick = picks[part * width + left];
         out.push(pick);
         left -= usize::from(pick);
     }

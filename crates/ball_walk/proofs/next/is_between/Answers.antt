@@ -1,15 +1,19 @@
-use Rattle.std.proofs.Common.{◌≤◌, arith}
+use Rattle.std.proofs.Common.{arith}
 use Rattle.std.proofs.lemmas.Bool.{leb-true, le-leb}
-use Rattle.ball_walk.specs.Balls.{value_distance}
 use Rattle.ball_walk.proofs.next.is_between.Goals as goal
 
 pub returns-then-least-apart : goal.returns-then-least-apart
-unfolding value_distance
-returns-then-least-apart c = ((λ holds. (c.if-least-apart.true, leb-true _ _ holds)), (λ both. le-leb _ _ both.1))
+returns-then-least-apart c =
+    let apart = c.value_distance-apart.ensures.distance in
+    let enough = c.if-least-apart.true in (
+      (λ holds. let near = leb-true c.value_distance-apart.result c.args.most holds in (omega arith, omega arith)),
+      (λ both. let near = both.1 in le-leb c.value_distance-apart.result c.args.most (omega arith)),
+    )
 
 pub returns-else-least-apart : goal.returns-else-least-apart
-unfolding value_distance
-returns-else-least-apart c = (
-  (λ holds. let below : c.args.least ≤ value_distance c.args.other c.args.value = leb-true _ _ holds in absurd (omega arith)),
-  (λ both. le-leb _ _ both.0),
-)
+returns-else-least-apart c =
+    let apart = c.value_distance-apart.ensures.distance in
+    let less = c.if-least-apart.false in (
+      (λ holds. let enough = leb-true c.args.least c.value_distance-apart.result holds in absurd (omega arith)),
+      (λ both. let enough = both.0 in le-leb c.args.least c.value_distance-apart.result (omega arith)),
+    )

@@ -1,14 +1,14 @@
 use Rattle.std.proofs.Common.{refl, ap, ◌∙◌, inr, subst, rules}
 use Rattle.query_protocol.specs.Replies as reply
 use Rattle.gph_session.specs.declared.open_query.OpenQuery.{OpenQuery}
-use Rattle.gph_session.specs.Held.{standing_of, StandsAt}
-use Rattle.gph_session.proofs.HeldLemmas.{changes_at}
+use Rattle.gph_session.specs.Cursors.{standing_of, IsFirstAt}
+use Rattle.gph_session.proofs.CursorLemmas.{changes_at}
 use Rattle.gph_session.proofs.costing.cost.Goals as goal
 
 pub returns-in-Some : goal.returns-in-Some
 returns-in-Some g c =
     let before = c.index_mut.result.now in
-    let at = subst (λ helds. StandsAt helds c.args.tag.now c.in-Some.place) c.deref.ensures.value c.in-Some.ensures in
+    let at = subst (λ cursors. IsFirstAt cursors c.args.tag.now c.in-Some.place) c.deref.ensures.value c.in-Some.ensures in
     let after : OpenQuery g.row.W = record { tag = before.tag; task = c.bound-bound.new.self; given = before.given; done = before.done } in
     inr (
       before,

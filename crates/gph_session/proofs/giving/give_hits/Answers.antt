@@ -47,5 +47,5 @@ loop-given-preserved g c =
       filled = fills.filled;
       given = wrote_more a c.args.tag.now c.args.count start now (held c.args.sink.now) (held c.loop-given.sink) c.args.steps.now c.loop-given.steps c.loop-given.given i.reads i.number i.few i.filled i.given popped c.pop.result c.in-Some.hit c.pop.ensures.pops lawful c.in-Some.is fewer
           (held c.write_all.new.sink) c.bytes.result.now piece c.in-Ok.ensures.written;
-      never_falls = omega (arith, i.never_falls, c.in-Ok.ensures.cause.never_falls);
+      steady = c.in-Ok.ensures.cause ∙ i.steady;
     }

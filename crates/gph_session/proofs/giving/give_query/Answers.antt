@@ -1,6 +1,7 @@
-use Rattle.std.proofs.Common.{true, refl, rules, sym, ap, ◌∙◌, is_some, arith}
+use Rattle.std.proofs.Common.{true, refl, sym, subst, ap, ◌∙◌, is_some, arith}
 use Rattle.line_io.specs.declared.source.Failed.{Failed}
 use Rattle.gph_session.specs.declared.open_query.OpenQuery.{OpenQuery}
+use Rattle.gph_session.specs.Writing.{IsCaused}
 use Rattle.gph_session.proofs.GivingLemmas.{query_part, query_more, query_all}
 use Rattle.gph_session.proofs.giving.give_query.Goals as goal
 
@@ -32,7 +33,7 @@ returns-in-Err-clause-gives g c =
     failed failed c.in-Err.ensures.gives
 
 pub returns-else-is_some-clause-cause : goal.returns-else-is_some-clause-cause
-returns-else-is_some-clause-cause g c = record {
-  never_falls = omega (arith, c.in-Ok.ensures.cause.never_falls, c.say-in-Ok.ensures.cause.never_falls);
-  failed = search rules;
-}
+returns-else-is_some-clause-cause g c =
+    let said = c.say-in-Ok in
+    subst (λ n. IsCaused n (g.K.Sink.faults said.new.sink) said.result) c.in-Ok.ensures.cause
+    said.ensures.cause

@@ -1,9 +1,9 @@
-use Rattle.gph_session.proofs.HeldLemmas.{differs, free_more, free_all, stands_at}
+use Rattle.gph_session.proofs.CursorLemmas.{differs, free_more, free_all, first_at}
 use Rattle.gph_session.proofs.open_query.place_of.Goals as goal
 
 pub returns-then-matches : goal.returns-then-matches
 returns-then-matches g c =
-    stands_at c.args.queries.now c.loop-place.place c.index-queries-place.result c.args.tag.now c.loop-place-test.true c.loop-place.invariant (c.matches.ensures.0 c.if-matches.true)
+    first_at c.args.queries.now c.loop-place.place c.index-queries-place.result c.args.tag.now c.loop-place-test.true c.loop-place.invariant (c.matches.ensures.0 c.if-matches.true)
 
 pub loop-place-preserved : goal.loop-place-preserved
 loop-place-preserved g c =

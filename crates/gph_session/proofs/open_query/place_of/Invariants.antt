@@ -1,5 +1,5 @@
 use Rattle.std.proofs.Common.{take}
-use Rattle.gph_session.specs.Held.{IsFree}
+use Rattle.gph_session.specs.Cursors.{IsFree}
 use Rattle.gph_session.proofs.open_query.place_of.Given as goal
 
 -- no query at a place that was looked at has the tag

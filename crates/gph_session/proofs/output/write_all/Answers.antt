@@ -1,4 +1,4 @@
-use Rattle.std.proofs.Common.{◌≡◌, ◌-◌, length, take, drop, subst, sym, arith, rules}
+use Rattle.std.proofs.Common.{◌≡◌, ◌-◌, length, take, drop, subst, sym, ◌∙◌, rules}
 use Rattle.std.proofs.Math.Seq.{take-add}
 use Rattle.std.proofs.lemmas.List.{take_rest}
 use Rattle.std.specs.Io.KnownBytes.{Appends}
@@ -18,5 +18,5 @@ loop-done-preserved g c =
       within = search rules;
       taken = subst (λ l. Appends (held c.args.sink.now) (held c.write.new.self) l) (sym (take-add done taken piece))
           (Appends-trans (held c.args.sink.now) (held c.loop-done.sink) (held c.write.new.self) (take done piece) (take taken (drop done piece)) c.loop-done.invariant.taken told);
-      never_falls = omega (arith, c.loop-done.invariant.never_falls, c.in-Ok.ensures.cause.never_falls);
+      steady = c.in-Ok.ensures.steady ∙ c.loop-done.invariant.steady;
     }

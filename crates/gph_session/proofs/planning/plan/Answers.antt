@@ -4,8 +4,8 @@ use Rattle.query_protocol.specs.Replies as reply
 use Rattle.query_protocol.specs.Replies.{reply_line}
 use Rattle.query_protocol.specs.Requests.{bad}
 use Rattle.gph_session.specs.declared.open_query.OpenQuery.{OpenQuery}
-use Rattle.gph_session.specs.Held.{asked_of, StandsAt}
-use Rattle.gph_session.proofs.HeldLemmas.{changes_at}
+use Rattle.gph_session.specs.Cursors.{asked_of, IsFirstAt}
+use Rattle.gph_session.proofs.CursorLemmas.{changes_at}
 use Rattle.gph_session.proofs.planning.plan.Goals as goal
 
 pub returns-in-None : goal.returns-in-None
@@ -14,7 +14,7 @@ returns-in-None g c = (reply.Bad (bad 8), inl (search rules, search rules, refl)
 pub returns-in-Some : goal.returns-in-Some
 returns-in-Some g c =
     let before = c.index_mut.result.now in
-    let at = subst (λ helds. StandsAt helds c.args.tag.now c.in-Some.place) c.deref.ensures.value c.in-Some.ensures in
+    let at = subst (λ cursors. IsFirstAt cursors c.args.tag.now c.in-Some.place) c.deref.ensures.value c.in-Some.ensures in
     let after : OpenQuery g.row.W = record { tag = before.tag; task = c.plan-cost.new.self; given = before.given; done = before.done } in
     let listed = c.thresholds-thresholds.result.now in
     let vector = c.thresholds-thresholds.ensures ∙ c.plan-cost.ensures.vector in

@@ -1,24 +1,22 @@
-use Rattle.std.proofs.Common.{◌+◌, length, map, ap, ◌∙◌, arith, rules}
+use Rattle.std.proofs.Common.{◌+◌, ◌*◌, length, get_or, map, refl, ap, ◌∙◌, arith, rules}
 use Rattle.std.proofs.lemmas.List.{length_push}
 use Rattle.threshold_model.specs.Splits.{threshold_of}
 use Rattle.threshold_dp.specs.Table.{rows_of, follow}
-use Rattle.threshold_dp.proofs.RowsLemmas.{read_fits, read_total, read_entries}
+use Rattle.threshold_dp.proofs.RowsLemmas.{read_total, read_entries}
 use Rattle.threshold_dp.proofs.table.read_out.Goals as goal
 
-pub overflow_sub-left : goal.overflow_sub-left
-overflow_sub-left c =
-    read_fits c.args.picks.now c.args.units c.loop-row.row-index c.loop-row.left c.index-pick.result.now c.from-left.result c.row-item.result
-    (omega arith) c.requires.wide c.loop-row.invariant.2 c.row-item.is c.index-pick.ensures c.from-left.ensures c.loop-row.invariant.3
-
-pub loop-row-preserved : goal.loop-row-preserved
-loop-row-preserved c = (
-  search rules,
-  ap length c.push.ensures.entries ∙ length_push c.loop-row.out.entries (threshold_of c.index-pick.result.now) ∙ ap (λ n. n + 1) c.loop-row.invariant.1,
-  omega (arith, c.loop-row.invariant.2),
-  read_total c.args.picks.now c.args.units c.loop-row.row-index c.loop-row.left c.index-pick.result.now c.from-left.result c.row-item.result
-      (omega arith) c.requires.wide c.loop-row.invariant.2 c.row-item.is c.index-pick.ensures c.from-left.ensures c.loop-row.invariant.3,
-  rw c.push.ensures.entries
-      (read_entries c.args.picks.now c.args.units c.loop-row.row-index c.loop-row.left c.index-pick.result.now c.from-left.result c.row-item.result
-      (omega arith) c.requires.wide c.loop-row.invariant.2 c.row-item.is c.index-pick.ensures c.from-left.ensures c.loop-row.invariant.3
-      c.loop-row.out.entries (map threshold_of (follow (rows_of c.args.picks.now) c.args.units)) c.loop-row.invariant.4),
-)
+pub loop-part-preserved : goal.loop-part-preserved
+loop-part-preserved c =
+    let width = c.args.tau + 2 in
+    let pick = get_or c.args.picks.now (c.loop-part.part * width + c.loop-part.left) 0 in
+    let few = c.loop-part.invariant.2 in (
+      search rules,
+      ap length c.push.ensures.entries ∙ length_push c.loop-part.out.entries (threshold_of pick) ∙ ap (λ n. n + 1) c.loop-part.invariant.1,
+      omega (arith, few),
+      read_total c.args.picks.now width c.args.parts c.loop-part.part c.loop-part.left pick c.from-left.result
+          (omega arith) (omega arith) refl c.from-left.ensures c.loop-part.invariant.3,
+      rw c.push.ensures.entries
+          (read_entries c.args.picks.now width c.args.parts c.loop-part.part c.loop-part.left pick c.from-left.result
+          (omega arith) (omega arith) refl c.from-left.ensures c.loop-part.invariant.3
+          c.loop-part.out.entries (map threshold_of (follow (rows_of width c.args.parts c.args.picks.now) (c.args.tau + 1))) c.loop-part.invariant.4),
+    )

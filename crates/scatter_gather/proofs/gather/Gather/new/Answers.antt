@@ -1,8 +1,8 @@
 -- Nothing was taken, so all hits are left.
-use Rattle.std.proofs.Common.{◌∙◌, refl, sym, ap, subst, arith}
+use Rattle.std.proofs.Common.{sym, ap, subst, arith}
 use Rattle.std.proofs.lemmas.List.{length-map}
 use Rattle.hamming_model.specs.Scan.{in_order}
-use Rattle.scatter_gather.specs.Gathering.{Source, source_of}
+use Rattle.scatter_gather.specs.Gathering.{source_of}
 use Rattle.scatter_gather.specs.Kept.{AreOneLength}
 use Rattle.hit_source.specs.Sources.{IsFresh}
 use Rattle.scatter_gather.proofs.MergeLemmas.{all_left, all_of_map}
@@ -16,9 +16,11 @@ invariant_of-result g c =
     record {
       some = omega (arith, count, c.requires.some);
       few = omega (arith, count, c.requires.few);
-      merge = sym (ap in_order (all_left _ (all_of_map as_seen (λ s. IsFresh s.standing) c.args.sources.items c.requires.fresh)));
+      merge = sym (ap in_order
+          (all_left _ (all_of_map as_seen (λ s. IsFresh s.standing) c.args.sources.items c.requires.fresh)));
       within = omega arith;
-      one_length = subst AreOneLength (sym (asked_seen g.H.HitSource.asked g.H.HitSource.standing c.args.sources.items)) c.requires.one_length;
+      one_length = subst AreOneLength
+          (sym (asked_seen g.H.HitSource.asked g.H.HitSource.standing c.args.sources.items)) c.requires.one_length;
       last = tt;
       later = tt;
     }

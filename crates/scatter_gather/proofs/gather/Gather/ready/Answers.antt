@@ -1,5 +1,5 @@
 -- The best head is the next hit, where it goes first.
-use Rattle.std.proofs.Common.{◌∙◌, ◌<◌, sym, subst, arith, ◌≡◌, refl, Some, None}
+use Rattle.std.proofs.Common.{◌<◌, subst, arith, ◌≡◌, refl, Some, None}
 use Rattle.std.specs.Prelude.{IfSome, ◌≤◌, ◌↔◌}
 use Rattle.hamming_model.specs.declared.hit.Hit.{Hit}
 use Rattle.scatter_gather.specs.Gathering.{seen, gathered, next_hit}
@@ -18,20 +18,23 @@ returns-in_default-clause-may_go g c =
     subst (λ x. (hit : Hit) → (None ≡ Some hit) ↔ MayGo (seen asks stands x) hit) c.self.view_is
     (may_none (seen asks stands (gathered own.sources.items own.limit own.given own.last)) ready)
 
-pub returns-in_default-clause-last : goal.returns-in_default-clause-last
-returns-in_default-clause-last g c = λ none idle.
+pub returns-in_default-clause-none_left : goal.returns-in_default-clause-none_left
+returns-in_default-clause-none_left g c = λ none idle.
     let laws = g.met.H.HitSource g.world.𝓛 g.world.𝓜 g.world.𝓡 ((λ s x. x), (λ x. x), (λ x. x), λ x. x) in
     let own = c.self.inside in
     let ready = rw c.deref.ensures.value at c.in_default.ensures in
-    none_given g.H.HitSource.asked g.H.HitSource.standing own.sources.items _ _ _ c.args.self.now laws.lawful c.self.invariant c.if-self.false ready c.self.view_is idle
+    none_given g.H.HitSource.asked g.H.HitSource.standing own.sources.items _ _ _ c.args.self.now laws.lawful
+        c.self.invariant c.if-self.false ready c.self.view_is idle
 
 pub invariant_of-self : goal.invariant_of-self
 invariant_of-self g c =
     let laws = g.met.H.HitSource g.world.𝓛 g.world.𝓜 g.world.𝓡 ((λ s x. x), (λ x. x), (λ x. x), λ x. x) in
     let own = c.self.inside in
     let ready = rw c.deref.ensures.value at c.in-Some.ensures in
-    (best_given g.H.HitSource.asked g.H.HitSource.standing own.sources.items _ _ own.last c.in-Some.best.0 c.in-Some.best.1 c.index_mut.result.now c.pop-head.new.self c.pop-head.result
-    laws.lawful c.self.invariant c.if-self.false ready c.index_mut.ensures.value c.pop-head.ensures.asked c.pop-head.ensures.pops).0
+    (best_given g.H.HitSource.asked g.H.HitSource.standing own.sources.items _ _ own.last c.in-Some.best.0
+        c.in-Some.best.1 c.index_mut.result.now c.pop-head.new.self c.pop-head.result
+    laws.lawful c.self.invariant c.if-self.false ready c.index_mut.ensures.value c.pop-head.ensures.asked
+        c.pop-head.ensures.pops).0
 
 pub returns-clause-may_go : goal.returns-clause-may_go
 returns-clause-may_go g c =
@@ -41,7 +44,8 @@ returns-clause-may_go g c =
     let ready = rw c.deref.ensures.value at c.in-Some.ensures in
     let below : own.given < own.limit = omega (arith, c.self.invariant.within, c.if-self.false) in
     subst (λ x. (hit : Hit) → (Some c.in-Some.best.1 ≡ Some hit) ↔ MayGo (seen asks stands x) hit) c.self.view_is
-    (may_some (seen asks stands (gathered own.sources.items own.limit own.given own.last)) c.in-Some.best.0 c.in-Some.best.1 below ready)
+    (may_some (seen asks stands (gathered own.sources.items own.limit own.given own.last))
+        c.in-Some.best.0 c.in-Some.best.1 below ready)
 
 pub returns-clause-gives : goal.returns-clause-gives
 returns-clause-gives g c =
@@ -49,33 +53,44 @@ returns-clause-gives g c =
     let own = c.self.inside in
     let ready = rw c.deref.ensures.value at c.in-Some.ensures in
     subst (λ x. next_hit (seen g.H.HitSource.asked g.H.HitSource.standing x) ≡ Some c.in-Some.best.1) c.self.view_is
-    (best_given g.H.HitSource.asked g.H.HitSource.standing own.sources.items _ _ own.last c.in-Some.best.0 c.in-Some.best.1 c.index_mut.result.now c.pop-head.new.self c.pop-head.result
-    laws.lawful c.self.invariant c.if-self.false ready c.index_mut.ensures.value c.pop-head.ensures.asked c.pop-head.ensures.pops).1
+    (best_given g.H.HitSource.asked g.H.HitSource.standing own.sources.items _ _ own.last c.in-Some.best.0
+        c.in-Some.best.1 c.index_mut.result.now c.pop-head.new.self c.pop-head.result
+    laws.lawful c.self.invariant c.if-self.false ready c.index_mut.ensures.value c.pop-head.ensures.asked
+        c.pop-head.ensures.pops).1
 
 pub returns-clause-after : goal.returns-clause-after
 returns-clause-after g c =
     let laws = g.met.H.HitSource g.world.𝓛 g.world.𝓜 g.world.𝓡 ((λ s x. x), (λ x. x), (λ x. x), λ x. x) in
     let own = c.self.inside in
     let ready = rw c.deref.ensures.value at c.in-Some.ensures in
-    let all = best_given g.H.HitSource.asked g.H.HitSource.standing own.sources.items _ _ own.last c.in-Some.best.0 c.in-Some.best.1 c.index_mut.result.now c.pop-head.new.self c.pop-head.result
-        laws.lawful c.self.invariant c.if-self.false ready c.index_mut.ensures.value c.pop-head.ensures.asked c.pop-head.ensures.pops in
-    (c.in-Some.best.0, given_one g.H.HitSource.asked g.H.HitSource.standing own.sources.items _ _ own.last _ _ c.index_mut.result.now c.pop-head.new.self c.pop-head.result
-    c.args.self.now _ all.2 c.index_mut.ensures.value c.pop-head.ensures.asked c.pop-head.ensures.pops all.3 c.self.view_is refl)
+    let all = best_given g.H.HitSource.asked g.H.HitSource.standing own.sources.items _ _ own.last c.in-Some.best.0
+        c.in-Some.best.1 c.index_mut.result.now c.pop-head.new.self c.pop-head.result
+        laws.lawful c.self.invariant c.if-self.false ready c.index_mut.ensures.value c.pop-head.ensures.asked
+            c.pop-head.ensures.pops in
+    (c.in-Some.best.0, given_one g.H.HitSource.asked g.H.HitSource.standing own.sources.items _ _ own.last _ _
+        c.index_mut.result.now c.pop-head.new.self c.pop-head.result
+    c.args.self.now _ all.2 c.index_mut.ensures.value c.pop-head.ensures.asked c.pop-head.ensures.pops all.3
+        c.self.view_is refl)
 
 pub returns-clause-holds : goal.returns-clause-holds
 returns-clause-holds g c =
     let laws = g.met.H.HitSource g.world.𝓛 g.world.𝓜 g.world.𝓡 ((λ s x. x), (λ x. x), (λ x. x), λ x. x) in
     let own = c.self.inside in
     let ready = rw c.deref.ensures.value at c.in-Some.ensures in
-    (best_given g.H.HitSource.asked g.H.HitSource.standing own.sources.items _ _ own.last c.in-Some.best.0 c.in-Some.best.1 c.index_mut.result.now c.pop-head.new.self c.pop-head.result
-    laws.lawful c.self.invariant c.if-self.false ready c.index_mut.ensures.value c.pop-head.ensures.asked c.pop-head.ensures.pops).0
+    (best_given g.H.HitSource.asked g.H.HitSource.standing own.sources.items _ _ own.last c.in-Some.best.0
+        c.in-Some.best.1 c.index_mut.result.now c.pop-head.new.self c.pop-head.result
+    laws.lawful c.self.invariant c.if-self.false ready c.index_mut.ensures.value c.pop-head.ensures.asked
+        c.pop-head.ensures.pops).0
 
 pub returns-clause-rises : goal.returns-clause-rises
 returns-clause-rises g c =
     let laws = g.met.H.HitSource g.world.𝓛 g.world.𝓜 g.world.𝓡 ((λ s x. x), (λ x. x), (λ x. x), λ x. x) in
     let own = c.self.inside in
     let ready = rw c.deref.ensures.value at c.in-Some.ensures in
-    let all = best_given g.H.HitSource.asked g.H.HitSource.standing own.sources.items _ _ own.last c.in-Some.best.0 c.in-Some.best.1 c.index_mut.result.now c.pop-head.new.self c.pop-head.result
-        laws.lawful c.self.invariant c.if-self.false ready c.index_mut.ensures.value c.pop-head.ensures.asked c.pop-head.ensures.pops in
+    let all = best_given g.H.HitSource.asked g.H.HitSource.standing own.sources.items _ _ own.last c.in-Some.best.0
+        c.in-Some.best.1 c.index_mut.result.now c.pop-head.new.self c.pop-head.result
+        laws.lawful c.self.invariant c.if-self.false ready c.index_mut.ensures.value c.pop-head.ensures.asked
+            c.pop-head.ensures.pops in
     subst (λ x. IfSome x.last (λ last. last ≤ c.in-Some.best.1.dist)) c.self.view_is
-    (last_at_most (seen g.H.HitSource.asked g.H.HitSource.standing (gathered own.sources.items own.limit own.given own.last)) c.in-Some.best.1 c.self.invariant all.1)
+    (last_at_most (seen g.H.HitSource.asked g.H.HitSource.standing
+        (gathered own.sources.items own.limit own.given own.last)) c.in-Some.best.1 c.self.invariant all.1)

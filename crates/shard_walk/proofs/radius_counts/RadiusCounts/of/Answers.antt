@@ -3,7 +3,8 @@ use Rattle.std.proofs.lemmas.List.{length-take-le, length-drop}
 use Rattle.threshold_model.specs.Vectors.{row_counts}
 use Rattle.shard_walk.specs.Counted.{HasCounts}
 use Rattle.shard_walk.specs.Probed.{parts_in, code_in}
-use Rattle.shard_walk.proofs.RadiusLemmas.{row_within, part_written, table_lawful}
+use Rattle.threshold_dp.proofs.RowsLemmas.{row_within}
+use Rattle.shard_walk.proofs.RadiusLemmas.{part_written, table_lawful}
 use Rattle.shard_walk.proofs.radius_counts.RadiusCounts.of.Goals as goal
 
 pub loop-part-preserved : goal.loop-part-preserved

@@ -1,0 +1,62 @@
+-- What a line that changes nothing is told, and what becomes of an operation.
+use Rattle.std.specs.Prelude.{◌≡◌, ℕ, ◌-◌, ◌<◌, ◌≤◌, List, [], ◌∷◌, length, take, slice_get, Some}
+use Rattle.hamming_model.specs.History.{JournalEntry, Operation, Decision, Added, Taken, Full}
+use Rattle.hamming_model.specs.History.{decision_on}
+use Rattle.hamming_model.specs.History as journal
+use Rattle.part_layout.specs.declared.config.Config.{Config}
+use Rattle.query_protocol.specs.Replies.{LineReply}
+use Rattle.query_protocol.specs.Replies as reply
+use Rattle.session_model.specs.State.{State}
+
+-- a line, its replies, the position that they print or carry on, the layout of each shard as the line
+-- saw it, and how many entries the session had seen before it
+pub record Exchange : Type 0 where
+  pub line : List ℕ
+  pub replies : List LineReply
+  pub position : ℕ
+  pub layouts : List (List (List ℕ))
+  pub seen : ℕ
+
+-- these replies, and nothing changes
+pub record Stays (said : List LineReply) (s : State) (e : Exchange) (t : State) : Type 0 where
+  pub said_is : e.replies ≡ said
+  pub position : e.position ≡ s.position
+  pub same : t ≡ s
+
+-- want of memory is free
+abbrev pub Refuses : State → Exchange → State → Type 0
+Refuses s e t = Stays (reply.NoMemory ∷ []) s e t
+
+-- an accepted operation: the entry of this number, beyond the last position, is this session's, and
+-- the entries before it accept it
+pub record Commits (config : Config) (history : List JournalEntry) (operation : Operation)
+    (accepted : Decision) (said : LineReply) (s : State) (e : Exchange) (t : State) : Type 0 where
+  pub later : s.position < e.position
+  pub entry : slice_get history (e.position - 1) ≡ Some (record { who = s.who; operation = operation })
+  pub decided : decision_on (take (e.position - 1) history) config.entries operation ≡ accepted
+  pub said_is : e.replies ≡ said ∷ []
+  pub position : t ≡ record s { position = e.position }
+
+-- an operation that isn't accepted, for this reason, after a prefix that is no shorter than the last
+pub record Declines (config : Config) (history : List JournalEntry) (operation : Operation)
+    (why : Decision) (said : LineReply) (s : State) (e : Exchange) (t : State) : Type 0 where
+  pub not_before : s.position ≤ e.position
+  pub within : e.position ≤ length history
+  pub decided : decision_on (take e.position history) config.entries operation ≡ why
+  pub said_is : e.replies ≡ said ∷ []
+  pub position : t ≡ record s { position = e.position }
+
+-- an accepted add
+abbrev pub Adds : Config → List JournalEntry → ℕ → List ℕ → State → Exchange → State → Type 0
+Adds config history key code s e t =
+    Commits config history (journal.Add key code) Added (reply.Added key e.position) s e t
+
+-- a refused add: the key is taken
+abbrev pub Takes : Config → List JournalEntry → ℕ → List ℕ → State → Exchange → State → Type 0
+Takes config history key code s e t =
+    Declines config history (journal.Add key code) Taken (reply.Taken key e.position) s e t
+
+-- a refused add: as many entries stand as may
+abbrev pub Fills : Config → List JournalEntry → ℕ → List ℕ → State → Exchange → State → Type 0
+Fills config history key code s e t =
+    Declines config history (journal.Add key code) Full (reply.Full e.position) s e t

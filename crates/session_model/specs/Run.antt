@@ -1,0 +1,131 @@
+-- A whole session: its steps in one history, and what is written.
+use Rattle.std.specs.Prelude.{◌≡◌, ℕ, ◌+◌, ◌<◌, ◌==◌, Bool, true, false, if◌then◌else◌}
+use Rattle.std.specs.Prelude.{List, [], ◌∷◌, ◌++◌, length, map, take, drop, filter, replicate}
+use Rattle.std.specs.Prelude.{Option, Some, Result, Ok}
+use Rattle.std.specs.List.{flat_map}
+use Rattle.hamming_model.specs.History.{JournalEntry, Operation}
+use Rattle.hamming_model.specs.History as journal
+use Rattle.part_layout.specs.Contiguous.{contiguous}
+use Rattle.part_layout.specs.declared.config.Config.{Config}
+use Rattle.query_protocol.specs.Requests.{LineRequest, Add, Quit}
+use Rattle.query_protocol.specs.Replies.{text}
+use Rattle.query_protocol.specs.declared.bad.Bad.{Bad}
+use Rattle.query_protocol.specs.Replies.{LineReply}
+use Rattle.query_protocol.specs.Replies as reply
+use Rattle.session_model.specs.Entries.{Exchange}
+use Rattle.session_model.specs.Ledger.{Rise, IsRise}
+use Rattle.session_model.specs.State.{State, new_session}
+use Rattle.session_model.specs.Step.{Step, asked_by}
+
+-- the exchanges are steps one after another, all in one history, and each meets a side condition
+abbrev pub Run : (State → Exchange → Type 0) → Config → List JournalEntry → State → List Exchange
+    → State → Type 0
+Run At config history s [] t = t ≡ s
+Run At config history s (e ∷ exchanges) t =
+    (mid : State) × At s e × Step config history s e mid × Run At config history mid exchanges t
+
+-- the operations that were accepted, by what a line asked and what it was told
+abbrev pub accepted : Result (Option LineRequest) Bad → List LineReply → List Operation
+accepted (Ok (Some (Add key code))) (reply.Added added at ∷ []) = journal.Add key code ∷ []
+accepted asked replies = []
+
+-- what the session with this number committed, by what a line asked and what it was told
+abbrev pub committed : ℕ → Result (Option LineRequest) Bad → List LineReply → List JournalEntry
+committed who asked replies =
+    map (λ operation. record { who = who; operation = operation }) (accepted asked replies)
+
+-- the entry that an exchange of a session committed, if it did
+abbrev pub commit_of : ℕ → Config → Exchange → List JournalEntry
+commit_of who config e = committed who (asked_by config e.line) e.replies
+
+-- all that the exchanges of a session committed
+abbrev pub commits : ℕ → Config → List Exchange → List JournalEntry
+commits who config exchanges = flat_map (commit_of who config) exchanges
+
+-- the entries of a session
+abbrev pub entries_of : ℕ → List JournalEntry → List JournalEntry
+entries_of who history = filter (λ entry. entry.who == who) history
+
+-- the exchanges are a session's in a history: its entries beyond the start are just what it commits
+pub record IsSession (At : State → Exchange → Type 0) (config : Config)
+    (history : List JournalEntry) (start : State) (exchanges : List Exchange) (last : State)
+    : Type 0 where
+  pub run : Run At config history start exchanges last
+  pub own : entries_of start.who (drop start.position history)
+      ≡ commits start.who config exchanges
+
+-- nobody else commits or gives a shard another layout: the position is the last one and what this
+-- exchange commits, the layouts are the state's, and all entries were seen
+pub record IsAlone (config : Config) (s : State) (e : Exchange) : Type 0 where
+  pub position : e.position ≡ s.position + length (commit_of s.who config e)
+  pub layouts : e.layouts ≡ s.layouts
+  pub seen : e.seen ≡ s.position
+
+-- others may commit and give the shards other layouts
+abbrev pub IsAmongOthers : State → Exchange → Type 0
+IsAmongOthers s e = Unit {0}
+
+-- the exchanges are those of a session that is alone: the history is what stood before it, all of which
+-- it has seen, and then what it commits
+pub record IsSolo (config : Config) (before : List JournalEntry) (start : State)
+    (exchanges : List Exchange) (last : State) : Type 0 where
+  pub begins : start.position ≡ length before
+  pub session : IsSession (IsAlone config) config
+      (before ++ commits start.who config exchanges) start exchanges last
+
+-- the first session of a server, which has the contiguous layout on each shard
+abbrev pub first_session : Config → State
+first_session config = new_session 0 0 (replicate config.shards (contiguous config.bits config.parts))
+
+-- the exchanges are those of a first session that is alone, whose queries read so much
+pub record IsRunAlone (config : Config) (exchanges : List Exchange) (rise : Rise) : Type 0 where
+  pub last : State
+  pub solo : IsSolo config [] (first_session config) exchanges last
+  pub ledger : IsRise config (commits 0 config exchanges) last.queries rise
+
+-- all that is written
+abbrev pub written : List Exchange → List ℕ
+written exchanges = flat_map (λ e. text e.replies) exchanges
+
+-- the lines of the exchanges
+abbrev pub lines_of : List Exchange → List (List ℕ)
+lines_of exchanges = map (λ e. e.line) exchanges
+
+-- a session answers these lines by these bytes, and its queries read so much; `Served` says which
+-- exchanges are a session
+pub record AnswersLines (Served : List Exchange → Rise → Type 0) (lines : List (List ℕ))
+    (bytes : List ℕ) (rise : Rise) : Type 0 where
+  pub exchanges : List Exchange
+  pub served : Served exchanges rise
+  pub lines_are : lines_of exchanges ≡ lines
+  pub bytes_are : bytes ≡ written exchanges
+
+-- the output is the replies to some of the lines in front, and of the replies to the line after them a
+-- part, and the queries of the session that answered these lines read so much
+pub record IsRefused (Served : List Exchange → Rise → Type 0) (lines : List (List ℕ))
+    (output : List ℕ) (rise : Rise) : Type 0 where
+  pub answered : List Exchange
+  pub refused : Exchange
+  pub rest : List (List ℕ)
+  pub served : Served (answered ++ refused ∷ []) rise
+  pub lines_are : lines ≡ lines_of answered ++ refused.line ∷ rest
+  pub taken : ℕ
+  pub not_all : taken < length (text refused.replies)
+  pub output_is : output ≡ written answered ++ take taken (text refused.replies)
+
+-- the line ends the session
+abbrev pub asks_quit : Result (Option LineRequest) Bad → Bool
+asks_quit (Ok (Some Quit)) = true
+asks_quit asked = false
+
+-- the lines before the first that ends the session
+abbrev pub before_quit : Config → List (List ℕ) → List (List ℕ)
+before_quit config [] = []
+before_quit config (line ∷ lines) =
+    if asks_quit (asked_by config line) then [] else line ∷ before_quit config lines
+
+-- one of the lines ends the session
+abbrev pub has_quit : Config → List (List ℕ) → Bool
+has_quit config [] = false
+has_quit config (line ∷ lines) =
+    if asks_quit (asked_by config line) then true else has_quit config lines

@@ -1,0 +1,52 @@
+-- One line and its replies: what a session may answer, and what it then knows.
+use Rattle.std.specs.Prelude.{◌≡◌, ℕ, ◌⊎◌, List, [], ◌∷◌, length, Option, Some, None, Result, Ok, Err}
+use Rattle.std.specs.List.{AllByRecursion}
+use Rattle.hamming_model.specs.History.{JournalEntry}
+use Rattle.hamming_model.specs.Layouts.{IsLayout}
+use Rattle.hamming_model.specs.Scan as ask
+use Rattle.part_layout.specs.declared.config.Config.{Config}
+use Rattle.part_layout.specs.Text.{layout_text}
+use Rattle.query_protocol.specs.Requests.{LineRequest, Add, Range, Next, Cost, Plan, Layout, Quit}
+use Rattle.query_protocol.specs.Requests.{reading}
+use Rattle.query_protocol.specs.declared.bad.Bad.{Bad}
+use Rattle.query_protocol.specs.Replies as reply
+use Rattle.session_model.specs.State.{State, query_of}
+use Rattle.session_model.specs.Ledger.{layout_at}
+use Rattle.session_model.specs.Entries.{Exchange, Stays, Refuses, Adds, Takes, Fills}
+use Rattle.session_model.specs.QuerySteps.{OpensUnlessUsed, Gives, Costs, Plans, IfOpen}
+
+-- what a line asks of a session
+abbrev pub asked_by : Config → List ℕ → Result (Option LineRequest) Bad
+asked_by config line = reading config line
+
+-- what is answered to what a line asks; `quit` isn't answered
+abbrev pub Answers
+    : Result (Option LineRequest) Bad → Config → List JournalEntry → State → Exchange → State → Type 0
+Answers (Err fault) config history s e t = Stays (reply.Bad fault ∷ []) s e t
+Answers (Ok None) config history s e t = Stays [] s e t
+Answers (Ok (Some (Add key code))) config history s e t =
+    Refuses s e t
+    ⊎ (Adds config history key code s e t
+    ⊎ (Takes config history key code s e t ⊎ Fills config history key code s e t))
+Answers (Ok (Some (Range tag tau code))) config history s e t =
+    OpensUnlessUsed (query_of tag s.queries) history tag (ask.Range tau code) s e t
+Answers (Ok (Some (Next tag count))) config history s e t =
+    IfOpen (query_of tag s.queries) (Gives config history tag count) s e t
+Answers (Ok (Some (Cost tag))) config history s e t =
+    IfOpen (query_of tag s.queries) (Costs config history tag) s e t
+Answers (Ok (Some (Plan tag shard))) config history s e t =
+    IfOpen (query_of tag s.queries) (Plans config history tag shard) s e t
+Answers (Ok (Some (Layout shard))) config history s e t =
+    Stays (reply.Layout shard (layout_text (layout_at e.layouts shard)) ∷ []) s e t
+Answers (Ok (Some Quit)) config history s e t = ⊥
+
+-- a layout of the session's bits for each shard
+pub record AreLayouts (config : Config) (layouts : List (List (List ℕ))) : Type 0 where
+  pub number : length layouts ≡ config.shards
+  pub each : AllByRecursion (IsLayout config.bits) layouts
+
+-- one step of a session as it was asked to be, in a history
+pub record Step (config : Config) (history : List JournalEntry) (s : State) (e : Exchange) (t : State)
+    : Type 0 where
+  pub layouts : AreLayouts config e.layouts
+  pub answers : Answers (asked_by config e.line) config history s e t

@@ -1,0 +1,12 @@
+//! A session is the list of its lines, each with its replies, in one history of entries. The definitions say what a session may
+//! answer, what it may read and how a call that serves one ends; the laws, each the contract of a function that does nothing, say
+//! that a session alone is told whole by its lines and replies, and that what a query has read never falls.
+#![tactic(auto)]
+
+mod limits;
+mod outcome;
+mod run_laws;
+
+pub use limits::BLOCK_MOST;
+pub use outcome::Outcome;
+pub use run_laws::queries_only_read_on;

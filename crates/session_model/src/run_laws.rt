@@ -1,0 +1,18 @@
+ghost use Rattle.std.specs.Prelude.{◌≡◌, ℕ, List};
+ghost use Rattle.hamming_model.specs.History.{JournalEntry};
+ghost use Rattle.part_layout.specs.declared.config.Config.{Config};
+ghost use Rattle.session_model.specs.Entries.{Exchange};
+ghost use Rattle.session_model.specs.State.{State};
+ghost use Rattle.session_model.specs.Run.{Run, IsAlone, IsAmongOthers};
+ghost use Rattle.session_model.specs.Later.{AreLater};
+
+/// Whatever a session is asked, each query that it opened stays in its place with its question, its rows and its layouts, what it
+/// has read never falls, and stays as it is once it was said that all its hits were given.
+pub fn queries_only_read_on()
+    ensures alone { (config : Config) (history : List JournalEntry) (s t : State)
+        (exchanges : List Exchange) →
+        Run (IsAlone config) config history s exchanges t → AreLater s.queries t.queries }
+    ensures among_others { (config : Config) (history : List JournalEntry) (s t : State)
+        (exchanges : List Exchange) →
+        Run IsAmongOthers config history s exchanges t → AreLater s.queries t.queries }
+{}
