@@ -229,3 +229,18 @@ fn the_first_rows_are_those_of_least_key(rt: HostRuntime) -> Result<(), Fail> {
     );
     Ok(())
 }
+
+#[test]
+fn rows_of_one_bucket_and_of_others_come_by_key(rt: HostRuntime) -> Result<(), Fail> {
+    let mut steps: Steps<Reads> = upkeep(&rt);
+    let code: Code<1> = Code::from_hex(8, b"0f")?;
+    let mut version = empty(&rt, rt.alloc(), 0, 1, 8, 1);
+    version = add(&rt, version, 513, b"0f");
+    version = add(&rt, version, 257, b"0f");
+    version = add(&rt, version, 256, b"0f");
+    version = add(&rt, version, 1, b"0f");
+    version = delete(&rt, version, 257);
+    let rows = [(1, code), (256, code), (513, code)];
+    compare_first(&rt, &version, 9, &rows, &mut steps);
+    Ok(())
+}
