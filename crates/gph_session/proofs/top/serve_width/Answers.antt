@@ -49,7 +49,7 @@ returns g c =
     let same : c.as_mut.result.now ≡ meters = c.as_mut.ensures.value in
     let some : 0 < length c.as_mut.result.now = omega (arith, c.as_mut.ensures.sixteen) in
     let read = subst (λ n. EndsAs result c.in-Ok.session.config source0 source1 sink0 sink1 n to)
-    (get_or_default c.as_mut.result.now 0 c.index-as_mut-0.result 0 some) c.serve.ensures in
+    (get_or_default c.as_mut.result.now 0 _ 0 some) c.serve.ensures in
     let here = subst (λ config. EndsAs result config source0 source1 sink0 sink1
     (slice_index c.as_mut.result.now 0) to) c.in-Ok.ensures.config read in
     let first = subst (λ l. EndsAs result c.args.config.now source0 source1 sink0 sink1 (slice_index l 0) to)
