@@ -1,5 +1,6 @@
 -- Lemmas on `add`: what becomes of it is a step of a session that is alone.
-use Rattle.std.proofs.Common.{◌≡◌, ℕ, ◌+◌, ◌-◌, ◌≤◌, ◌<◌, nat_le, true, cond}
+use Rattle.std.proofs.Common.{◌≡◌, ℕ, ◌+◌, ◌-◌, ◌%◌, ◌==◌, ◌≤◌, ◌<◌, nat_le}
+use Rattle.std.proofs.Common.{Bool, true, false, cond}
 use Rattle.std.proofs.Common.{List, [], ◌∷◌, ◌++◌, length, take, slice_get, Option, Some, None, is_some}
 use Rattle.std.proofs.Common.{Result, Ok, IfOk, refl, sym, ap, ◌∙◌, subst, arith, inl, inr}
 use Rattle.std.proofs.Common.{append_assoc, length-append}
@@ -9,8 +10,10 @@ use Rattle.std.proofs.lemmas.Bool.{lt-leb, le-leb}
 use Rattle.line_io.specs.declared.source.Failed.{Failed}
 use Rattle.hamming_model.specs.Codes.{StandsFor}
 use Rattle.hamming_model.specs.History.{JournalEntry, Operation, Decision, Added, Taken, Full}
-use Rattle.hamming_model.specs.History.{code_at, decide, decision_on, rows_of}
+use Rattle.hamming_model.specs.History.{changed, code_at, decide, decision_on, rows_of}
 use Rattle.hamming_model.specs.History as journal
+use Rattle.hamming_model.proofs.RowLemmas.{length_inserted}
+use Rattle.part_layout.specs.declared.config.Config.{Config}
 use Rattle.shard_version.specs.Contents.{Contents, after_entry}
 use Rattle.query_protocol.specs.Requests.{Add}
 use Rattle.query_protocol.specs.Replies.{text, reply_line}
@@ -25,13 +28,48 @@ use Rattle.gph_session.specs.declared.adding.Adding.TheVariants as adding
 use Rattle.gph_session.specs.declared.session.Turn.{Turn}
 use Rattle.gph_session.specs.declared.session.Turn.TheVariants.{Goes}
 use Rattle.gph_session.specs.Changing.{AddsAs, added_entry, reply_to_add}
-use Rattle.gph_session.specs.Meaning.{MeansBy, IsSettled, contents_of}
+use Rattle.gph_session.specs.Meaning.{MeansBy, IsReadyBy, IsSettled, contents_of}
 use Rattle.gph_session.specs.Writing.{Writes}
 use Rattle.gph_session.proofs.BoundLemmas.{all_settled_later}
 use Rattle.gph_session.proofs.QueryLemmas.{keep_later}
 use Rattle.gph_session.proofs.VersionLemmas.{after_added, codes_more}
 use Rattle.gph_session.proofs.Here.{Here, StepTo, TurnTo, asked_here, exchange_here, prefix_here}
 use Rattle.gph_session.proofs.Here.{layouts_here, on_ok, quiet, turn_to, writes_one}
+
+-- ---- the session stays ready
+
+one_row_more : (own : Bool) (rows : List (ℕ × List ℕ)) (at key : ℕ) (code : List ℕ)
+    → code_at rows key ≡ None → length rows ≤ at
+    → length (cond own (changed rows (journal.Add key code)) rows) ≤ at + 1
+one_row_more true rows at key code absent few =
+    omega (arith, length_inserted rows key code absent, few)
+one_row_more false rows at key code absent few = omega (arith, few)
+
+-- an add leaves a session ready
+pub ready_added : (W : ℕ) (config : Config) (old new : Contents) (limit key : ℕ) (stored : List ℕ)
+    (what : Adding) → AddsAs old limit key stored what new → IsReadyBy W config old
+    → IsReadyBy W config new
+ready_added W config old new limit key stored (adding.Added at) adds ready =
+    subst (IsReadyBy W config) (sym adds.2) (record {
+      allowed = ready.allowed;
+      some_room = ready.some_room;
+      small_room = ready.small_room;
+      few_entries = ready.few_entries;
+      alone = ready.alone;
+      one_shard = ready.one_shard;
+      few_rows = one_row_more (key % old.shards == old.shard) old.rows old.at key
+          (take old.layout.bits stored) adds.0 ready.few_rows;
+      laid = ready.laid;
+      layout = ready.layout;
+    })
+ready_added W config old new limit key stored (adding.Taken at) adds ready =
+    subst (IsReadyBy W config) (sym adds.1) ready
+ready_added W config old new limit key stored (adding.Full at) adds ready =
+    subst (IsReadyBy W config) (sym adds.2) ready
+ready_added W config old new limit key stored adding.NoMemory adds ready =
+    subst (IsReadyBy W config) (sym adds) ready
+
+-- ---- one step
 
 slice_get_at : (history : List JournalEntry) (entry : JournalEntry) (later : List JournalEntry)
     → slice_get (history ++ entry ∷ later) (length history) ≡ Some entry

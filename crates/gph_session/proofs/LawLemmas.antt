@@ -6,5 +6,6 @@ use Rattle.gph_session.specs.declared.open_query.OpenQuery.{OpenQuery}
 use Rattle.gph_session.specs.Cursors.{asked_of, standing_of}
 
 -- a query's source is lawful
-pub lawful_of : {W : ℕ} → Fits w64 W → (cursor : OpenQuery W) → IsLawful (asked_of cursor) (standing_of cursor)
+pub lawful_of : {W : ℕ} → Fits w64 W → (cursor : OpenQuery W)
+    → IsLawful (asked_of cursor) (standing_of cursor)
 lawful_of {W} fits cursor = laws.lawful-law W fits cursor.task

@@ -1,10 +1,10 @@
 -- Lemmas on the loop over reads: one more block, and the ways in which it ends.
-use Rattle.std.proofs.Common.{◌≡◌, ℕ, ◌+◌, ◌-◌, ◌<◌, ◌≤◌, true, false, Result, Ok, Err}
+use Rattle.std.proofs.Common.{◌≡◌, ℕ, ◌+◌, ◌-◌, ◌<◌, ◌≤◌, true, false, Option, Result, Ok, Err}
 use Rattle.std.proofs.Common.{List, [], ◌∷◌, ◌++◌, length, take, drop, get_or}
 use Rattle.std.proofs.Common.{refl, sym, ap, ◌∙◌, subst, arith, inl, inr, append-nil, length-append}
 use Rattle.std.specs.Io.KnownBytes.{Appends, Consumes, Keeps, IsAtEnd}
 use Rattle.std.proofs.KnownBytes.{Appends-trans, Consumes-trans, Consumes-kept}
-use Rattle.std.proofs.lemmas.List.{take-append-le, take-append-drop}
+use Rattle.std.proofs.lemmas.List.{take-append-le, take-append-drop, length-take}
 use Rattle.line_io.specs.Faults.{Rose}
 use Rattle.line_io.specs.Lines.{ended_lines, unended, last_line}
 use Rattle.line_io.specs.declared.source.Failed.{Failed}
@@ -62,10 +62,37 @@ no_more_before bytes piece few =
     subst (λ l. length (ended_lines [] front) ≤ length (ended_lines [] l)) (sym parted.1)
     (no_fewer_lines front parted.0)
 
+-- ---- one read
+
+-- a piece was read that fits into a block, and into what the limit leaves
+pub record HasRead (before after : Option (List ℕ)) (taken limit : ℕ) (piece : List ℕ) : Type 0 where
+  pub read : Consumes before after piece
+  pub few : length piece ≤ BLOCK_MOST
+  pub fits : taken + length piece ≤ limit
+
+-- what a read left in front of its room
+pub has_read : (before after : Option (List ℕ)) (taken limit count : ℕ) (room rest : List ℕ)
+    → count ≤ length room → length room ≤ BLOCK_MOST → taken + length room ≤ limit
+    → Consumes before after (take count room)
+    → HasRead before after taken limit (take count (room ++ rest))
+has_read before after taken limit count room rest within few fits read =
+    let same : take count (room ++ rest) ≡ take count room = take-append-le count room rest within in
+    let short : length (take count room) ≤ length room = omega (arith, length-take count room, within) in
+    record {
+      read = subst (Consumes before after) (sym same) read;
+      few = omega (arith, ap length same, short, few);
+      fits = omega (arith, ap length same, short, fits);
+    }
+
+pub length_read : (count : ℕ) (room rest : List ℕ) → count ≤ length room
+    → length (take count (room ++ rest)) ≡ count
+length_read count room rest within =
+    omega (arith, ap length (take-append-le count room rest within), length-take count room, within)
+
 -- ---- the loop
 
-module _ {W : ℕ} (start old : Session W) {taken : ℕ} {source0 source1 sink0 sink1 : Ends}
-    {from now : ℕ} (one : start.config.shards ≡ 1) (same : old.config ≡ start.config)
+module _ {W : ℕ} (start old : Session W) {taken : ℕ}
+    (source0 sink0 : Ends) {source1 sink1 : Ends} {from now : ℕ} (one : start.config.shards ≡ 1) (same : old.config ≡ start.config)
     (serves : Serves start.config old taken source0 source1 sink0 sink1 from now) where
   -- what the session was asked to be
   abbrev config : Config
@@ -193,8 +220,7 @@ module _ {W : ℕ} (start old : Session W) {taken : ℕ} {source0 source1 sink0 
 
     -- ---- one more block
 
-    module _ (piece : List ℕ) (read : Consumes source1.bytes source2.bytes piece)
-        (fits : taken + length piece ≤ config.input) (small : length piece ≤ BLOCK_MOST)
+    module _ (piece : List ℕ) (block : HasRead source1.bytes source2.bytes taken config.input piece)
         (new : Session W) (result : Result Turn Failed)
         (leads : FlowsOn result old new piece sink1.bytes sink2.bytes now to) where
       flows : (more : List ℕ) × Appends sink1.bytes sink2.bytes more
@@ -225,8 +251,9 @@ module _ {W : ℕ} (start old : Session W) {taken : ℕ} {source0 source1 sink0 
 
       moved_on : Transfers config.input source0 source2 sink0 sink2 all output
       moved_on = record {
-        read = Consumes-trans source0.bytes source1.bytes source2.bytes serves.bytes piece serves.read read;
-        few = omega (arith, length-append serves.bytes piece, serves.long, fits);
+        read = Consumes-trans source0.bytes source1.bytes source2.bytes serves.bytes piece serves.read
+            block.read;
+        few = omega (arith, length-append serves.bytes piece, serves.long, block.fits);
         wrote = Appends-trans sink0.bytes sink1.bytes sink2.bytes serves.output flows.0 serves.wrote flows.1;
       }
 
@@ -238,7 +265,7 @@ module _ {W : ℕ} (start old : Session W) {taken : ℕ} {source0 source1 sink0 
         read = moved_on.read;
         wrote = moved_on.wrote;
         long = omega (arith, length-append serves.bytes piece, serves.long);
-        few = fits;
+        few = block.fits;
         no_read_failed = no_read_failed ∙ serves.no_read_failed;
         no_write_failed = steady ∙ serves.no_write_failed;
         goes = flowed (Ok Goes) is;
@@ -258,7 +285,7 @@ module _ {W : ℕ} (start old : Session W) {taken : ℕ} {source0 source1 sink0 
               output = output;
               moved = moved_on;
               ended = inr ended.quits;
-              goes_on = no_quit_before config serves.bytes piece small goes;
+              goes_on = no_quit_before config serves.bytes piece block.few goes;
               answered =
                   subst (λ l. AnswersLines (IsRunAlone config) l output ended.served.rise)
                   (sym (before_more config (ended_lines [] all) (last_line (unended [] all)) ended.quits))
@@ -283,6 +310,6 @@ module _ {W : ℕ} (start old : Session W) {taken : ℕ} {source0 source1 sink0 
               ended = false;
               ended_at = λ never. cc;
               refused = last.refused;
-              all_before = omega (arith, no_more_before serves.bytes piece small, last.all_before);
+              all_before = omega (arith, no_more_before serves.bytes piece block.few, last.all_before);
             };
           }

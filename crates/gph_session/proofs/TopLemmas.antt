@@ -61,6 +61,8 @@ is_ready W config version allowed is pinned laid first = record {
   few_entries = is.few_entries;
   alone = pinned.one_shard;
   one_shard = ap (λ (v : Contents). v.shards) first;
+  few_rows =
+      omega (arith, ap (λ (v : Contents). length v.rows) first, ap (λ (v : Contents). v.at) first);
   laid = ap (λ (v : Contents). v.layout) first;
   layout = laid.layout;
 }

@@ -29,6 +29,10 @@ abbrev pub IsCodeFor : ℕ → Contents → List ℕ → Type 0
 IsCodeFor W version stored =
     StandsFor W version.layout.bits stored (take version.layout.bits stored)
 
+-- each row of a version came by an entry
+abbrev pub HasFewRows : Contents → Type 0
+HasFewRows version = length version.rows ≤ version.at
+
 -- a version with one row more
 abbrev pub with_row : Contents → ℕ → List ℕ → Contents
 with_row version key stored = after_entry version (added_entry version.layout.bits key stored)
@@ -36,7 +40,8 @@ with_row version key stored = after_entry version (added_entry version.layout.bi
 -- what becomes of an add where at most so many entries may stand, and the version that it leaves
 abbrev pub AddsAs : Contents → ℕ → ℕ → List ℕ → Adding → Contents → Type 0
 AddsAs old limit key stored (adding.Added at) new =
-    (code_at old.rows key ≡ None) × (old.at < limit) × (new ≡ with_row old key stored) × (at ≡ new.at)
+    (code_at old.rows key ≡ None) × (old.at < limit) × (new ≡ with_row old key stored)
+    × (at ≡ new.at)
 AddsAs old limit key stored (adding.Taken at) new =
     (is_some (code_at old.rows key) ≡ true) × (new ≡ old) × (at ≡ old.at)
 AddsAs old limit key stored (adding.Full at) new =
@@ -50,7 +55,8 @@ reply_to_add key (adding.Taken at) = reply.Taken key at
 reply_to_add key (adding.Full at) = reply.Full at
 reply_to_add key adding.NoMemory = reply.NoMemory
 
--- a cursor of a tag that asks for all rows of a version within a radius, and has given and read nothing
+-- a cursor of a tag that asks for all rows of a version within a radius, and has given and read
+-- nothing
 pub record BeginsQuery {W : ℕ} (version : Contents) (room : ℕ) (tag : List ℕ) (tau : ℕ)
     (stored : List ℕ) (cursor : OpenQuery W) : Type 0 where
   pub tag_is : cursor.tag ≡ tag

@@ -22,14 +22,15 @@ abbrev pub IsFree : {W : ℕ} → List (OpenQuery W) → List ℕ → Type 0
 IsFree cursors tag = AllByRecursion (λ cursor. bytes_eq cursor.tag tag ≡ false) cursors
 
 -- the first cursor of the tag is at a place
-pub record IsFirstAt {W : ℕ} (cursors : List (OpenQuery W)) (tag : List ℕ) (place : ℕ) : Type 0 where
+pub record IsFirstAt {W : ℕ} (cursors : List (OpenQuery W)) (tag : List ℕ) (place : ℕ)
+    : Type 0 where
   pub within : place < length cursors
   pub is_first : IsFree (take place cursors) tag
   pub has_tag : (cursor : OpenQuery W) → (slice_index_or cursors place cursor).tag ≡ tag
 
 -- the first cursor of the tag was changed, and no other
-pub record Changes {W : ℕ} (old new : List (OpenQuery W)) (tag : List ℕ) (before after : OpenQuery W)
-    : Type 0 where
+pub record Changes {W : ℕ} (old new : List (OpenQuery W)) (tag : List ℕ)
+    (before after : OpenQuery W) : Type 0 where
   pub front : List (OpenQuery W)
   pub back : List (OpenQuery W)
   pub old_is : old ≡ front ++ before ∷ back

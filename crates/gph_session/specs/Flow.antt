@@ -1,4 +1,5 @@
--- What a session has written for what it has read, while it goes on. No public clause cites this module.
+-- What a session has written for what it has read, while it goes on.
+-- No public clause cites this module.
 use Rattle.std.specs.Prelude.{◌≡◌, ℕ, ◌+◌, ◌≤◌, true, Option, Result, Ok, Err, OnOk}
 use Rattle.std.specs.Prelude.{List, [], ◌++◌, length}
 use Rattle.std.specs.List.{AllByRecursion}
@@ -15,7 +16,8 @@ use Rattle.session_model.specs.State.{State}
 use Rattle.session_model.specs.Entries.{Exchange}
 use Rattle.session_model.specs.Step.{Step}
 use Rattle.session_model.specs.Ledger.{Rise, column, readings_of}
-use Rattle.session_model.specs.Run.{Run, IsAlone, IsRunAlone, AnswersLines, IsRefused, first_session}
+use Rattle.session_model.specs.Run.{Run, IsAlone, IsRunAlone, AnswersLines, IsRefused}
+use Rattle.session_model.specs.Run.{first_session}
 use Rattle.session_model.specs.Run.{commit_of, commits, written, lines_of}
 use Rattle.session_model.specs.Run.{asks_quit, before_quit, has_quit}
 use Rattle.gph_session.specs.declared.open_query.OpenQuery.{OpenQuery}
@@ -57,10 +59,11 @@ abbrev pub AnswersAs : {W : ℕ} → Result Turn Failed → Session W → Sessio
     → Option (List ℕ) → Option (List ℕ) → ℕ → ℕ → Type 0
 AnswersAs {W} result old new line before after from to =
     (history : List JournalEntry) (s : State) → Means old history s →
-    TurnIs result W old.config history s line before after from to (contents_in new) new.queries.items
+    TurnIs result W old.config history s line before after from to (contents_in new)
+    new.queries.items
 
--- the session goes on: all whole lines of these bytes were answered by that output, the rest is kept, and
--- its queries read what the ledger rose by since it began
+-- the session goes on: all whole lines of these bytes were answered by that output, the rest is kept,
+-- and its queries read what the ledger rose by since it began
 pub record GoesOn (W : ℕ) (config : Config) (from to : ℕ) (bytes output : List ℕ)
     (version : Contents) (cursors : List (OpenQuery W)) (begun : Option (List ℕ)) : Type 0 where
   pub exchanges : List Exchange
@@ -105,8 +108,8 @@ pub record WasRefused (config : Config) (of_lines : List (List ℕ)) (output : L
   pub refused : IsRefused (IsRunAlone config) of_lines output rise
   pub all_before : known ≤ length refused.answered
 
--- how the session goes on after a piece behind these bytes: it stands, or has ended, or a reply to a
--- line that ends in the piece was refused
+-- how the session goes on after a piece behind these bytes: it stands, or has ended, or a reply to
+-- a line that ends in the piece was refused
 abbrev pub FlowIs : Result Turn Failed → (W : ℕ) → Config → ℕ → ℕ → List ℕ → List ℕ → List ℕ
     → Contents → List (OpenQuery W) → Option (List ℕ) → Type 0
 FlowIs (Ok Goes) W config from to bytes piece output version cursors begun =
@@ -114,7 +117,8 @@ FlowIs (Ok Goes) W config from to bytes piece output version cursors begun =
 FlowIs (Ok Quits) W config from to bytes piece output version cursors begun =
     HasEnded config (ended_lines [] (bytes ++ piece)) output from to
 FlowIs (Err failed) W config from to bytes piece output version cursors begun =
-    WasRefused config (ended_lines [] (bytes ++ piece)) output from to (length (ended_lines [] bytes))
+    WasRefused config (ended_lines [] (bytes ++ piece)) output from to
+    (length (ended_lines [] bytes))
 
 -- a piece leads a session on so, whatever it had answered before
 abbrev pub FlowsOn : {W : ℕ} → Result Turn Failed → Session W → Session W → List ℕ

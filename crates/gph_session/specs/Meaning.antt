@@ -20,6 +20,7 @@ use Rattle.session_model.specs.Ledger.{IsBounded}
 use Rattle.gph_session.specs.declared.open_query.OpenQuery.{OpenQuery}
 use Rattle.gph_session.specs.declared.session.Session.{Session}
 use Rattle.gph_session.specs.Cursors.{asked_of, standing_of}
+use Rattle.gph_session.specs.Changing.{HasFewRows}
 
 -- the layout of a session's one shard
 abbrev pub layout_of : Config → List (List ℕ)
@@ -103,6 +104,7 @@ pub record IsReadyBy (W : ℕ) (config : Config) (version : Contents) : Type 0 w
   pub few_entries : config.entries ≤ ENTRIES_MOST
   pub alone : config.shards ≡ 1
   pub one_shard : version.shards ≡ 1
+  pub few_rows : HasFewRows version
   pub laid : version.layout ≡ laid_of config
   pub layout : IsLayout config.bits (layout_of config)
 

@@ -1,4 +1,5 @@
--- A call that serves one session: how far it is, and how it ends. No public clause cites this module.
+-- A call that serves one session: how far it is, and how it ends.
+-- No public clause cites this module.
 use Rattle.std.specs.Prelude.{◌≡◌, ℕ, ◌≤◌, List, length, Option}
 use Rattle.std.specs.Io.KnownBytes.{Appends, Consumes}
 use Rattle.part_layout.specs.declared.config.Config.{Config}
@@ -9,7 +10,8 @@ use Rattle.session_model.specs.Outcomes.{Ends, Untouched}
 use Rattle.session_model.specs.Outcomes.{IsDone, IsReadFault, IsWriteFault, IsInputLimit}
 use Rattle.session_model.specs.declared.outcome.Outcome.{Outcome}
 use Rattle.session_model.specs.declared.outcome.Outcome.TheVariants.{Done, Usage, NoMemory}
-use Rattle.session_model.specs.declared.outcome.Outcome.TheVariants.{ReadFault, WriteFault, InputLimit}
+use Rattle.session_model.specs.declared.outcome.Outcome.TheVariants.{ReadFault, WriteFault}
+use Rattle.session_model.specs.declared.outcome.Outcome.TheVariants.{InputLimit}
 use Rattle.gph_session.specs.declared.open_query.OpenQuery.{OpenQuery}
 use Rattle.gph_session.specs.declared.session.Session.{Session}
 use Rattle.gph_session.specs.Meaning.{contents_in}

@@ -5,11 +5,10 @@ ghost use Rattle.std.specs.Arc.{arc_value};
 ghost use Rattle.hamming_model.specs.History.{code_at};
 ghost use Rattle.hamming_model.specs.declared.limits.TheConstants.{ENTRIES_MOST};
 ghost use Rattle.query_protocol.specs.Replies.{line_of};
-ghost use Rattle.gph_session.specs.Changing.{AddsAs, IsCodeFor, with_row, reply_to_add};
+ghost use Rattle.gph_session.specs.Changing.{AddsAs, HasFewRows, IsCodeFor, with_row, reply_to_add};
 
 use entry_log::{Decision, Entry, Op, decide};
 use gph_codes::Code;
-use hamming_model::ENTRIES_MOST;
 use query_protocol::Reply;
 use read_meter::NoMemory;
 use shard_version::Version;
@@ -51,6 +50,7 @@ pub(crate) fn add<const W: usize>(
     requires few_words { W ≤ 8 }
     requires few_entries { limit ≤ ENTRIES_MOST }
     requires one_shard { (arc_value version.old).contents.shards ≡ 1 }
+    requires rows { HasFewRows (arc_value version.old).contents }
     requires code { IsCodeFor W (arc_value version.old).contents code }
     ensures { AddsAs (arc_value version.old).contents limit key code.entry result
         (arc_value version.new).contents }
@@ -81,6 +81,7 @@ fn added_to<const W: usize>(
 ) -> Result<Arc<Version<W>>, NoMemory>
     requires few_words { W ≤ 8 }
     requires room { version.now.contents.at < ENTRIES_MOST }
+    requires rows { HasFewRows version.now.contents }
     requires code { IsCodeFor W version.now.contents code }
     requires absent { code_at version.now.contents.rows key ≡ None }
     ensures { IfOk result (λ next. (arc_value next).contents
@@ -90,10 +91,6 @@ fn added_to<const W: usize>(
         who: 0,
         op: Op::Add { key, code },
     };
-    // Each row came by an entry, so there is room for one more; the session's proof doesn't count them.
-    if version.rows() >= ENTRIES_MOST {
-        return Err(NoMemory);
-    }
     let Ok(copy) = version.copy() else {
         return Err(NoMemory);
     };

@@ -18,8 +18,8 @@ pub(crate) fn answer_block<const W: usize, K: Sink, L>(
 ) -> Result<Turn, Failed>
     requires few_words { W ≤ 8 }
     requires ready { IsReady session.old }
-    ensures flow { FlowsOn result session.old session.new block.now (K.held sink.old) (K.held sink.new)
-        steps.old steps.new }
+    ensures flow { FlowsOn result session.old session.new block.now
+        (K.held sink.old) (K.held sink.new) steps.old steps.new }
     ensures ready { IsReady session.new }
     ensures config { session.new.config ≡ session.old.config }
     ensures cause { IsCaused (K.faults sink.old) (K.faults sink.new) result }
@@ -47,8 +47,8 @@ fn answer_line<const W: usize, K: Sink, L>(
     requires ready { IsReady session.old }
     requires some { 0 < length bytes.now }
     ensures progress { (0 < result.0) × (result.0 ≤ length bytes.now) }
-    ensures flow { FlowsOn result.1 session.old session.new (take result.0 bytes.now) (K.held sink.old)
-        (K.held sink.new) steps.old steps.new }
+    ensures flow { FlowsOn result.1 session.old session.new (take result.0 bytes.now)
+        (K.held sink.old) (K.held sink.new) steps.old steps.new }
     ensures ready { IsReady session.new }
     ensures config { session.new.config ≡ session.old.config }
     ensures cause { IsCaused (K.faults sink.old) (K.faults sink.new) result.1 }
@@ -68,7 +68,8 @@ pub(crate) fn answer_end<const W: usize, K: Sink, L>(
 ) -> Result<Turn, Failed>
     requires few_words { W ≤ 8 }
     requires ready { IsReady session.old }
-    ensures flow { EndsOn result session.old (K.held sink.old) (K.held sink.new) steps.old steps.new }
+    ensures flow { EndsOn result session.old (K.held sink.old) (K.held sink.new)
+        steps.old steps.new }
     ensures cause { IsCaused (K.faults sink.old) (K.faults sink.new) result }
 {
     match session.cutter.finish() {

@@ -20,7 +20,8 @@ pub(crate) struct OpenQuery<const W: usize> {
 
 /// Where the first query of a tag stands. Looks at every place once.
 pub(crate) fn place_of<const W: usize>(queries: &[OpenQuery<W>], tag: &Tag) -> Option<usize>
-    ensures { MatchOption result (IsFree queries.now tag.now) (λ place. IsFirstAt queries.now tag.now place) }
+    ensures { MatchOption result (IsFree queries.now tag.now)
+        (λ place. IsFirstAt queries.now tag.now place) }
 {
     for place in 0..queries.len() {
         if queries[place].tag.matches(tag) {

@@ -53,8 +53,8 @@ pub(crate) fn open<const W: usize>(
     requires near { tau ≤ (arc_value version.now).contents.layout.bits }
     requires some_room { 1 ≤ room }
     requires small_room { room ≤ ROOM_MOST }
-    ensures { OpensAs (arc_value version.now).contents room queries.old.items tag tau code.entry result
-        queries.new.items }
+    ensures { OpensAs (arc_value version.now).contents room queries.old.items tag tau code.entry
+        result queries.new.items }
 {
     if let Some(_place) = place_of(queries, &tag) {
         return Opening::Used;

@@ -25,7 +25,8 @@ pub(crate) fn write_all<K: Sink>(sink: &mut K, piece: &[u8]) -> Result<(), Faile
 
 /// Writes one reply, in one piece, after which the session goes on.
 pub(crate) fn say<K: Sink>(out: &mut LineBuf, sink: &mut K, reply: &Reply) -> Result<Turn, Failed>
-    ensures written { Writes (K.held sink.old) (K.held sink.new) result (reply_line (line_of reply.now)) }
+    ensures written { Writes (K.held sink.old) (K.held sink.new) result
+        (reply_line (line_of reply.now)) }
     ensures cause { IsCaused (K.faults sink.old) (K.faults sink.new) result }
     ensures goes { IfOk result (λ turn. turn ≡ Turn.Goes) }
 {

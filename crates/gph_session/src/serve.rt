@@ -26,7 +26,8 @@ pub(crate) fn serve<const W: usize, S: Source, K: Sink, L>(
     requires room { length block.old ≡ BLOCK_MOST }
     requires new { HasAnswered session.old steps.old steps.old [] [] }
     ensures { EndsAs result session.old.config
-        (ends (S.left source.old) (S.faults source.old)) (ends (S.left source.new) (S.faults source.new))
+        (ends (S.left source.old) (S.faults source.old))
+        (ends (S.left source.new) (S.faults source.new))
         (ends (K.held sink.old) (K.faults sink.old)) (ends (K.held sink.new) (K.faults sink.new))
         steps.old steps.new }
 {

@@ -88,7 +88,8 @@ fn first_version<const W: usize>(
     requires few_words { W ≤ 8 }
     requires room { config.now.bits ≤ 64 * W }
     requires config { IsConfig config.now }
-    ensures first { IfOk result (λ version. (arc_value version).contents ≡ contents_of config.now []) }
+    ensures first { IfOk result
+        (λ version. (arc_value version).contents ≡ contents_of config.now []) }
     ensures laid { IfOk result (λ _. IsLaid (laid_of config.now)) }
 {
     let Ok(layout) = starting_layout(alloc, config) else {
@@ -158,7 +159,8 @@ fn meet<const W: usize, K: Sink, L>(
     requires ready { IsReady session.old }
     requires fit { IsFit W session.old.config.bits request }
     ensures answers { (line : List ℕ) →
-        Ok (Some (unstored session.old.config.bits request.entry)) ≡ reading session.old.config line →
+        Ok (Some (unstored session.old.config.bits request.entry))
+        ≡ reading session.old.config line →
         AnswersAs result session.old session.new line (K.held sink.old) (K.held sink.new)
         steps.old steps.new }
     ensures cutter { session.new.cutter ≡ session.old.cutter }

@@ -11,6 +11,8 @@ mod counts;
 #[cfg(test)]
 mod entries;
 #[cfg(test)]
+mod gathers;
+#[cfg(test)]
 mod layouts;
 #[cfg(test)]
 mod meters;

@@ -1,5 +1,5 @@
 ghost use Rattle.std.specs.Prelude.{◌≡◌, ◌*◌, ◌^◌, ◌<◌, ◌≤◌, length};
-ghost use Rattle.part_layout.specs.Laid.{IsAllowed, part_at};
+ghost use Rattle.part_layout.specs.Laid.{IsCodeSize, part_at};
 
 use crate::plain::differences;
 use count_table::changes_follow_a_list;
@@ -29,7 +29,7 @@ pub(crate) fn empty<const W: usize, R: Abort>(
     parts: u32,
 ) -> Version<W>
     requires few_words { W ≤ 8 }
-    requires bits { IsAllowed bits }
+    requires bits { IsCodeSize bits }
 {
     assert!(rt; shard < shards && shards <= 16 && bits as usize <= 64 * W);
     let layout = Layout::contiguous(alloc, bits, parts).expect(rt, "a layout");
@@ -227,5 +227,20 @@ fn the_first_rows_are_those_of_least_key(rt: HostRuntime) -> Result<(), Fail> {
         &[(0, low), (5, high), (u64::MAX, low)],
         &mut steps,
     );
+    Ok(())
+}
+
+#[test]
+fn rows_of_one_bucket_and_of_others_come_by_key(rt: HostRuntime) -> Result<(), Fail> {
+    let mut steps: Steps<Reads> = upkeep(&rt);
+    let code: Code<1> = Code::from_hex(8, b"0f")?;
+    let mut version = empty(&rt, rt.alloc(), 0, 1, 8, 1);
+    version = add(&rt, version, 513, b"0f");
+    version = add(&rt, version, 257, b"0f");
+    version = add(&rt, version, 256, b"0f");
+    version = add(&rt, version, 1, b"0f");
+    version = delete(&rt, version, 257);
+    let rows = [(1, code), (256, code), (513, code)];
+    compare_first(&rt, &version, 9, &rows, &mut steps);
     Ok(())
 }

@@ -8,8 +8,8 @@ use Rattle.query_protocol.specs.Replies.{LineReply}
 use Rattle.query_protocol.specs.Replies as reply
 use Rattle.session_model.specs.State.{State}
 
--- a line, its replies, the position that they print or carry on, the layout of each shard as the line
--- saw it, and how many entries the session had seen before it
+-- a line, its replies, the position that they print or carry on, the layout of each shard as the
+-- line saw it, and how many entries the session had seen before it
 pub record Exchange : Type 0 where
   pub line : List ℕ
   pub replies : List LineReply
@@ -32,12 +32,13 @@ Refuses s e t = Stays (reply.NoMemory ∷ []) s e t
 pub record Commits (config : Config) (history : List JournalEntry) (operation : Operation)
     (accepted : Decision) (said : LineReply) (s : State) (e : Exchange) (t : State) : Type 0 where
   pub later : s.position < e.position
-  pub entry : slice_get history (e.position - 1) ≡ Some (record { who = s.who; operation = operation })
+  pub entry : slice_get history (e.position - 1)
+      ≡ Some (record { who = s.who; operation = operation })
   pub decided : decision_on (take (e.position - 1) history) config.entries operation ≡ accepted
   pub said_is : e.replies ≡ said ∷ []
   pub position : t ≡ record s { position = e.position }
 
--- an operation that isn't accepted, for this reason, after a prefix that is no shorter than the last
+-- an operation that isn't accepted, for this reason, after a prefix no shorter than the last
 pub record Declines (config : Config) (history : List JournalEntry) (operation : Operation)
     (why : Decision) (said : LineReply) (s : State) (e : Exchange) (t : State) : Type 0 where
   pub not_before : s.position ≤ e.position

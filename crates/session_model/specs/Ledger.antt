@@ -20,7 +20,8 @@ rows_at config history query shard =
 
 -- the whole answer of a query
 abbrev pub answer_of : Config → List JournalEntry → Query → List Hit
-answer_of config history query = answer config.bits (rows_of (take query.position history)) query.ask
+answer_of config history query =
+    answer config.bits (rows_of (take query.position history)) query.ask
 
 -- the distance of the last hit that a query has given
 abbrev pub last_given : Config → List JournalEntry → Query → Option ℕ
@@ -29,7 +30,8 @@ last_given config history query = last_distance (take query.given (answer_of con
 -- the most postings that a query may read on a shard for its hits up to a distance
 abbrev pub IsBoundAt : Config → List JournalEntry → Query → Option ℕ → ℕ → ℕ → Type 0
 IsBoundAt config history query last shard bound =
-    IsBoundOf query.ask (rows_at config history query shard) (layout_at query.pinned shard) last bound
+    IsBoundOf query.ask (rows_at config history query shard) (layout_at query.pinned shard) last
+    bound
 
 -- the sum of numbers
 abbrev pub total : List ℕ → ℕ
@@ -64,8 +66,8 @@ pub record IsBounded (config : Config) (history : List JournalEntry) (query : Qu
   pub number : length query.reads ≡ config.shards
   pub within : (shard : ℕ) → shard < config.shards → IsWithinBound config history query shard
 
--- what a session has read: for each query that it opened the postings on each shard, and beside them
--- the steps of upkeep
+-- what a session has read: for each query that it opened the postings on each shard, and beside
+-- them the steps of upkeep
 pub record Rise : Type 0 where
   pub readings : List (List ℕ)
   pub upkeep : ℕ

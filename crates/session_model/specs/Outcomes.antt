@@ -39,8 +39,8 @@ pub record Transfers (limit : ℕ) (source source' sink sink' : Ends) (bytes out
 abbrev pub before_last : List ℕ → List ℕ
 before_last bytes = take (length bytes - BLOCK_MOST) bytes
 
--- no count of faults rose: the input was read to its end, or a whole line of it ends the session, one
--- of the last block, and the lines up to there were answered
+-- no count of faults rose: the input was read to its end, or a whole line of it ends the session,
+-- one of the last block, and the lines up to there were answered
 pub record IsDone (Served : Config → List Exchange → Rise → Type 0) (config : Config)
     (source source' sink sink' : Ends) (rise : Rise) : Type 0 where
   pub no_read_failed : source'.faults ≡ source.faults
@@ -77,8 +77,8 @@ pub record IsWriteFault (Served : Config → List Exchange → Rise → Type 0) 
   pub refused : IsRefused (Served config) (lines bytes ended) output rise
   pub all_before : length (lines (before_last bytes) false) ≤ length refused.answered
 
--- as many bytes as may be read were read, then one more, with no fault, and the whole lines before it
--- were answered
+-- as many bytes as may be read were read, then one more, with no fault, and the whole lines before
+-- it were answered
 pub record IsInputLimit (Served : Config → List Exchange → Rise → Type 0) (config : Config)
     (source source' sink sink' : Ends) (rise : Rise) : Type 0 where
   pub no_read_failed : source'.faults ≡ source.faults
@@ -92,7 +92,8 @@ pub record IsInputLimit (Served : Config → List Exchange → Rise → Type 0) 
   pub goes_on : has_quit config (lines bytes false) ≡ false
   pub answered : AnswersLines (Served config) (lines bytes false) output rise
 
--- the input up to its end, or to a line that ends the session, has at most as many bytes as may be read
+-- the input up to its end, or to a line that ends the session, has at most as many bytes as may be
+-- read
 abbrev pub IsWithin : Config → List ℕ → Type 0
 IsWithin config input =
     (length input ≤ config.input) ⊎ (has_quit config (lines (take config.input input) false) ≡ true)

@@ -17,7 +17,8 @@ use Rattle.session_model.specs.Entries.{Exchange, Stays, Refuses}
 abbrev pub most_open : ℕ
 most_open = 16
 
--- a query that an exchange opens: it pins the layouts that the line saw, and has given and read nothing
+-- a query that an exchange opens: it pins the layouts that the line saw, and has given and read
+-- nothing
 abbrev pub new_query : List ℕ → Ask → Exchange → Query
 new_query tag asked e = record {
   tag = tag;
@@ -69,8 +70,8 @@ pub record ReadsOn (query : Query) (reads : List ℕ) : Type 0 where
   pub no_less : (shard : ℕ) → slice_index query.reads shard ≤ slice_index reads shard
   pub stays : query.done ≡ true → reads ≡ query.reads
 
--- a query that has read so much after so many more hits of an answer were asked: it is done where that
--- reaches the end
+-- a query that has read so much after so many more hits of an answer were asked: it is done where
+-- that reaches the end
 abbrev pub given_more : Query → ℕ → List Hit → List ℕ → Query
 given_more query count hits reads = record query {
   given = min (query.given + count) (length hits);
@@ -89,8 +90,8 @@ pub record Gives (config : Config) (history : List JournalEntry) (tag : List ℕ
   pub position : e.position ≡ s.position
   pub given : t ≡ record s { queries = replaced tag (given_more query count hits reads) s.queries }
 
--- what a query has read so far on all shards, no less than its hits, and the most that it may read for
--- the hits that it has given
+-- what a query has read so far on all shards, no less than its hits, and the most that it may read
+-- for the hits that it has given
 pub record Costs (config : Config) (history : List JournalEntry) (tag : List ℕ)
     (query : Query) (s : State) (e : Exchange) (t : State) : Type 0 where
   pub bound : ℕ

@@ -65,8 +65,8 @@ pub record IsAlone (config : Config) (s : State) (e : Exchange) : Type 0 where
 abbrev pub IsAmongOthers : State → Exchange → Type 0
 IsAmongOthers s e = Unit {0}
 
--- the exchanges are those of a session that is alone: the history is what stood before it, all of which
--- it has seen, and then what it commits
+-- the exchanges are those of a session that is alone: the history is what stood before it, all of
+-- which it has seen, and then what it commits
 pub record IsSolo (config : Config) (before : List JournalEntry) (start : State)
     (exchanges : List Exchange) (last : State) : Type 0 where
   pub begins : start.position ≡ length before
@@ -75,7 +75,8 @@ pub record IsSolo (config : Config) (before : List JournalEntry) (start : State)
 
 -- the first session of a server, which has the contiguous layout on each shard
 abbrev pub first_session : Config → State
-first_session config = new_session 0 0 (replicate config.shards (contiguous config.bits config.parts))
+first_session config =
+    new_session 0 0 (replicate config.shards (contiguous config.bits config.parts))
 
 -- the exchanges are those of a first session that is alone, whose queries read so much
 pub record IsRunAlone (config : Config) (exchanges : List Exchange) (rise : Rise) : Type 0 where
@@ -100,8 +101,8 @@ pub record AnswersLines (Served : List Exchange → Rise → Type 0) (lines : Li
   pub lines_are : lines_of exchanges ≡ lines
   pub bytes_are : bytes ≡ written exchanges
 
--- the output is the replies to some of the lines in front, and of the replies to the line after them a
--- part, and the queries of the session that answered these lines read so much
+-- the output is the replies to some of the lines in front, and of the replies to the line after them
+-- a part, and the queries of the session that answered these lines read so much
 pub record IsRefused (Served : List Exchange → Rise → Type 0) (lines : List (List ℕ))
     (output : List ℕ) (rise : Rise) : Type 0 where
   pub answered : List Exchange

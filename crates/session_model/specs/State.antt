@@ -5,8 +5,8 @@ use Rattle.std.specs.Str.{bytes_eq}
 use Rattle.hamming_model.specs.Scan.{Ask}
 
 -- a query that was opened: its tag, the prefix of the history that it stands on, what it asks, the
--- layout that it pinned of each shard, how many of its hits were given, whether it was said that all
--- were, how many postings it has read on each shard, and whether it is closed
+-- layout that it pinned of each shard, how many of its hits were given, whether it was said that
+-- all were, how many postings it has read on each shard, and whether it is closed
 pub record Query : Type 0 where
   pub tag : List ℕ
   pub position : ℕ
@@ -55,8 +55,8 @@ replaced tag this (query ∷ queries) =
 abbrev pub open_queries : List Query → List Query
 open_queries queries = filter is_open queries
 
--- a session with this number that has seen so many entries, where the shards have these layouts, and
--- that has opened and built nothing
+-- a session with this number that has seen so many entries, where the shards have these layouts,
+-- and that has opened and built nothing
 abbrev pub new_session : ℕ → ℕ → List (List (List ℕ)) → State
 new_session who position layouts =
     record { who = who; position = position; queries = []; layouts = layouts; build = None }

@@ -1,5 +1,6 @@
 -- One line and its replies: what a session may answer, and what it then knows.
-use Rattle.std.specs.Prelude.{◌≡◌, ℕ, ◌⊎◌, List, [], ◌∷◌, length, Option, Some, None, Result, Ok, Err}
+use Rattle.std.specs.Prelude.{◌≡◌, ℕ, ◌⊎◌, List, [], ◌∷◌, length}
+use Rattle.std.specs.Prelude.{Option, Some, None, Result, Ok, Err}
 use Rattle.std.specs.List.{AllByRecursion}
 use Rattle.hamming_model.specs.History.{JournalEntry}
 use Rattle.hamming_model.specs.Layouts.{IsLayout}
@@ -20,8 +21,8 @@ abbrev pub asked_by : Config → List ℕ → Result (Option LineRequest) Bad
 asked_by config line = reading config line
 
 -- what is answered to what a line asks; `quit` isn't answered
-abbrev pub Answers
-    : Result (Option LineRequest) Bad → Config → List JournalEntry → State → Exchange → State → Type 0
+abbrev pub Answers : Result (Option LineRequest) Bad → Config → List JournalEntry → State → Exchange
+    → State → Type 0
 Answers (Err fault) config history s e t = Stays (reply.Bad fault ∷ []) s e t
 Answers (Ok None) config history s e t = Stays [] s e t
 Answers (Ok (Some (Add key code))) config history s e t =
@@ -46,7 +47,7 @@ pub record AreLayouts (config : Config) (layouts : List (List (List ℕ))) : Typ
   pub each : AllByRecursion (IsLayout config.bits) layouts
 
 -- one step of a session as it was asked to be, in a history
-pub record Step (config : Config) (history : List JournalEntry) (s : State) (e : Exchange) (t : State)
-    : Type 0 where
+pub record Step (config : Config) (history : List JournalEntry) (s : State) (e : Exchange)
+    (t : State) : Type 0 where
   pub layouts : AreLayouts config e.layouts
   pub answers : Answers (asked_by config e.line) config history s e t

@@ -19,7 +19,7 @@ use Rattle.shard_version.specs.Prefixes.{after_entries, prefix_of}
 use Rattle.shard_version.proofs.PartLemmas.{filter_short}
 use Rattle.shard_version.proofs.PlaceLemmas.{all_above, all_weaker, inserted_between, less_below}
 
-same_key : (a b : ℕ) → nat_cmp a b ≡ Equal → a ≡ b
+pub same_key : (a b : ℕ) → nat_cmp a b ≡ Equal → a ≡ b
 same_key a b e = go (nat_lt a b) (a == b) refl refl
   where
     go : (less same : Bool) → nat_lt a b ≡ less → (a == b) ≡ same → a ≡ b
@@ -27,7 +27,7 @@ same_key a b e = go (nat_lt a b) (a == b) refl refl
     go true false is_less is_same = absurd (let less : nat_cmp a b ≡ Less = rw is_less refl in cc)
     go false false is_less is_same = absurd (let above : nat_cmp a b ≡ Greater = rw (is_less, is_same) refl in cc)
 
-equal_key : (a b : ℕ) → is_eq (nat_cmp a b) ≡ true → nat_cmp a b ≡ Equal
+pub equal_key : (a b : ℕ) → is_eq (nat_cmp a b) ≡ true → nat_cmp a b ≡ Equal
 equal_key a b e = go (nat_cmp a b) e
   where
     go : (o : Ordering) → is_eq o ≡ true → o ≡ Equal
@@ -36,7 +36,7 @@ equal_key a b e = go (nat_cmp a b) e
     go Greater e = cc
 
 -- what is below all keys of rows is below those of one shard
-all_of_shard : (P : ℕ × List ℕ → Type 0) (test : ℕ × List ℕ → Bool) (rows : List (ℕ × List ℕ)) → AllByRecursion P rows → AllByRecursion P (filter test rows)
+pub all_of_shard : (P : ℕ × List ℕ → Type 0) (test : ℕ × List ℕ → Bool) (rows : List (ℕ × List ℕ)) → AllByRecursion P rows → AllByRecursion P (filter test rows)
 all_of_shard P test [] all = tt
 all_of_shard P test (row ∷ rows) all = go (test row) (all_of_shard P test rows all.1)
   where
@@ -44,12 +44,12 @@ all_of_shard P test (row ∷ rows) all = go (test row) (all_of_shard P test rows
     go true rest = (all.0, rest)
     go false rest = rest
 
-keys_above : (key low : ℕ) (rows : List (ℕ × List ℕ)) → key < low → AllByRecursion (λ other. low < other.0) rows → AllByRecursion (λ other. key < other.0) rows
+pub keys_above : (key low : ℕ) (rows : List (ℕ × List ℕ)) → key < low → AllByRecursion (λ other. low < other.0) rows → AllByRecursion (λ other. key < other.0) rows
 keys_above key low rows below all = all_weaker (λ other. low < other.0) (λ other. key < other.0) (λ other h. omega arith) rows all
 
 module _ (shard shards key : ℕ) where
   -- a row of the shard goes to its place among the shard's
-  own_inserted : (rows : List (ℕ × List ℕ)) (code : List ℕ) → (key % shards == shard) ≡ true → IsStrictlySortedBy nat_cmp (keys_of rows)
+  pub own_inserted : (rows : List (ℕ × List ℕ)) (code : List ℕ) → (key % shards == shard) ≡ true → IsStrictlySortedBy nat_cmp (keys_of rows)
       → shard_rows shard shards (insert_entry nat_cmp rows key code) ≡ insert_entry nat_cmp (shard_rows shard shards rows) key code
   unfolding IsStrictlySortedBy
   own_inserted [] code own up = rw own refl
@@ -80,7 +80,7 @@ module _ (shard shards key : ℕ) where
           ∙ sym (ap (λ keep. insert_entry nat_cmp (cond keep (row ∷ shard_rows shard shards rows) (shard_rows shard shards rows)) key code) k)
 
   -- a row of another shard changes none of the shard's
-  other_inserted : (rows : List (ℕ × List ℕ)) (code : List ℕ) → (key % shards == shard) ≡ false → shard_rows shard shards (insert_entry nat_cmp rows key code) ≡ shard_rows shard shards rows
+  pub other_inserted : (rows : List (ℕ × List ℕ)) (code : List ℕ) → (key % shards == shard) ≡ false → shard_rows shard shards (insert_entry nat_cmp rows key code) ≡ shard_rows shard shards rows
   other_inserted [] code other = rw other refl
   other_inserted (row ∷ rows) code other = go (nat_cmp key row.0) refl (other_inserted rows code other)
     where
@@ -94,7 +94,7 @@ module _ (shard shards key : ℕ) where
       go Greater e rest = ap (λ (more : List (ℕ × List ℕ)). cond (row.0 % shards == shard) (row ∷ more) more) rest
 
   -- a row of the shard is taken out of the shard's
-  own_removed : (rows : List (ℕ × List ℕ)) → (key % shards == shard) ≡ true
+  pub own_removed : (rows : List (ℕ × List ℕ)) → (key % shards == shard) ≡ true
       → shard_rows shard shards (remove_entry (is_at (nat_cmp key)) rows) ≡ remove_entry (is_at (nat_cmp key)) (shard_rows shard shards rows)
   own_removed [] own = refl
   own_removed (row ∷ rows) own = go (is_eq (nat_cmp key row.0)) (row.0 % shards == shard) refl refl (own_removed rows own)
@@ -117,7 +117,7 @@ module _ (shard shards key : ℕ) where
           ∙ sym (ap (λ keep. remove_entry (is_at (nat_cmp key)) (cond keep (row ∷ shard_rows shard shards rows) (shard_rows shard shards rows))) k)
 
   -- and one of another shard out of none
-  other_removed : (rows : List (ℕ × List ℕ)) → (key % shards == shard) ≡ false → shard_rows shard shards (remove_entry (is_at (nat_cmp key)) rows) ≡ shard_rows shard shards rows
+  pub other_removed : (rows : List (ℕ × List ℕ)) → (key % shards == shard) ≡ false → shard_rows shard shards (remove_entry (is_at (nat_cmp key)) rows) ≡ shard_rows shard shards rows
   other_removed [] other = refl
   other_removed (row ∷ rows) other = go (is_eq (nat_cmp key row.0)) refl (other_removed rows other)
     where
@@ -207,7 +207,7 @@ pub few_rows : (shard shards : ℕ) (history : List JournalEntry) → length (sh
 few_rows shard shards history = omega (arith, filter_short (λ (row : ℕ × List ℕ). row.0 % shards == shard) (rows_of history), few_from [] history)
 
 -- the shard's rows have the codes of its keys
-code_of_shard : (shard shards : ℕ) (rows : List (ℕ × List ℕ)) (key : ℕ) → key % shards ≡ shard → code_at (shard_rows shard shards rows) key ≡ code_at rows key
+pub code_of_shard : (shard shards : ℕ) (rows : List (ℕ × List ℕ)) (key : ℕ) → key % shards ≡ shard → code_at (shard_rows shard shards rows) key ≡ code_at rows key
 code_of_shard shard shards rows key own =
     lookup-filter-keys (is_at (nat_cmp key)) (λ other. other % shards == shard) true
     (λ other here. subst (λ (n : ℕ). (n % shards == shard) ≡ true) (same_key key other (equal_key key other here)) (eq-eqb (key % shards) shard own)) rows

@@ -355,18 +355,9 @@ kept_empty shard shards layout tables laid own few words room counts empty = rec
       subst (λ (table : PartTable _). IsPartTable (empty_of shard shards layout) part table) (sym (empty.each part other (omega arith))) (empty_part shard shards layout part counts));
 }
 
--- as many as there are, or so many
-take_few : {X : Type 0} (n number : ℕ) (xs : List X) → number ≡ min (length xs) n → take number xs ≡ take n xs
-take_few zero zero xs is = refl
-take_few zero (suc number) xs is = absurd (omega arith)
-take_few (suc n) zero [] is = refl
-take_few (suc n) (suc number) [] is = refl
-take_few (suc n) zero (x ∷ xs) is = absurd (omega arith)
-take_few (suc n) (suc number) (x ∷ xs) is = ap (λ more. x ∷ more) (take_few n number xs (omega arith))
-
 -- the first rows, once the zeros are left out
-pub first_taken : (bits n number : ℕ) (rows first : List (ℕ × List ℕ)) → first ≡ take number rows → number ≡ min (length rows) n → map (unpadded bits) first ≡ take n (map (unpadded bits) rows)
-first_taken bits n number rows first is few = ap (map (unpadded bits)) (is ∙ take_few n number rows few) ∙ sym (take-map (unpadded bits) n rows)
+pub first_taken : (bits n : ℕ) (rows first : List (ℕ × List ℕ)) → first ≡ take n rows → map (unpadded bits) first ≡ take n (map (unpadded bits) rows)
+first_taken bits n rows first is = ap (map (unpadded bits)) is ∙ sym (take-map (unpadded bits) n rows)
 
 -- the codes of the first rows are kept as those of all
 pub first_stored : (words bits number : ℕ) (rows first : List (ℕ × List ℕ)) → first ≡ take number rows → AreStored words bits rows → AreStored words bits first

@@ -3,4 +3,7 @@ mod SumLemmas
 mod PartLemmas
 mod HistoryLemmas
 mod KeptLemmas
+mod BucketLemmas
+mod SharedLemmas
+mod HeadLemmas
 mod EntryLemmas

@@ -233,7 +233,7 @@ module _ {W : ℕ} (version : Contents) (front back : List (ℕ × List ℕ)) (k
       left_codes v false e = subst (λ (list : List (ℕ × List ℕ)). AreStored W bits list) (sym (other_list v (eqb-false v value e))) (postings.codes v)
       left_codes v true e =
           let own : AreStored W bits (posting_list new value) =
-              all_left (λ entry. StandsFor W bits entry.1 (take bits entry.1)) (posting_list table value) (posting_list new value) (key, loses.code) loses.others_stay (postings.codes value) in
+          all_left (λ entry. StandsFor W bits entry.1 (take bits entry.1)) (posting_list table value) (posting_list new value) (key, loses.code) loses.others_stay (postings.codes value) in
           subst (λ (u : ℕ). AreStored W bits (posting_list new u)) (sym (eqb-true v value e)) own
 
       -- the posting lists without the row's entry are those of the rows without the row

@@ -202,3 +202,24 @@ pub stands_nowhere : (rows : List (ℕ × List ℕ)) (key place : ℕ) → IsPla
 stands_nowhere rows key place at past =
     let none : drop place rows ≡ [] = drop_all place rows past in
     rw (le-ltb place (length rows) past, code_split place rows key at.before, none) refl
+
+-- how many keys come before one
+abbrev pub place_in : List (ℕ × List ℕ) → ℕ → ℕ
+place_in [] key = 0
+place_in (row ∷ rows) key = cond (nat_lt row.0 key) (suc (place_in rows key)) 0
+
+-- is its place
+pub place_there : (rows : List (ℕ × List ℕ)) (key : ℕ) → IsStrictlySortedBy nat_cmp (keys_of rows) → IsPlace rows key (place_in rows key)
+unfolding IsStrictlySortedBy
+place_there [] key up = record { in_rows = omega arith; before = tt; after = tt }
+place_there (row ∷ rows) key up = go (nat_lt row.0 key) refl (place_there rows key up.1)
+  where
+    go : (less : Bool) → nat_lt row.0 key ≡ less → IsPlace rows key (place_in rows key) → IsPlace (row ∷ rows) key (cond less (suc (place_in rows key)) 0)
+    go true e rest = record {
+      in_rows = let within = rest.in_rows in omega arith;
+      before = (ltb-true row.0 key e, rest.before);
+      after = rest.after;
+    }
+    go false e rest =
+        let low = ltb-false row.0 key e in
+        record { in_rows = omega arith; before = tt; after = (low, all_weaker (λ other. row.0 < other.0) (λ other. key ≤ other.0) (λ other h. omega arith) rows (all_above row.0 rows up.0)) }

@@ -1,4 +1,5 @@
 pub mod Contents
 pub mod Kept
+pub mod KeptRows
 pub mod Prefixes
 pub mod Tables

@@ -2,10 +2,12 @@
 //! The tables agree with the one set of rows, and an entry changes all of them together.
 #![tactic(auto)]
 
+mod keyed_rows;
 mod laws;
 mod part_table;
 mod places;
 mod prepared;
+mod row_bucket;
 mod tables;
 mod version;
 

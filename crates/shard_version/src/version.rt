@@ -11,8 +11,8 @@ ghost use Rattle.shard_version.specs.Contents.{IsVersion, FitsShard, HasRoomFor,
 ghost use Rattle.shard_version.specs.Kept.{next_with, with_added, with_deleted};
 ghost use Rattle.shard_version.specs.Tables.{AreFirst, ArePostings, AreStored, HasTables, counts_of, table_at};
 
+use crate::keyed_rows::KeyedRows;
 use crate::part_table::PartTable;
-use crate::places::{place_of, stands_at};
 use crate::tables::{copies, empty_tables, insert_in_each, remove_from_each};
 use count_table::{Counts, changes_follow_a_list, counts_are_those_of_a_list};
 use entry_log::{Entry, Op};
@@ -33,8 +33,7 @@ pub struct Version<const W: usize> {
     at: u64,
     layout: Arc<Layout>,
     alloc: Global,
-    // keys ascend
-    rows: Vec<(u64, Code<W>)>,
+    rows: KeyedRows<W>,
     // one for each part of the layout
     tables: Vec<PartTable<W>>,
 }
@@ -48,9 +47,9 @@ impl<const W: usize> Model for Version<W> {
 
     ghost coded = { tabled_code };
 
-    ghost view = { λ kept. tabled_of (contents_of kept.shard kept.shards kept.at (arc_value kept.layout) kept.rows.items) kept.tables.items };
+    ghost view = { λ kept. tabled_of (contents_of kept.shard kept.shards kept.at (arc_value kept.layout) kept.rows) kept.tables.items };
 
-    ghost invariant = { λ kept. IsKept {W = W} (contents_of kept.shard kept.shards kept.at (arc_value kept.layout) kept.rows.items) kept.rows.items kept.tables.items };
+    ghost invariant = { λ kept. IsKept {W = W} (contents_of kept.shard kept.shards kept.at (arc_value kept.layout) kept.rows) kept.rows kept.tables.items };
 }
 
 impl<const W: usize> Version<W> {
@@ -74,18 +73,20 @@ impl<const W: usize> Version<W> {
         changes_follow_a_list();
         let parts = layout.parts();
         let tables = empty_tables(alloc, &layout, parts)?;
+        let rows = KeyedRows::new(alloc)?;
         Ok(Version {
             shard,
             shards,
             at: 0,
             layout,
             alloc,
-            rows: Vec::new(alloc),
+            rows,
             tables,
         })
     }
 
-    /// An equal version of its own: the tables are copied whole.
+    /// An equal version of its own: a change of either is none of the other. Takes time and memory for each
+    /// bucket of rows and of posting lists, and not for each row.
     ///
     /// # Errors
     ///
@@ -94,9 +95,7 @@ impl<const W: usize> Version<W> {
         ensures { IfOk result (λ version. version ≡ self.now) }
     {
         let tables = copies(self.alloc, &self.tables)?;
-        let Ok(rows) = Vec::from_slice(self.alloc, self.rows.as_slice()) else {
-            return Err(NoMemory);
-        };
+        let rows = self.rows.copy()?;
         let Ok(layout) = self.layout.clone() else {
             return Err(NoMemory);
         };
@@ -159,11 +158,8 @@ impl<const W: usize> Version<W> {
     {
         changes_follow_a_list();
         counts_are_those_of_a_list();
-        let place = place_of(&self.rows, key);
         insert_in_each(&mut self.tables, &self.layout, key, code)?;
-        let Ok(()) = self.rows.insert(place, (key, code)) else {
-            return Err(NoMemory);
-        };
+        self.rows.insert(key, code)?;
         self.at += 1;
         Ok(self)
     }
@@ -175,10 +171,8 @@ impl<const W: usize> Version<W> {
         ensures { IfOk result (λ version. version.contents ≡ with_deleted self.entry.contents key) }
     {
         changes_follow_a_list();
-        let place = place_of(&self.rows, key);
-        let code = self.rows[place].1;
+        let code = self.rows.remove(key)?;
         remove_from_each(&mut self.tables, &self.layout, key, &code)?;
-        self.rows.remove(place);
         self.at += 1;
         Ok(self)
     }
@@ -217,7 +211,7 @@ impl<const W: usize> Version<W> {
     pub fn has_key(&self, key: u64) -> bool
         ensures { result ≡ is_some (code_at self.now.contents.rows key) }
     {
-        stands_at(&self.rows, place_of(&self.rows, key), key)
+        self.rows.has_key(key)
     }
 
     /// The layout.
@@ -262,16 +256,6 @@ impl<const W: usize> Version<W> {
         ensures steps { OnOk result (steps.new ≡ steps.old + min n (length self.now.contents.rows)) }
         ensures unread { OnErr result (steps.new ≡ steps.old) }
     {
-        let number = self.rows.len().min(n as usize);
-        let Ok(mut first) = Vec::with_capacity(self.alloc, number) else {
-            return Err(NoMemory);
-        };
-        for i in 0..number {
-            steps.tick();
-            let Ok(()) = first.push(self.rows[i]) else {
-                unreachable!();
-            };
-        }
-        Ok(first)
+        self.rows.first(n, steps)
     }
 }

@@ -8,12 +8,26 @@ use Rattle.gph_session.proofs.costing.cost.Goals as goal
 pub returns-in-Some : goal.returns-in-Some
 returns-in-Some g c =
     let before = c.index_mut.result.now in
-    let at = subst (λ cursors. IsFirstAt cursors c.args.tag.now c.in-Some.place) c.deref.ensures.value c.in-Some.ensures in
-    let after : OpenQuery g.row.W = record { tag = before.tag; task = c.bound-bound.new.self; given = before.given; done = before.done } in
+    let at = subst (λ cursors. IsFirstAt cursors c.args.tag.now c.in-Some.place)
+    c.deref.ensures.value c.in-Some.ensures in
+    let after : OpenQuery g.row.W = record {
+      tag = before.tag;
+      task = c.bound-bound.new.self;
+      given = before.given;
+      done = before.done;
+    } in
     inr (
       before,
       after,
-      changes_at c.args.queries.now.items c.args.tag.now c.in-Some.place before after at (search rules),
-      record { tag = refl; given = refl; done = refl; asked = c.bound-bound.ensures.asked; standing = c.bound-bound.ensures.standing },
-      ap (λ n. reply.Cost c.args.tag.now n c.bound-bound.result) c.reads-reads.ensures ∙ ap (reply.Cost c.args.tag.now (standing_of before).reads) c.bound-bound.ensures.bound,
+      changes_at c.args.queries.now.items c.args.tag.now c.in-Some.place before after at
+          (search rules),
+      record {
+        tag = refl;
+        given = refl;
+        done = refl;
+        asked = c.bound-bound.ensures.asked;
+        standing = c.bound-bound.ensures.standing;
+      },
+      ap (λ n. reply.Cost c.args.tag.now n c.bound-bound.result) c.reads-reads.ensures
+          ∙ ap (reply.Cost c.args.tag.now (standing_of before).reads) c.bound-bound.ensures.bound,
     )

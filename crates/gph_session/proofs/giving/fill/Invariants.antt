@@ -7,7 +7,8 @@ abbrev pub invariant-loop-source : goal.invariant-loop-source
 invariant-loop-source g l = record {
   asked : g.H.HitSource.asked l.source ≡ g.H.HitSource.asked l.fn.source;
   given : (g.H.HitSource.standing l.source).given ≡ (g.H.HitSource.standing l.fn.source).given;
-  reads : PollsOn (g.H.HitSource.asked l.fn.source) (g.H.HitSource.standing l.fn.source) (g.H.HitSource.standing l.source) l.fn.steps l.steps;
+  reads : PollsOn (g.H.HitSource.asked l.fn.source) (g.H.HitSource.standing l.fn.source)
+      (g.H.HitSource.standing l.source) l.fn.steps l.steps;
 }
 
 abbrev pub decreases-loop-source : goal.decreases-loop-source

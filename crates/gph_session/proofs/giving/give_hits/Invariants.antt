@@ -10,11 +10,15 @@ abbrev pub invariant-loop-given : goal.invariant-loop-given
 invariant-loop-given g l = record {
   few : l.given ≤ l.count;
   asked : g.H.HitSource.asked l.source ≡ g.H.HitSource.asked l.fn.source;
-  reads : PollsOn (g.H.HitSource.asked l.fn.source) (g.H.HitSource.standing l.fn.source) (g.H.HitSource.standing l.source) l.fn.steps l.steps;
-  number : (g.H.HitSource.standing l.source).given ≡ (g.H.HitSource.standing l.fn.source).given + l.given;
+  reads : PollsOn (g.H.HitSource.asked l.fn.source) (g.H.HitSource.standing l.fn.source)
+      (g.H.HitSource.standing l.source) l.fn.steps l.steps;
+  number : (g.H.HitSource.standing l.source).given ≡
+      (g.H.HitSource.standing l.fn.source).given + l.given;
   filled : 1 ≤ (g.H.HitSource.asked l.fn.source).room → IsFilled (g.H.HitSource.standing l.source);
   given : Appends (g.K.Sink.held l.fn.sink) (g.K.Sink.held l.sink)
-      (text (hit_replies l.tag (take l.given (drop (g.H.HitSource.standing l.fn.source).given (g.H.HitSource.asked l.fn.source).hits))));
+      (text (hit_replies l.tag (take l.given
+      (drop (g.H.HitSource.standing l.fn.source).given
+      (g.H.HitSource.asked l.fn.source).hits))));
   steady : g.K.Sink.faults l.sink ≡ g.K.Sink.faults l.fn.sink;
 }
 

@@ -12,11 +12,15 @@ loop-done-preserved g c =
     let piece = c.args.piece.now in
     let done = c.loop-done.done in
     let taken = c.in-Ok.taken in
-    let rest : take (length piece - done) (drop done piece) ≡ drop done piece = take_rest piece done in
-    let told = subst (λ l. Appends (held c.loop-done.sink) (held c.write.new.self) (take taken l)) rest c.in-Ok.ensures.bytes in
+    let rest : take (length piece - done)
+    (drop done piece) ≡ drop done piece = take_rest piece done in
+    let told = subst (λ l. Appends (held c.loop-done.sink) (held c.write.new.self)
+    (take taken l)) rest c.in-Ok.ensures.bytes in
     record {
       within = search rules;
-      taken = subst (λ l. Appends (held c.args.sink.now) (held c.write.new.self) l) (sym (take-add done taken piece))
-          (Appends-trans (held c.args.sink.now) (held c.loop-done.sink) (held c.write.new.self) (take done piece) (take taken (drop done piece)) c.loop-done.invariant.taken told);
+      taken = subst (λ l. Appends (held c.args.sink.now) (held c.write.new.self) l)
+          (sym (take-add done taken piece))
+          (Appends-trans (held c.args.sink.now) (held c.loop-done.sink) (held c.write.new.self)
+          (take done piece) (take taken (drop done piece)) c.loop-done.invariant.taken told);
       steady = c.in-Ok.ensures.steady ∙ c.loop-done.invariant.steady;
     }

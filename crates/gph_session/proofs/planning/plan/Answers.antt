@@ -1,4 +1,5 @@
-use Rattle.std.proofs.Common.{◌≡◌, min, length, take, None, refl, ap, ◌∙◌, inl, inr, subst, arith, rules}
+use Rattle.std.proofs.Common.{◌≡◌, min, length, take, None, refl, ap, ◌∙◌, inl, inr, subst, arith}
+use Rattle.std.proofs.Common.{rules}
 use Rattle.std.proofs.lemmas.List.{take_min}
 use Rattle.query_protocol.specs.Replies as reply
 use Rattle.query_protocol.specs.Replies.{reply_line}
@@ -14,22 +15,39 @@ returns-in-None g c = (reply.Bad (bad 8), inl (search rules, search rules, refl)
 pub returns-in-Some : goal.returns-in-Some
 returns-in-Some g c =
     let before = c.index_mut.result.now in
-    let at = subst (λ cursors. IsFirstAt cursors c.args.tag.now c.in-Some.place) c.deref.ensures.value c.in-Some.ensures in
-    let after : OpenQuery g.row.W = record { tag = before.tag; task = c.plan-cost.new.self; given = before.given; done = before.done } in
+    let at = subst (λ cursors. IsFirstAt cursors c.args.tag.now c.in-Some.place)
+    c.deref.ensures.value c.in-Some.ensures in
+    let after : OpenQuery g.row.W = record {
+      tag = before.tag;
+      task = c.plan-cost.new.self;
+      given =
+          before.given;
+      done = before.done;
+    } in
     let listed = c.thresholds-thresholds.result.now in
     let vector = c.thresholds-thresholds.ensures ∙ c.plan-cost.ensures.vector in
-    let number : c.min-number.result ≡ min 64 (length listed) = omega (arith, c.min-number.ensures) in
+    let number : c.min-number.result ≡ min 64 (length listed) = omega
+    (arith, c.min-number.ensures) in
     let first : take c.min-number.result listed ≡ take 64 ((asked_of before).plan None).0 =
     ap (λ n. take n listed) number ∙ take_min 64 listed ∙ ap (take 64) vector in
     let told =
-    ap (λ n. reply.Plan c.args.tag.now c.args.shard n (take c.min-number.result listed)) c.plan-cost.ensures.cost
+    ap (λ n. reply.Plan c.args.tag.now c.args.shard n
+    (take c.min-number.result listed)) c.plan-cost.ensures.cost
     ∙ ap (reply.Plan c.args.tag.now c.args.shard ((asked_of before).plan None).1) first in (
-      reply.Plan c.args.tag.now c.args.shard ((asked_of before).plan None).1 (take 64 ((asked_of before).plan None).0),
+      reply.Plan c.args.tag.now c.args.shard ((asked_of before).plan None).1
+          (take 64 ((asked_of before).plan None).0),
       inr (
         before,
         after,
-        changes_at c.args.queries.now.items c.args.tag.now c.in-Some.place before after at (search rules),
-        record { tag = refl; given = refl; done = refl; asked = c.plan-cost.ensures.asked; standing = c.plan-cost.ensures.standing },
+        changes_at c.args.queries.now.items c.args.tag.now c.in-Some.place before after at
+            (search rules),
+        record {
+          tag = refl;
+          given = refl;
+          done = refl;
+          asked = c.plan-cost.ensures.asked;
+          standing = c.plan-cost.ensures.standing;
+        },
         refl,
       ),
       c.write_plan.ensures ∙ ap (λ line. reply_line line) told,

@@ -1,26 +1,31 @@
 -- How a session goes on after a read, and how it ends.
 use Rattle.std.proofs.Common.{◌≡◌, ◌≢◌, ◌+◌, ◌++◌, ◌<◌, ◌≤◌, [], length, take, drop, get_or}
-use Rattle.std.proofs.Common.{sym, ap, ◌∙◌, subst, arith, rules}
+use Rattle.std.proofs.Common.{ap, ◌∙◌, subst, arith, rules}
 use Rattle.std.specs.Io.KnownBytes.{Consumes}
-use Rattle.std.proofs.lemmas.List.{take-append-le}
 use Rattle.session_model.specs.declared.limits.TheConstants.{BLOCK_MOST}
 use Rattle.session_model.specs.Outcomes.{ends}
 use Rattle.gph_session.specs.Serving.{Serves}
-use Rattle.gph_session.proofs.ServeLemmas.{take_one, read_fault, limit_reached, done_at_end}
-use Rattle.gph_session.proofs.ServeLemmas.{refused_at_end, serves_more, done_by_quit, refused_in_block}
+use Rattle.gph_session.proofs.ServeLemmas.{take_one, has_read, length_read, read_fault}
+use Rattle.gph_session.proofs.ServeLemmas.{limit_reached, done_at_end, refused_at_end}
+use Rattle.gph_session.proofs.ServeLemmas.{serves_more, done_by_quit, refused_in_block}
 use Rattle.gph_session.proofs.serve.serve.Goals as goal
 
 pub returns-in-Err : goal.returns-in-Err
 returns-in-Err g c =
     let i = c.loop-session.invariant in
-    let source = ends (g.S.Source.left c.read.new.self) (g.S.Source.faults c.read.new.self) in
-    read_fault c.args.session.now c.loop-session.session c.requires.ready.alone i.config i.serves source
-    c.in-Err.ensures.bytes c.in-Err.ensures.cause.failed
+    let left = g.S.Source.left in
+    let source0 = ends (left c.args.source.now) (g.S.Source.faults c.args.source.now) in
+    let sink0 = ends (g.K.Sink.held c.args.sink.now) (g.K.Sink.faults c.args.sink.now) in
+    let source = ends (left c.read.new.self) (g.S.Source.faults c.read.new.self) in
+    read_fault c.args.session.now c.loop-session.session source0 sink0 c.requires.ready.alone i.config i.serves
+    source c.in-Err.ensures.bytes c.in-Err.ensures.cause.failed
 
 pub returns-in-Ok-answer_end : goal.returns-in-Ok-answer_end
 returns-in-Ok-answer_end g c =
     let i = c.loop-session.invariant in
     let left = g.S.Source.left in
+    let source0 = ends (left c.args.source.now) (g.S.Source.faults c.args.source.now) in
+    let sink0 = ends (g.K.Sink.held c.args.sink.now) (g.K.Sink.faults c.args.sink.now) in
     let source = ends (left c.read.new.self) (g.S.Source.faults c.read.new.self) in
     let sink = ends (g.K.Sink.held c.answer_end.new.sink) (g.K.Sink.faults c.answer_end.new.sink) in
     let size : length c.read.new.room ≡ c.clamp-room.result = search rules in
@@ -29,14 +34,17 @@ returns-in-Ok-answer_end g c =
     let none : Consumes (left c.loop-session.source) (left c.read.new.self) [] =
     subst (λ n. Consumes (left c.loop-session.source) (left c.read.new.self) (take n c.read.new.room))
     zero c.in-Ok-eq0.ensures.bytes.0 in
-    done_at_end c.args.session.now c.loop-session.session c.requires.ready.alone i.config i.serves source
-    sink c.answer_end.new.steps c.in-Ok-eq0.ensures.steady none (c.in-Ok-eq0.ensures.bytes.1 zero room)
-    c.answer_end.result c.answer_end.ensures.flow _ c.in-Ok-answer_end.is c.in-Ok-answer_end.ensures.cause
+    done_at_end c.args.session.now c.loop-session.session source0 sink0 c.requires.ready.alone i.config i.serves
+    source sink c.answer_end.new.steps c.in-Ok-eq0.ensures.steady none
+    (c.in-Ok-eq0.ensures.bytes.1 zero room) c.answer_end.result c.answer_end.ensures.flow _
+    c.in-Ok-answer_end.is c.in-Ok-answer_end.ensures.cause
 
 pub returns-in-Err-answer_end : goal.returns-in-Err-answer_end
 returns-in-Err-answer_end g c =
     let i = c.loop-session.invariant in
     let left = g.S.Source.left in
+    let source0 = ends (left c.args.source.now) (g.S.Source.faults c.args.source.now) in
+    let sink0 = ends (g.K.Sink.held c.args.sink.now) (g.K.Sink.faults c.args.sink.now) in
     let source = ends (left c.read.new.self) (g.S.Source.faults c.read.new.self) in
     let sink = ends (g.K.Sink.held c.answer_end.new.sink) (g.K.Sink.faults c.answer_end.new.sink) in
     let size : length c.read.new.room ≡ c.clamp-room.result = search rules in
@@ -45,15 +53,17 @@ returns-in-Err-answer_end g c =
     let none : Consumes (left c.loop-session.source) (left c.read.new.self) [] =
     subst (λ n. Consumes (left c.loop-session.source) (left c.read.new.self) (take n c.read.new.room))
     zero c.in-Ok-eq0.ensures.bytes.0 in
-    refused_at_end c.args.session.now c.loop-session.session c.requires.ready.alone i.config i.serves source
-    sink c.answer_end.new.steps c.in-Ok-eq0.ensures.steady none (c.in-Ok-eq0.ensures.bytes.1 zero room)
-    c.answer_end.result c.answer_end.ensures.flow _ c.in-Err-answer_end.is
-    c.in-Err-answer_end.ensures.cause.1
+    refused_at_end c.args.session.now c.loop-session.session source0 sink0 c.requires.ready.alone i.config i.serves
+    source sink c.answer_end.new.steps c.in-Ok-eq0.ensures.steady none
+    (c.in-Ok-eq0.ensures.bytes.1 zero room) c.answer_end.result c.answer_end.ensures.flow _
+    c.in-Err-answer_end.is c.in-Err-answer_end.ensures.cause.1
 
 pub returns-then-taken-limit : goal.returns-then-taken-limit
 returns-then-taken-limit g c =
     let i = c.loop-session.invariant in
     let left = g.S.Source.left in
+    let source0 = ends (left c.args.source.now) (g.S.Source.faults c.args.source.now) in
+    let sink0 = ends (g.K.Sink.held c.args.sink.now) (g.K.Sink.faults c.args.sink.now) in
     let source = ends (left c.read.new.self) (g.S.Source.faults c.read.new.self) in
     let size : length c.read.new.room ≡ c.clamp-room.result = search rules in
     let some : c.in-Ok.count ≢ 0 = c.in-Ok.count-test.1 in
@@ -63,8 +73,8 @@ returns-then-taken-limit g c =
     let room : 0 < length c.read.new.room = omega (arith, size, c.clamp-room.ensures) in
     let read = subst (Consumes (left c.loop-session.source) (left c.read.new.self))
     (ap (λ n. take n c.read.new.room) one ∙ take_one c.read.new.room room) c.in-Ok.ensures.bytes.0 in
-    limit_reached c.args.session.now c.loop-session.session c.requires.ready.alone i.config i.serves source
-    (get_or c.read.new.room 0 0) read c.in-Ok.ensures.steady full
+    limit_reached c.args.session.now c.loop-session.session source0 sink0 c.requires.ready.alone i.config i.serves
+    source (get_or c.read.new.room 0 0) read c.in-Ok.ensures.steady full
 
 pub loop-session-preserved : goal.loop-session-preserved
 loop-session-preserved g c =
@@ -75,72 +85,64 @@ loop-session-preserved g c =
     let source = ends (left c.read.new.self) (g.S.Source.faults c.read.new.self) in
     let sink = ends (g.K.Sink.held c.answer_block.new.sink) (g.K.Sink.faults c.answer_block.new.sink) in
     let size : length c.read.new.room ≡ c.clamp-room.result = search rules in
-    let count = c.in-Ok.count in
     let rest = drop c.clamp-room.result c.loop-session.block in
-    let piece = take count (c.read.new.room ++ rest) in
-    let same : piece ≡ take count c.read.new.room =
-    take-append-le count c.read.new.room rest c.in-Ok.ensures.bound.0 in
-    let long : length piece ≡ count = ap length same ∙ sym c.in-Ok.ensures.bound.1 in
-    let read = subst (Consumes (left c.loop-session.source) (left c.read.new.self)) (sym same)
+    let within = c.in-Ok.ensures.bound.0 in
+    let few : length c.read.new.room ≤ BLOCK_MOST = omega (arith, size, c.clamp-room.ensures) in
+    let fits : c.loop-session.taken + length c.read.new.room ≤ c.args.session.now.config.input =
+    omega (arith, size, c.clamp-room.ensures, i.serves.few) in
+    let read = has_read (left c.loop-session.source) (left c.read.new.self) c.loop-session.taken
+    c.args.session.now.config.input c.in-Ok.count c.read.new.room rest within few fits
     c.in-Ok.ensures.bytes.0 in
-    let few : length piece ≤ BLOCK_MOST =
-    omega (arith, size, long, c.clamp-room.ensures, c.in-Ok.ensures.bound.0) in
-    let fits : c.loop-session.taken + length piece ≤ c.args.session.now.config.input =
-    omega (arith, size, long, c.clamp-room.ensures, c.in-Ok.ensures.bound.0, i.serves.few) in
-    let next = serves_more c.args.session.now c.loop-session.session c.requires.ready.alone i.config i.serves
-    source sink c.answer_block.new.steps c.in-Ok.ensures.steady piece read fits few
-    c.answer_block.new.session c.answer_block.result c.answer_block.ensures.flow (search rules)
-    (search rules) in
+    let next = serves_more c.args.session.now c.loop-session.session source0 sink0 c.requires.ready.alone i.config i.serves
+    source sink c.answer_block.new.steps c.in-Ok.ensures.steady _ read c.answer_block.new.session
+    c.answer_block.result c.answer_block.ensures.flow (search rules) (search rules) in
     record {
       config = c.answer_block.ensures.config ∙ i.config;
       ready = c.answer_block.ensures.ready;
-      serves = subst (λ n. Serves c.args.session.now.config c.answer_block.new.session n source0 source sink0
-          sink c.args.steps.now c.answer_block.new.steps) (ap (λ n. c.loop-session.taken + n) long) next;
+      serves = subst (λ n. Serves c.args.session.now.config c.answer_block.new.session n source0 source
+          sink0 sink c.args.steps.now c.answer_block.new.steps)
+          (ap (λ n. c.loop-session.taken + n) (length_read c.in-Ok.count c.read.new.room rest within)) next;
     }
 
 pub returns-in-Ok-Quits : goal.returns-in-Ok-Quits
 returns-in-Ok-Quits g c =
     let i = c.loop-session.invariant in
     let left = g.S.Source.left in
+    let source0 = ends (left c.args.source.now) (g.S.Source.faults c.args.source.now) in
+    let sink0 = ends (g.K.Sink.held c.args.sink.now) (g.K.Sink.faults c.args.sink.now) in
     let source = ends (left c.read.new.self) (g.S.Source.faults c.read.new.self) in
     let sink = ends (g.K.Sink.held c.answer_block.new.sink) (g.K.Sink.faults c.answer_block.new.sink) in
     let size : length c.read.new.room ≡ c.clamp-room.result = search rules in
-    let count = c.in-Ok.count in
     let rest = drop c.clamp-room.result c.loop-session.block in
-    let piece = take count (c.read.new.room ++ rest) in
-    let same : piece ≡ take count c.read.new.room =
-    take-append-le count c.read.new.room rest c.in-Ok.ensures.bound.0 in
-    let long : length piece ≡ count = ap length same ∙ sym c.in-Ok.ensures.bound.1 in
-    let read = subst (Consumes (left c.loop-session.source) (left c.read.new.self)) (sym same)
+    let within = c.in-Ok.ensures.bound.0 in
+    let few : length c.read.new.room ≤ BLOCK_MOST = omega (arith, size, c.clamp-room.ensures) in
+    let fits : c.loop-session.taken + length c.read.new.room ≤ c.args.session.now.config.input =
+    omega (arith, size, c.clamp-room.ensures, i.serves.few) in
+    let read = has_read (left c.loop-session.source) (left c.read.new.self) c.loop-session.taken
+    c.args.session.now.config.input c.in-Ok.count c.read.new.room rest within few fits
     c.in-Ok.ensures.bytes.0 in
-    let few : length piece ≤ BLOCK_MOST =
-    omega (arith, size, long, c.clamp-room.ensures, c.in-Ok.ensures.bound.0) in
-    let fits : c.loop-session.taken + length piece ≤ c.args.session.now.config.input =
-    omega (arith, size, long, c.clamp-room.ensures, c.in-Ok.ensures.bound.0, i.serves.few) in
-    done_by_quit c.args.session.now c.loop-session.session c.requires.ready.alone i.config i.serves source
-    sink c.answer_block.new.steps c.in-Ok.ensures.steady piece read fits few c.answer_block.new.session
+    done_by_quit c.args.session.now c.loop-session.session source0 sink0 c.requires.ready.alone i.config i.serves
+    source sink c.answer_block.new.steps c.in-Ok.ensures.steady _ read c.answer_block.new.session
     c.answer_block.result c.answer_block.ensures.flow (search rules) (search rules)
 
 pub returns-in-Err-answer_block : goal.returns-in-Err-answer_block
 returns-in-Err-answer_block g c =
     let i = c.loop-session.invariant in
     let left = g.S.Source.left in
+    let source0 = ends (left c.args.source.now) (g.S.Source.faults c.args.source.now) in
+    let sink0 = ends (g.K.Sink.held c.args.sink.now) (g.K.Sink.faults c.args.sink.now) in
     let source = ends (left c.read.new.self) (g.S.Source.faults c.read.new.self) in
     let sink = ends (g.K.Sink.held c.answer_block.new.sink) (g.K.Sink.faults c.answer_block.new.sink) in
     let size : length c.read.new.room ≡ c.clamp-room.result = search rules in
-    let count = c.in-Ok.count in
     let rest = drop c.clamp-room.result c.loop-session.block in
-    let piece = take count (c.read.new.room ++ rest) in
-    let same : piece ≡ take count c.read.new.room =
-    take-append-le count c.read.new.room rest c.in-Ok.ensures.bound.0 in
-    let long : length piece ≡ count = ap length same ∙ sym c.in-Ok.ensures.bound.1 in
-    let read = subst (Consumes (left c.loop-session.source) (left c.read.new.self)) (sym same)
+    let within = c.in-Ok.ensures.bound.0 in
+    let few : length c.read.new.room ≤ BLOCK_MOST = omega (arith, size, c.clamp-room.ensures) in
+    let fits : c.loop-session.taken + length c.read.new.room ≤ c.args.session.now.config.input =
+    omega (arith, size, c.clamp-room.ensures, i.serves.few) in
+    let read = has_read (left c.loop-session.source) (left c.read.new.self) c.loop-session.taken
+    c.args.session.now.config.input c.in-Ok.count c.read.new.room rest within few fits
     c.in-Ok.ensures.bytes.0 in
-    let few : length piece ≤ BLOCK_MOST =
-    omega (arith, size, long, c.clamp-room.ensures, c.in-Ok.ensures.bound.0) in
-    let fits : c.loop-session.taken + length piece ≤ c.args.session.now.config.input =
-    omega (arith, size, long, c.clamp-room.ensures, c.in-Ok.ensures.bound.0, i.serves.few) in
-    refused_in_block c.args.session.now c.loop-session.session c.requires.ready.alone i.config i.serves source
-    sink c.answer_block.new.steps c.in-Ok.ensures.steady piece read fits few c.answer_block.new.session
+    refused_in_block c.args.session.now c.loop-session.session source0 sink0 c.requires.ready.alone i.config i.serves
+    source sink c.answer_block.new.steps c.in-Ok.ensures.steady _ read c.answer_block.new.session
     c.answer_block.result c.answer_block.ensures.flow _ c.in-Err-answer_block.is
     c.in-Err-answer_block.ensures.cause.1

@@ -5,9 +5,10 @@ use Rattle.std.proofs.KnownBytes.{Appends-nil}
 use Rattle.query_protocol.specs.Requests.{unstored, IsFit}
 use Rattle.query_protocol.specs.Replies.{reply_line, line_of}
 use Rattle.query_protocol.specs.Replies as reply
+use Rattle.gph_session.specs.Meaning.{contents_in}
 use Rattle.gph_session.specs.Writing.{Writes}
 use Rattle.gph_session.proofs.Here.{here_of}
-use Rattle.gph_session.proofs.AddLemmas.{add_turn}
+use Rattle.gph_session.proofs.AddLemmas.{add_turn, ready_added}
 use Rattle.gph_session.proofs.RangeLemmas.{range_turn}
 use Rattle.gph_session.proofs.NextLemmas.{next_turn}
 use Rattle.gph_session.proofs.AskLemmas.{cost_turn, plan_turn, layout_turn, quit_turn}
@@ -23,6 +24,12 @@ returns-in-Add-clause-answers g c = λ line asked history s means.
     c.add-adding.result (arc_value c.add-adding.new.version).contents c.add-adding.ensures c.say.ensures.goes
     (subst (λ r. Writes (g.K.Sink.held c.args.sink.now) (g.K.Sink.held c.say.new.sink) c.say.result
     (reply_line r)) c.reply.ensures c.say.ensures.written)
+
+pub returns-in-Add-clause-ready : goal.returns-in-Add-clause-ready
+returns-in-Add-clause-ready g c =
+    let now = c.args.session.now in
+    ready_added g.row.W now.config (contents_in now) (arc_value c.add-adding.new.version).contents
+    now.config.entries c.in-Add.key c.in-Add.code c.add-adding.result c.add-adding.ensures c.requires.ready
 
 pub returns-in-Range-clause-answers : goal.returns-in-Range-clause-answers
 returns-in-Range-clause-answers g c = λ line asked history s means.

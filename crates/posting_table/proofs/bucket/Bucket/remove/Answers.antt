@@ -1,6 +1,4 @@
-use Rattle.std.proofs.Common.{◌≡◌, [], ap, subst, get_or, set, map}
-use Rattle.std.specs.List.{swap_remove}
-use Rattle.posting_table.specs.Shared.{LosesAt}
+use Rattle.std.proofs.Common.{[]}
 use Rattle.posting_table.proofs.BucketLemmas.{items_of, only_one_changed, seen_at, seen_changed}
 use Rattle.posting_table.proofs.PostingsLemmas.{loses_at}
 use Rattle.posting_table.proofs.bucket.Bucket.remove.Goals as goal

@@ -1,4 +1,4 @@
-use Rattle.std.proofs.Common.{rules, ◌≡◌, ◌<◌, [], ap, arith, length, subst, ◌∙◌, get_or, List, ℕ}
+use Rattle.std.proofs.Common.{rules, ap, arith, length, ◌∙◌, get_or, List, ℕ}
 use Rattle.posting_table.proofs.PostingsLemmas.{IsBucketOf, in_own, list_lent}
 use Rattle.posting_table.proofs.postings.Postings.entry.Goals as goal
 

@@ -1,6 +1,4 @@
-use Rattle.std.proofs.Common.{◌≡◌, ◌/◌, ◌≤◌, ◌∙◌, [], ap, arith, get_or, length, List, ℕ}
-use Rattle.std.specs.Arc.{arc_value}
-use Rattle.posting_table.specs.Tables.{posting_list}
+use Rattle.std.proofs.Common.{◌∙◌, ap, arith, length}
 use Rattle.posting_table.proofs.PostingsLemmas.{IsBucketOf, in_own, list_lent, own_list, own_short}
 use Rattle.posting_table.proofs.postings.Postings.len.Goals as goal
 

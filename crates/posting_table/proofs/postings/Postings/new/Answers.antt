@@ -1,4 +1,4 @@
-use Rattle.std.proofs.Common.{◌≡◌, min, arith}
+use Rattle.std.proofs.Common.{arith}
 use Rattle.std.proofs.lemmas.Nat.{one_shl}
 use Rattle.posting_table.proofs.PostingsLemmas.{kept_none, none_of}
 use Rattle.posting_table.proofs.postings.Postings.new.Goals as goal

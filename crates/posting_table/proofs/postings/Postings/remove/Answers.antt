@@ -1,4 +1,4 @@
-use Rattle.std.proofs.Common.{◌≡◌, ◌/◌, ◌≤◌, [], ap, sym, arith, get_or, length, List, ℕ}
+use Rattle.std.proofs.Common.{◌/◌, [], ap, sym, arith, get_or, length}
 use Rattle.std.specs.Arc.{arc_value}
 use Rattle.posting_table.specs.Tables.{Loses, key_at, posting_list}
 use Rattle.posting_table.proofs.PostingsLemmas.{IsBucketOf, has_key-at, in_own, kept_changed, kept_same, list_lent, list_told, loses_one, only_list_changed, own_list, own_short, table_same}

@@ -6,4 +6,4 @@ use Rattle.shard_version.proofs.version.Version.layout.Goals as goal
 
 pub returns-clause-tables : goal.returns-clause-tables
 returns-clause-tables g c =
-    subst (λ (version : Tabled). HasTables g.row.W version) c.self.view_is (kept_tables _ c.self.inside.rows.items c.self.inside.tables.items c.self.invariant)
+    subst (λ (version : Tabled). HasTables g.row.W version) c.self.view_is (kept_tables _ c.self.inside.rows c.self.inside.tables.items c.self.invariant)
