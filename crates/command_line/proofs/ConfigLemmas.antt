@@ -4,9 +4,9 @@ use Rattle.std.proofs.lemmas.Bool.{le-leb}
 use Rattle.part_layout.specs.Contiguous.{CanBeCut}
 use Rattle.part_layout.specs.Ranges.{IsConfig}
 use Rattle.command_line.specs.CommandWords.{config}
-use Rattle.command_line.specs.GivenValues.{entry_number_or, IsNumberOf, IsEntryOf}
+use Rattle.command_line.specs.Kept.{entry_number_or, IsNumberOf, IsEntryOf}
 use Rattle.command_line.specs.declared.command_option.CommandOption.TheVariants.{Bits, Input}
-use Rattle.command_line.specs.declared.given.Entry.{Entry}
+use Rattle.command_line.specs.declared.given.GivenNumber.{GivenNumber}
 
 -- a number that is there, or its default
 number_has : (P : ℕ → Type 0) (default : ℕ) (number : Option ℕ) → IfSome number P → P default → P (unwrap_or number default)
@@ -14,16 +14,16 @@ number_has P default None held base = base
 number_has P default (Some number) held base = held
 
 -- the number of an entry, or its default
-entry_has : (P : ℕ → Type 0) (default : ℕ) (entry : Option Entry) → IfSome entry (λ kept. IfSome kept.number P) → P default → P (entry_number_or default entry)
+entry_has : (P : ℕ → Type 0) (default : ℕ) (entry : Option GivenNumber) → IfSome entry (λ kept. IfSome kept.number P) → P default → P (entry_number_or default entry)
 entry_has P default None held base = base
 entry_has P default (Some kept) held base = number_has P default kept.number held base
 
 -- the number of bits
-pub bits_of : (bits : ℕ) (entry : Option Entry) → IsEntryOf Bits entry → bits ≡ entry_number_or 64 entry → IsNumberOf Bits bits
+pub bits_of : (bits : ℕ) (entry : Option GivenNumber) → IsEntryOf Bits entry → bits ≡ entry_number_or 64 entry → IsNumberOf Bits bits
 bits_of bits entry held same = subst (λ (n : ℕ). IsNumberOf Bits n) (sym same) (entry_has (IsNumberOf Bits) 64 entry held (lit≤ tt, lit≤ tt, refl))
 
 -- the number of bytes of the input
-pub input_of : (input : ℕ) (entry : Option Entry) → IsEntryOf Input entry → input ≡ entry_number_or 4294967296 entry → IsNumberOf Input input
+pub input_of : (input : ℕ) (entry : Option GivenNumber) → IsEntryOf Input entry → input ≡ entry_number_or 4294967296 entry → IsNumberOf Input input
 input_of input entry held same = subst (λ (n : ℕ). IsNumberOf Input n) (sym same) (entry_has (IsNumberOf Input) 4294967296 entry held (lit≤ tt, lit≤ tt))
 
 -- parts of eight bits each

@@ -5,13 +5,14 @@ use Rattle.std.specs.Option.{option_map, option_and_then}
 use Rattle.std.specs.Str.{bytes_eq}
 use Rattle.part_layout.specs.declared.config.Config.{Config}
 use Rattle.command_line.specs.CommandOptions.{name_of, option_named, number, is_value}
-use Rattle.command_line.specs.CommandWords.{Written, parted, in_one_word, in_two_words, written, given, value_fault, option_fault, fault_of, first_written, others_written, or_fault, asked_after}
-use Rattle.command_line.specs.GivenValues.{entry_of, entry_at, put, kept, kept_after, present, size, IsNumberOf, IsEntryOf, AreEntries, next_in, after_next}
+use Rattle.command_line.specs.CommandWords.{or_fault, asked_after}
+use Rattle.command_line.specs.WrittenOptions.{Written, parted, in_one_word, in_two_words, written, given, value_fault, option_fault, fault_of, first_written, others_written}
+use Rattle.command_line.specs.Kept.{entry_of, entry_at, put, kept, kept_after, present, size, IsNumberOf, IsEntryOf, AreEntries, next_in, after_next}
 use Rattle.command_line.proofs.WordLemmas.{from_first}
 use Rattle.command_line.proofs.OptionLemmas.{named_name, number_range}
 use Rattle.command_line.specs.declared.command_option.CommandOption.{CommandOption}
 use Rattle.command_line.specs.declared.command_option.CommandOption.TheVariants.{Bits, Parts, Input}
-use Rattle.command_line.specs.declared.given.Entry.{Entry}
+use Rattle.command_line.specs.declared.given.GivenNumber.{GivenNumber}
 use Rattle.command_line.specs.declared.given.Given.{Given}
 
 -- what is kept with one more option of a name
@@ -61,17 +62,17 @@ kept_one before one option value named new stands good =
     rw none (ap (λ (given : Given). Ok given) (put_one before one option named))
 
 -- so it is kept, as the reader does
-pub kept_with : (before : List Written) (one : Written) (option : CommandOption) (value : List ℕ) (old new : Given) (entry : Entry)
+pub kept_with : (before : List Written) (one : Written) (option : CommandOption) (value : List ℕ) (old new : Given) (entry : GivenNumber)
     → option_named one.name ≡ Some option → old ≡ kept before → is_some (entry_at option old) ≡ false → one.value ≡ Some value
     → is_value option value ≡ true → entry ≡ record { number = number option value; place = one.value_place } → new ≡ put option entry old
     → Ok new ≡ kept_after before one
 kept_with before one option value old new entry named same absent stands good is made =
     let IsAbsent : Given → Type 0 = λ (values : Given). is_some (entry_at option values) ≡ false in
     let Done : Given → Result Given ℕ = λ (values : Given). Ok values in
-    let number_of : Option (List ℕ) → Entry = λ (value : Option (List ℕ)). record { number = option_and_then (number option) value; place = one.value_place } in
+    let number_of : Option (List ℕ) → GivenNumber = λ (value : Option (List ℕ)). record { number = option_and_then (number option) value; place = one.value_place } in
     let entry_is : entry ≡ entry_of option one = is ∙ sym (ap number_of stands) in
     let put_is : put option entry old ≡ put option (entry_of option one) (kept before) =
-    ap (λ (e : Entry). put option e old) entry_is ∙ ap (λ (values : Given). put option (entry_of option one) values) same in
+    ap (λ (e : GivenNumber). put option e old) entry_is ∙ ap (λ (values : Given). put option (entry_of option one) values) same in
     ap Done (made ∙ put_is) ∙ kept_one before one option value named (subst IsAbsent same absent) stands good
 
 -- a fault is the first one
@@ -135,12 +136,12 @@ pub are_entries : (before : List Written) (given : Given) → given ≡ kept bef
 are_entries before given same = subst (λ (given : Given). AreEntries given) (sym same) (kept_entries before)
 
 -- an option counts for one at most
-present_few : (entry : Option Entry) → present entry ≤ 1
+present_few : (entry : Option GivenNumber) → present entry ≤ 1
 present_few None = omega arith
 present_few (Some entry) = omega arith
 
 -- an option that was not given does not count
-absent_none : (entry : Option Entry) → is_some entry ≡ false → present entry ≡ 0
+absent_none : (entry : Option GivenNumber) → is_some entry ≡ false → present entry ≡ 0
 absent_none None absent = refl
 absent_none (Some entry) absent = cc
 
@@ -149,7 +150,7 @@ pub size_few : (given : Given) → size given ≤ 3
 size_few given = omega (arith, present_few given.bits, present_few given.parts, present_few given.input)
 
 -- a new option counts for one
-pub size_more : (option : CommandOption) (entry : Entry) (given : Given) → is_some (entry_at option given) ≡ false → size (put option entry given) ≡ size given + 1
+pub size_more : (option : CommandOption) (entry : GivenNumber) (given : Given) → is_some (entry_at option given) ≡ false → size (put option entry given) ≡ size given + 1
 size_more Bits entry given absent = omega (arith, absent_none given.bits absent)
 size_more Parts entry given absent = omega (arith, absent_none given.parts absent)
 size_more Input entry given absent = omega (arith, absent_none given.input absent)

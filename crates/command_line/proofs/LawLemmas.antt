@@ -9,7 +9,8 @@ use Rattle.std.proofs.lemmas.Slice.Eq.{bytes_eq-Decides}
 use Rattle.part_layout.specs.declared.config.Config.{Config}
 use Rattle.command_line.specs.CommandOptions.{name_of, option_named, number, is_value}
 use Rattle.part_layout.specs.Contiguous.{can_be_cut}
-use Rattle.command_line.specs.CommandWords.{Written, parted, has_no_equals, in_one_word, in_two_words, written, first_written, others_written, given, number_given, number_or, config, parts_for, value_fault, option_fault, fault_of, or_fault, asked_after}
+use Rattle.command_line.specs.CommandWords.{number_given, number_or, config, parts_for, or_fault, asked_after}
+use Rattle.command_line.specs.WrittenOptions.{Written, parted, has_no_equals, in_one_word, in_two_words, written, first_written, others_written, given, value_fault, option_fault, fault_of}
 use Rattle.command_line.proofs.OptionLemmas.{named_name}
 use Rattle.command_line.proofs.GivenLemmas.{written_one, written_two}
 use Rattle.command_line.specs.declared.command_option.CommandOption.{CommandOption}

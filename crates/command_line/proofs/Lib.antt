@@ -3,3 +3,4 @@ pub mod OptionLemmas
 pub mod GivenLemmas
 pub mod ConfigLemmas
 pub mod LawLemmas
+pub mod FirstLemmas

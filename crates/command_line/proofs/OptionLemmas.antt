@@ -5,9 +5,9 @@ use Rattle.std.specs.Str.{bytes_eq}
 use Rattle.std.specs.Str.Parse.{digits_value}
 use Rattle.std.proofs.lemmas.Bool.{and_parts, leb-true, eqb-true}
 use Rattle.std.proofs.lemmas.Slice.Eq.{bytes_eq-Decides}
-use Rattle.query_protocol.specs.Forms.{is_decimal, number_of}
+use Rattle.line_forms.specs.Forms.{is_decimal, number_of}
 use Rattle.command_line.specs.CommandOptions.{name_of, option_named, number, multiple_of_8, least, greatest}
-use Rattle.command_line.specs.GivenValues.{IsNumberOf}
+use Rattle.command_line.specs.Kept.{IsNumberOf}
 use Rattle.command_line.specs.declared.command_option.CommandOption.{CommandOption}
 use Rattle.command_line.specs.declared.command_option.CommandOption.TheVariants.{Bits, Parts, Input}
 

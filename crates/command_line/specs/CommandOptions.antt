@@ -2,7 +2,9 @@
 use Rattle.std.specs.Prelude.{ℕ, ◌%◌, ◌==◌, Bool, if◌then◌else◌, List, codes, Option, Some, None, is_some}
 use Rattle.std.specs.Option.{option_and_then}
 use Rattle.std.specs.Str.{bytes_eq}
-use Rattle.query_protocol.specs.Forms.{is_decimal, number_of}
+use Rattle.hamming_model.specs.declared.limits.TheConstants.{BITS_MOST, PARTS_MOST}
+use Rattle.part_layout.specs.declared.config.TheConstants.{INPUT_MOST}
+use Rattle.line_forms.specs.Forms.{is_decimal, number_of}
 use Rattle.command_line.specs.declared.command_option.CommandOption.{CommandOption}
 use Rattle.command_line.specs.declared.command_option.CommandOption.TheVariants.{Bits, Parts, Input}
 
@@ -20,9 +22,9 @@ least Input = 1
 
 -- the greatest number that an option may be given
 abbrev pub greatest : CommandOption → ℕ
-greatest Bits = 256
-greatest Parts = 64
-greatest Input = 4294967296
+greatest Bits = BITS_MOST
+greatest Parts = PARTS_MOST
+greatest Input = INPUT_MOST
 
 -- the option that a name names
 abbrev pub option_named : List ℕ → Option CommandOption

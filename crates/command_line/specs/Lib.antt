@@ -1,3 +1,4 @@
 pub mod CommandOptions
+pub mod WrittenOptions
 pub mod CommandWords
-pub mod GivenValues
+pub mod Kept

@@ -1,12 +1,20 @@
 //! The options of the command `run`.
 
-ghost use Rattle.std.specs.Prelude.{◌≡◌, ℕ, nat_lt};
-ghost use Rattle.std.specs.List.{list_all};
-ghost use Rattle.std.specs.Char.{digit_value};
-ghost use Rattle.query_protocol.specs.Forms.{is_decimal};
+ghost use Rattle.std.specs.Prelude.{◌≡◌};
 ghost use Rattle.command_line.specs.CommandOptions.{option_named, least, greatest, number, is_value};
 
-use query_protocol::number_of;
+use hamming_model::{BITS_MOST, PARTS_MOST};
+use line_forms::{is_decimal, number_of};
+use part_layout::INPUT_MOST;
+
+// The most digits of a value.
+const DIGITS: usize = 20;
+
+/// The bits of a code where none are given.
+pub(crate) const BITS: u64 = 64;
+
+/// The hits that may wait in a source.
+pub(crate) const ROOM: u32 = 64;
 
 /// An option that the words may give a value.
 #[derive(Clone, Copy, Debug, PartialEq, Eq)]
@@ -52,9 +60,9 @@ impl CommandOption {
         ensures { result ≡ greatest self }
     {
         match self {
-            CommandOption::Bits => 256,
-            CommandOption::Parts => 64,
-            CommandOption::Input => 4_294_967_296,
+            CommandOption::Bits => u64::from(BITS_MOST),
+            CommandOption::Parts => PARTS_MOST as u64,
+            CommandOption::Input => INPUT_MOST,
         }
     }
 
@@ -62,7 +70,7 @@ impl CommandOption {
     pub(crate) fn number(self, value: &[u8]) -> Option<u64>
         ensures { result ≡ number self value.now }
     {
-        let number = number_of(20, self.least(), self.greatest(), value)?;
+        let number = number_of(DIGITS, self.least(), self.greatest(), value)?;
         match self {
             CommandOption::Bits if number % 8 != 0 => None,
             _ => Some(number),
@@ -75,21 +83,8 @@ impl CommandOption {
         ensures { result ≡ is_value self value.now }
     {
         match self {
-            CommandOption::Parts => is_decimal(value),
+            CommandOption::Parts => is_decimal(DIGITS, value),
             _ => self.number(value).is_some(),
         }
     }
-}
-
-// Whether a value is 1 to 20 decimal digits.
-fn is_decimal(value: &[u8]) -> bool
-    ensures { result ≡ is_decimal 20 value.now }
-{
-    1 <= value.len() && value.len() <= 20 && are_digits(value)
-}
-
-fn are_digits(value: &[u8]) -> bool
-    ensures { result ≡ list_all (λ byte. nat_lt (digit_value byte) 10) value.now }
-{
-    value.iter().all(|byte| matches!(*byte, b'0'..=b'9'))
 }

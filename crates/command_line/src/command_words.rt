@@ -3,8 +3,9 @@
 ghost use Rattle.std.specs.Prelude.{◌≡◌, ◌==◌, ◌<◌, ◌-◌, [], length, map, position, string_bytes, option_copied, IfSome, IfOk};
 ghost use Rattle.std.specs.Option.{option_map};
 ghost use Rattle.part_layout.specs.Ranges.{IsConfig};
-ghost use Rattle.command_line.specs.CommandWords.{asked, asked_after, written, parted, IsPinned};
-ghost use Rattle.command_line.specs.GivenValues.{next_in, after_next};
+ghost use Rattle.command_line.specs.CommandWords.{asked, asked_after, IsPinned};
+ghost use Rattle.command_line.specs.WrittenOptions.{written, parted};
+ghost use Rattle.command_line.specs.Kept.{next_in, after_next};
 
 use crate::given::Given;
 use part_layout::Config;

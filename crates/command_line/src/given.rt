@@ -3,17 +3,19 @@
 ghost use Rattle.std.specs.Prelude.{◌≡◌, ◌+◌, ◌≤◌, ℕ, List, option_copied, IfOk};
 ghost use Rattle.part_layout.specs.Contiguous.{CanBeCut};
 ghost use Rattle.part_layout.specs.Ranges.{IsConfig};
-ghost use Rattle.command_line.specs.CommandWords.{Written, setting, config_of, IsPinned};
-ghost use Rattle.command_line.specs.GivenValues.{entry_at, entry_number_or, entry_parts_or, put, size, kept, kept_after, IsNumberOf, IsEntryOf, AreEntries};
+ghost use Rattle.command_line.specs.CommandWords.{config_of, IsPinned};
+ghost use Rattle.command_line.specs.WrittenOptions.{Written, setting};
+ghost use Rattle.command_line.specs.Kept.{entry_at, entry_number_or, entry_parts_or, put, size, kept, kept_after, IsNumberOf, IsEntryOf, AreEntries};
 ghost use Rattle.command_line.specs.declared.command_option.CommandOption.TheVariants.{Bits, Parts};
 
 use crate::CommandOption;
+use crate::command_option::{BITS, ROOM};
 use hamming_model::ENTRIES_MOST;
 use part_layout::{Config, INPUT_MOST, Layout};
 
 // What one option was given.
 #[derive(Clone, Copy, Debug, PartialEq, Eq)]
-pub(crate) struct Entry {
+pub(crate) struct GivenNumber {
     // The number, or None where the option may not be given it.
     pub(crate) number: Option<u64>,
     // The place of the value's word.
@@ -23,9 +25,9 @@ pub(crate) struct Entry {
 // What each option was given, if it was.
 #[derive(Clone, Copy, Debug, PartialEq, Eq)]
 pub(crate) struct Given {
-    pub(crate) bits: Option<Entry>,
-    pub(crate) parts: Option<Entry>,
-    pub(crate) input: Option<Entry>,
+    pub(crate) bits: Option<GivenNumber>,
+    pub(crate) parts: Option<GivenNumber>,
+    pub(crate) input: Option<GivenNumber>,
 }
 
 impl Given {
@@ -55,7 +57,7 @@ impl Given {
             let number = option.number(value);
             Ok(self.put(
                 option,
-                Entry {
+                GivenNumber {
                     number,
                     place: value_place,
                 },
@@ -66,7 +68,7 @@ impl Given {
     }
 
     // What is kept of one option.
-    fn at(self, option: CommandOption) -> Option<Entry>
+    fn at(self, option: CommandOption) -> Option<GivenNumber>
         ensures { result ≡ entry_at option self }
     {
         match option {
@@ -77,7 +79,7 @@ impl Given {
     }
 
     // What is kept once an option is given.
-    fn put(self, option: CommandOption, entry: Entry) -> Given
+    fn put(self, option: CommandOption, entry: GivenNumber) -> Given
         ensures { result ≡ put option entry self }
     {
         let entry = Some(entry);
@@ -104,13 +106,13 @@ impl Given {
         ensures within { IfOk result IsConfig }
         ensures pinned { IfOk result IsPinned }
     {
-        let bits = number_or(self.bits, 64);
+        let bits = number_or(self.bits, BITS);
         let parts = parts_or(bits, self.parts)?;
         Ok(Config {
             bits: bits as u32,
             parts: parts as u32,
             shards: 1,
-            room: 64,
+            room: ROOM,
             entries: ENTRIES_MOST,
             input: number_or(self.input, INPUT_MOST),
         })
@@ -118,7 +120,7 @@ impl Given {
 }
 
 // The number of an entry, or else the option's default.
-fn number_or(entry: Option<Entry>, default: u64) -> u64
+fn number_or(entry: Option<GivenNumber>, default: u64) -> u64
     ensures { result ≡ entry_number_or default entry }
 {
     match entry {
@@ -129,7 +131,7 @@ fn number_or(entry: Option<Entry>, default: u64) -> u64
 
 // The parts of an entry, where so many bits can be cut into them, or else the place of their word. Without an entry they
 // are eight bits each.
-fn parts_or(bits: u64, entry: Option<Entry>) -> Result<u64, usize>
+fn parts_or(bits: u64, entry: Option<GivenNumber>) -> Result<u64, usize>
     requires bits { IsNumberOf Bits bits }
     requires parts { IsEntryOf Parts entry }
     ensures value { result ≡ entry_parts_or bits entry }

@@ -1,8 +1,9 @@
 //! What the words ask for, said of the options and not of their places.
 
-ghost use Rattle.std.specs.Prelude.{◌≡◌, ◌≢◌, ℕ, List, [], ◌∷◌, ◌++◌, true, codes};
+ghost use Rattle.std.specs.Prelude.{◌≡◌, ◌≢◌, ◌-◌, ℕ, List, [], ◌∷◌, ◌++◌, true, take, codes, Some, Err};
 ghost use Rattle.std.specs.Result.{result_ok};
-ghost use Rattle.command_line.specs.CommandWords.{Written, asked, asked_after, has_no_equals};
+ghost use Rattle.command_line.specs.CommandWords.{asked, asked_after};
+ghost use Rattle.command_line.specs.WrittenOptions.{Written, has_no_equals, fault_in, IsNoneBut};
 
 /// The order of two options is free: where neighbours with different names change places, the same is asked for.
 pub fn options_in_any_order()
@@ -16,4 +17,12 @@ pub fn options_in_either_form()
     ensures { (name value : List ℕ) (words : List (List ℕ)) → has_no_equals name ≡ true →
         result_ok (asked (codes "run" ∷ (name ++ 61 ∷ value) ∷ words)) ≡
         result_ok (asked (codes "run" ∷ name ∷ value ∷ words)) }
+{}
+
+/// The word at fault is the first: where the words after the command are at fault as they are read from left to right, that place is
+/// told, and the words before it alone have no fault, or just that a value is wanting there. The parts are judged after that.
+pub fn the_first_fault_is_told()
+    ensures { (options : List (List ℕ)) (place : ℕ) → fault_in options ≡ Some place →
+        (asked (codes "run" ∷ options) ≡ Err place) ×
+        IsNoneBut place (fault_in (take (place - 2) options)) }
 {}

@@ -9,4 +9,4 @@ mod laws;
 
 pub use command_option::CommandOption;
 pub use command_words::read_words;
-pub use laws::{options_in_any_order, options_in_either_form};
+pub use laws::{options_in_any_order, options_in_either_form, the_first_fault_is_told};

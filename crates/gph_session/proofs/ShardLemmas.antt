@@ -5,8 +5,8 @@ use Rattle.std.proofs.Common.{refl, ap, ◌∙◌, subst, arith, not}
 use Rattle.std.proofs.lemmas.Bool.{eq-eqb, ltb-true}
 use Rattle.hamming_model.specs.History.{shard_rows}
 use Rattle.part_layout.specs.declared.config.Config.{Config}
-use Rattle.query_protocol.specs.Words.{words, is_printable}
-use Rattle.query_protocol.specs.Forms.{key_of, radius_of, count_of, shard_of, code_of, tag_of}
+use Rattle.line_forms.specs.Words.{words, is_printable}
+use Rattle.line_forms.specs.Forms.{key_of, radius_of, count_of, shard_of, code_of, tag_of}
 use Rattle.query_protocol.specs.Requests.{LineReading, Plan, Layout, bad}
 use Rattle.query_protocol.specs.Requests.{add_of, range_of, next_of, cost_of, plan_of, layout_of}
 use Rattle.query_protocol.specs.Requests.{with_words, of_words, reading}

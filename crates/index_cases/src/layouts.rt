@@ -1,5 +1,5 @@
 ghost use Rattle.std.specs.Prelude.{◌≤◌};
-ghost use Rattle.part_layout.specs.Laid.{IsAllowed};
+ghost use Rattle.part_layout.specs.Laid.{IsCodeSize};
 
 use crate::rows::{field, number};
 use gph_codes::Code;
@@ -13,14 +13,14 @@ static SINGLES: &str =
 
 // Stops a test that asks for a number of bits that no layout has.
 fn check_bits<R: Abort>(rt: &R, bits: u32)
-    ensures { IsAllowed bits }
+    ensures { IsCodeSize bits }
 {
     assert!(rt; bits % 8 == 0 && 8 <= bits && bits <= 256);
 }
 
 // Whether cutting so many bits into so many parts gives the layout of a text.
 fn is_cut_as(alloc: Global, bits: u32, parts: u32, text: &str) -> bool
-    requires { IsAllowed bits }
+    requires { IsCodeSize bits }
 {
     match Layout::contiguous(alloc, bits, parts) {
         Ok(layout) => {
@@ -237,7 +237,7 @@ fn over_64_parts_are_told_last(rt: HostRuntime) {
 
 // Whether a text is read as a layout that prints a text, and that text again as the same layout.
 fn is_printed_as(alloc: Global, bits: u32, text: &str, want: &str) -> bool
-    requires { IsAllowed bits }
+    requires { IsCodeSize bits }
 {
     let Ok(layout) = Layout::parse(alloc, bits, text.as_bytes()) else {
         return false;

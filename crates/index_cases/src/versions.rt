@@ -1,5 +1,5 @@
 ghost use Rattle.std.specs.Prelude.{◌≡◌, ◌*◌, ◌^◌, ◌<◌, ◌≤◌, length};
-ghost use Rattle.part_layout.specs.Laid.{IsAllowed, part_at};
+ghost use Rattle.part_layout.specs.Laid.{IsCodeSize, part_at};
 
 use crate::plain::differences;
 use count_table::changes_follow_a_list;
@@ -29,7 +29,7 @@ pub(crate) fn empty<const W: usize, R: Abort>(
     parts: u32,
 ) -> Version<W>
     requires few_words { W ≤ 8 }
-    requires bits { IsAllowed bits }
+    requires bits { IsCodeSize bits }
 {
     assert!(rt; shard < shards && shards <= 16 && bits as usize <= 64 * W);
     let layout = Layout::contiguous(alloc, bits, parts).expect(rt, "a layout");

@@ -1,19 +1,16 @@
 -- The first position of a text: its word, and the text after its mark.
-use Rattle.std.proofs.Common.{◌≡◌, ◌≢◌, ℕ, zero, suc, ◌+◌, ◌-◌, ◌<◌, ◌≤◌, ◌==◌, ◌&&◌, ◌||◌, nat_le, Bool, true, false, inl, inr, ◌⊎◌, List, [], ◌∷◌, ◌++◌, All, map, length, take, drop, get_or, refl, sym, ◌∙◌, ap, subst, arith, ◌^◌, lit<, lit≤}
+use Rattle.std.proofs.Common.{◌≡◌, ◌≢◌, ℕ, zero, suc, ◌+◌, ◌-◌, ◌<◌, ◌≤◌, ◌==◌, ◌&&◌, ◌||◌, nat_le, Bool, true, false, inl, inr, ◌⊎◌, List, [], ◌∷◌, ◌++◌, All, map, length, take, drop, get_or, refl, sym, ◌∙◌, ap, subst, arith}
 use Rattle.std.specs.Char.{digit_value, is_digit}
 use Rattle.std.specs.List.{list_all, onto_first}
 use Rattle.std.specs.Str.Parse.{digits_value, AllDigits}
 use Rattle.std.proofs.lemmas.Bool.{and_parts, leb-true, ne_eqb}
 use Rattle.std.proofs.lemmas.Bool.Decides.{nat_tests}
-use Rattle.std.proofs.Math.Nat.{pow-le-pow_right}
-use Rattle.std.proofs.lemmas.Int.Digits.{digits_value-lt}
-use Rattle.std.proofs.lemmas.Str.Parse.{digits_value-take-le}
 use Rattle.std.proofs.lemmas.List.{append-nil, get_or-drop, length-drop, take-append-drop, take_all, take_more}
 use Rattle.std.proofs.lemmas.List.Elements.{All-append, All-head, All-tail}
 use Rattle.part_layout.specs.Faults.{numbers_of}
-use Rattle.part_layout.specs.Grammar.{is_position_text, IsLayoutText, spelled, words}
+use Rattle.part_layout.specs.Grammar.{is_position_text, IsLayoutText, spelled, position_texts}
 use Rattle.part_layout.specs.ReadOn.{grown, is_mark, parts_left, IsRest}
-use Rattle.part_layout.specs.declared.cursor.Listed.{Listed}
+use Rattle.part_layout.specs.declared.cursor.ListedPosition.{ListedPosition}
 use Rattle.part_layout.proofs.GrammarLemmas.{AreWords, Kind, Slash, Comma, Plain, are_words, by_test, kind_of, onto_word, words_comma, words_plain, words_slash}
 
 -- a byte that is no mark
@@ -50,7 +47,7 @@ mark_kind byte mark (Plain no_comma no_slash) =
     let none : is_mark byte ≡ false = rw (no_comma, no_slash) refl in absurd (cc)
 
 -- a word alone
-words_alone : (word : List ℕ) → All (λ byte. is_mark byte ≡ false) word → words word ≡ (word ∷ []) ∷ []
+words_alone : (word : List ℕ) → All (λ byte. is_mark byte ≡ false) word → position_texts word ≡ (word ∷ []) ∷ []
 unfolding onto_word
 words_alone [] plain = refl
 words_alone (byte ∷ word) plain =
@@ -58,7 +55,7 @@ words_alone (byte ∷ word) plain =
     words_plain byte word here.0 here.1 ∙ ap (onto_word byte) (words_alone word (All-tail (λ b. is_mark b ≡ false) byte word plain))
 
 -- a word before a slash
-words_before_slash : (word rest : List ℕ) → All (λ byte. is_mark byte ≡ false) word → words (word ++ 47 ∷ rest) ≡ (word ∷ []) ∷ words rest
+words_before_slash : (word rest : List ℕ) → All (λ byte. is_mark byte ≡ false) word → position_texts (word ++ 47 ∷ rest) ≡ (word ∷ []) ∷ position_texts rest
 unfolding onto_word
 words_before_slash [] rest plain = words_slash rest
 words_before_slash (byte ∷ word) rest plain =
@@ -72,13 +69,13 @@ onto_both byte word [] = refl
 onto_both byte word (part ∷ parts) = refl
 
 -- a word before a comma
-words_before_comma : (word rest : List ℕ) → All (λ byte. is_mark byte ≡ false) word → words (word ++ 44 ∷ rest) ≡ onto_first word (words rest)
+words_before_comma : (word rest : List ℕ) → All (λ byte. is_mark byte ≡ false) word → position_texts (word ++ 44 ∷ rest) ≡ onto_first word (position_texts rest)
 words_before_comma [] rest plain = words_comma rest
 words_before_comma (byte ∷ word) rest plain =
     let here = plain_kind byte (All-head (λ b. is_mark b ≡ false) byte word plain) in
     words_plain byte (word ++ 44 ∷ rest) here.0 here.1
     ∙ ap (onto_word byte) (words_before_comma word rest (All-tail (λ b. is_mark b ≡ false) byte word plain))
-    ∙ onto_both byte word (words rest)
+    ∙ onto_both byte word (position_texts rest)
 
 -- the test of parts whose first word is known
 abbrev passes : List (List (List ℕ)) → Bool
@@ -125,18 +122,18 @@ mark_read word rest mark is plain (inl comma) = subst (λ m. IsLayoutText (word 
   where
     comma_read : (word rest : List ℕ) → All (λ byte. is_mark byte ≡ false) word → IsLayoutText (word ++ 44 ∷ rest) → FirstRead (word ++ 44 ∷ rest) word (44 ∷ rest)
     comma_read word rest plain is =
-        let both = passes_first word (words rest) (sym (ap passes (words_before_comma word rest plain)) ∙ is) in
+        let both = passes_first word (position_texts rest) (sym (ap passes (words_before_comma word rest plain)) ∙ is) in
         let whole = rest_of_text (word ++ 44 ∷ rest) is in
         let left = rest_of_text rest both.1 in (
           both.0,
           both.1,
-          whole.1 ∙ ap numbers (words_before_comma word rest plain) ∙ numbers_first word (words rest) ∙ ap (onto_first (digits_value 10 word)) (sym left.1),
+          whole.1 ∙ ap numbers (words_before_comma word rest plain) ∙ numbers_first word (position_texts rest) ∙ ap (onto_first (digits_value 10 word)) (sym left.1),
         )
 mark_read word rest mark is plain (inr slash) = subst (λ m. IsLayoutText (word ++ m ∷ rest) → FirstRead (word ++ m ∷ rest) word (m ∷ rest)) (sym slash) (slash_read word rest plain) is
   where
     slash_read : (word rest : List ℕ) → All (λ byte. is_mark byte ≡ false) word → IsLayoutText (word ++ 47 ∷ rest) → FirstRead (word ++ 47 ∷ rest) word (47 ∷ rest)
     slash_read word rest plain is =
-        let both = passes_part word (words rest) (sym (ap passes (words_before_slash word rest plain)) ∙ is) in
+        let both = passes_part word (position_texts rest) (sym (ap passes (words_before_slash word rest plain)) ∙ is) in
         let whole = rest_of_text (word ++ 47 ∷ rest) is in
         let left = rest_of_text rest both.1 in (
           both.0,
@@ -153,7 +150,7 @@ first_read word [] is plain marked =
     let here : IsLayoutText word = rw same at is in
     let both = passes_part word [] (sym (ap passes (words_alone word plain)) ∙ here) in
     let whole = rest_of_text (word ++ []) is in
-    (both.0, whole.1 ∙ ap numbers (ap words same ∙ words_alone word plain))
+    (both.0, whole.1 ∙ ap numbers (ap position_texts same ∙ words_alone word plain))
 first_read word (mark ∷ rest) is plain marked = mark_read word rest mark is plain (mark_kind mark (marked (omega arith)) (kind_of mark))
 
 -- a position's text is short
@@ -184,7 +181,7 @@ numbers_onto number [] = refl
 numbers_onto number (part ∷ parts) = refl
 
 -- the numbers of parts with one position before them
-pub numbers_grown : (listed : Listed) (parts : List (List ℕ)) → numbers_of (grown listed parts) ≡ listed.position ∷ numbers_of parts
+pub numbers_grown : (listed : ListedPosition) (parts : List (List ℕ)) → numbers_of (grown listed parts) ≡ listed.position ∷ numbers_of parts
 numbers_grown listed parts =
     elim (by_test listed.ends_part) [
       | inl ends ↦ rw ends refl
@@ -195,19 +192,11 @@ numbers_grown listed parts =
 pub some_left : (rest : List ℕ) → 0 < length rest → 0 < length (parts_left rest)
 unfolding AreWords
 some_left [] some = absurd (omega arith)
-some_left (byte ∷ bytes) some = shaped (words (byte ∷ bytes)) (are_words (byte ∷ bytes))
+some_left (byte ∷ bytes) some = shaped (position_texts (byte ∷ bytes)) (are_words (byte ∷ bytes))
   where
     shaped : (parts : List (List (List ℕ))) → AreWords parts → 0 < length (numbers parts)
     shaped [] there = absurd there
     shaped (part ∷ parts) there = omega arith
-
--- the number that the first of at most three digits write
-pub value_small : (word : List ℕ) (at : ℕ) → length word ≤ 3 → AllDigits 10 word → digits_value 10 (take at word) < 1000
-value_small word at short digits =
-    let whole : digits_value 10 word < 10 ^ length word = digits_value-lt 10 word digits in
-    let most : 10 ^ length word ≤ 10 ^ 3 = pow-le-pow_right (lit< tt) short in
-    let part : digits_value 10 (take at word) ≤ digits_value 10 word = digits_value-take-le 10 word at (lit≤ tt) in
-    omega arith
 
 -- the first word of a text, by where it ends
 read_at : (text : List ℕ) (end : ℕ) → IsRest text → 0 < length text → end ≤ length text → All (λ byte. is_mark byte ≡ false) (take end text)

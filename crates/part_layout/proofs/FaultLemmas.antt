@@ -10,7 +10,7 @@ use Rattle.std.proofs.lemmas.List.Splits.{length-slice_split}
 use Rattle.std.proofs.lemmas.List.Sums.{sum_by-cons}
 use Rattle.hamming_model.specs.Layouts.{IsLayout}
 use Rattle.part_layout.specs.Faults.{fault_of, first_beyond, first_repeated, first_there, first_wide, least_missing, numbers_of, stands_in, too_many}
-use Rattle.part_layout.specs.Grammar.{spelled, words_of_part}
+use Rattle.part_layout.specs.Grammar.{spelled, texts_of_part}
 use Rattle.part_layout.specs.declared.layout_fault.LayoutFault.{LayoutFault}
 use Rattle.part_layout.specs.declared.layout_fault.LayoutFault.TheVariants.{Range, Twice, Missing, Width, Parts}
 use Rattle.part_layout.proofs.GrammarLemmas.{by_test}
@@ -317,7 +317,7 @@ spelled_some text =
     let sized = length-slice_split (λ byte. byte == 47) text in
     (some_pieces (slice_split (λ byte. byte == 47) text) (omega arith), filled_pieces (slice_split (λ byte. byte == 47) text))
   where
-    some_pieces : (pieces : List (List ℕ)) → 0 < length pieces → 0 < length (map (λ part. map (digits_value 10) part) (map words_of_part pieces))
+    some_pieces : (pieces : List (List ℕ)) → 0 < length pieces → 0 < length (map (λ part. map (digits_value 10) part) (map texts_of_part pieces))
     some_pieces [] some = absurd (omega arith)
     some_pieces (piece ∷ pieces) some = omega arith
 
@@ -325,8 +325,8 @@ spelled_some text =
     some_numbers [] some = absurd (omega arith)
     some_numbers (word ∷ others) some = omega arith
 
-    filled_pieces : (pieces : List (List ℕ)) → All (λ part. 0 < length part) (map (λ part. map (digits_value 10) part) (map words_of_part pieces))
+    filled_pieces : (pieces : List (List ℕ)) → All (λ part. 0 < length part) (map (λ part. map (digits_value 10) part) (map texts_of_part pieces))
     filled_pieces [] k d inside = absurd (omega arith)
     filled_pieces (piece ∷ pieces) zero d inside =
-        let sized = length-slice_split (λ byte. byte == 44) piece in some_numbers (words_of_part piece) (omega arith)
+        let sized = length-slice_split (λ byte. byte == 44) piece in some_numbers (texts_of_part piece) (omega arith)
     filled_pieces (piece ∷ pieces) (suc k) d inside = filled_pieces pieces k d (omega arith)

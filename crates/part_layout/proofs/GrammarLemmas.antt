@@ -5,7 +5,7 @@ use Rattle.std.specs.List.{list_all, onto_first, slice_split}
 use Rattle.std.proofs.lemmas.Bool.{cases_eq, cases_lt, eqb-true}
 use Rattle.std.proofs.lemmas.Bool.Decides.{nat_tests}
 use Rattle.std.proofs.lemmas.List.Splits.{length-slice_split, slice_split-cons_no}
-use Rattle.part_layout.specs.Grammar.{is_position_text, is_layout_text, words, words_of_part}
+use Rattle.part_layout.specs.Grammar.{is_position_text, is_layout_text, position_texts, texts_of_part}
 use Rattle.part_layout.specs.ReadOn.{digits_after, ends_text, is_mark}
 
 -- a test is passed or not
@@ -29,40 +29,40 @@ unfolding AreWords
 part_words [] parts some = absurd (omega arith)
 part_words (word ∷ others) parts some = tt
 
-some_words : (pieces : List (List ℕ)) → 0 < length pieces → AreWords (map words_of_part pieces)
+some_words : (pieces : List (List ℕ)) → 0 < length pieces → AreWords (map texts_of_part pieces)
 some_words [] some = absurd (omega arith)
 some_words (piece ∷ pieces) some =
-    part_words (words_of_part piece) (map words_of_part pieces) (let sized = length-slice_split (λ byte. byte == 44) piece in omega arith)
+    part_words (texts_of_part piece) (map texts_of_part pieces) (let sized = length-slice_split (λ byte. byte == 44) piece in omega arith)
 
 -- a text has a first word
-pub are_words : (text : List ℕ) → AreWords (words text)
+pub are_words : (text : List ℕ) → AreWords (position_texts text)
 are_words text =
     some_words (slice_split (λ byte. byte == 47) text) (let sized = length-slice_split (λ byte. byte == 47) text in omega arith)
 
 -- a slash ends a part
-pub words_slash : (bytes : List ℕ) → words (47 ∷ bytes) ≡ ([] ∷ []) ∷ words bytes
+pub words_slash : (bytes : List ℕ) → position_texts (47 ∷ bytes) ≡ ([] ∷ []) ∷ position_texts bytes
 words_slash bytes = refl
 
-comma_pieces : (pieces : List (List ℕ)) → 0 < length pieces → map words_of_part (onto_first 44 pieces) ≡ onto_first [] (map words_of_part pieces)
+comma_pieces : (pieces : List (List ℕ)) → 0 < length pieces → map texts_of_part (onto_first 44 pieces) ≡ onto_first [] (map texts_of_part pieces)
 comma_pieces [] some = absurd (omega arith)
 comma_pieces (piece ∷ pieces) some = refl
 
 -- a comma ends a word
-pub words_comma : (bytes : List ℕ) → words (44 ∷ bytes) ≡ onto_first [] (words bytes)
+pub words_comma : (bytes : List ℕ) → position_texts (44 ∷ bytes) ≡ onto_first [] (position_texts bytes)
 words_comma bytes =
     comma_pieces (slice_split (λ byte. byte == 47) bytes) (let sized = length-slice_split (λ byte. byte == 47) bytes in omega arith)
 
 plain_pieces : (byte : ℕ) (pieces : List (List ℕ)) → (byte == 44) ≡ false → 0 < length pieces
-    → map words_of_part (onto_first byte pieces) ≡ onto_word byte (map words_of_part pieces)
+    → map texts_of_part (onto_first byte pieces) ≡ onto_word byte (map texts_of_part pieces)
 unfolding onto_word
 plain_pieces byte [] plain some = absurd (omega arith)
 plain_pieces byte (piece ∷ pieces) plain some =
-    ap (λ part. part ∷ map words_of_part pieces) (slice_split-cons_no (λ b. b == 44) byte piece plain)
+    ap (λ part. part ∷ map texts_of_part pieces) (slice_split-cons_no (λ b. b == 44) byte piece plain)
 
 -- another byte goes on with a word
-pub words_plain : (byte : ℕ) (bytes : List ℕ) → (byte == 44) ≡ false → (byte == 47) ≡ false → words (byte ∷ bytes) ≡ onto_word byte (words bytes)
+pub words_plain : (byte : ℕ) (bytes : List ℕ) → (byte == 44) ≡ false → (byte == 47) ≡ false → position_texts (byte ∷ bytes) ≡ onto_word byte (position_texts bytes)
 words_plain byte bytes no_comma no_slash =
-    ap (map words_of_part) (slice_split-cons_no (λ b. b == 47) byte bytes no_slash)
+    ap (map texts_of_part) (slice_split-cons_no (λ b. b == 47) byte bytes no_slash)
     ∙ plain_pieces byte (slice_split (λ b. b == 47) bytes) no_comma (let sized = length-slice_split (λ b. b == 47) bytes in omega arith)
 
 -- whether a word ends a position of so many digits
@@ -181,20 +181,20 @@ kind_of byte =
     ]
 
 -- a slash more
-slash_step : (bytes : List ℕ) (digits : ℕ) → digits ≤ 3 → ((n : ℕ) → n ≤ 3 → ends_text n bytes ≡ after_digits n (words bytes))
-    → ends_text digits (47 ∷ bytes) ≡ after_digits digits (words (47 ∷ bytes))
+slash_step : (bytes : List ℕ) (digits : ℕ) → digits ≤ 3 → ((n : ℕ) → n ≤ 3 → ends_text n bytes ≡ after_digits n (position_texts bytes))
+    → ends_text digits (47 ∷ bytes) ≡ after_digits digits (position_texts (47 ∷ bytes))
 unfolding after_digits
 slash_step bytes digits few rest =
     elim (cases_eq digits 0) [
       | inl none ↦
           follows digits 47 bytes None (after_nothing digits 47 refl refl none)
-          ∙ sym (not_begun digits (true && list_all (λ part. list_all is_position_text part) (words bytes)) none)
+          ∙ sym (not_begun digits (true && list_all (λ part. list_all is_position_text part) (position_texts bytes)) none)
       | inr other ↦
           let some : 0 < digits = omega arith in
           follows digits 47 bytes (Some 0) (after_mark digits 47 refl refl some)
           ∙ rest 0 (omega arith)
-          ∙ from_none (words bytes) (are_words bytes)
-          ∙ sym (ended digits (true && list_all (λ part. list_all is_position_text part) (words bytes)) few some)
+          ∙ from_none (position_texts bytes) (are_words bytes)
+          ∙ sym (ended digits (true && list_all (λ part. list_all is_position_text part) (position_texts bytes)) few some)
     ]
 
 comma_words : (parts : List (List (List ℕ))) (digits : ℕ) → AreWords parts
@@ -205,60 +205,60 @@ comma_words ([] ∷ parts) digits there = absurd there
 comma_words ((word ∷ others) ∷ parts) digits there = refl
 
 -- a comma more
-comma_step : (bytes : List ℕ) (digits : ℕ) → digits ≤ 3 → ((n : ℕ) → n ≤ 3 → ends_text n bytes ≡ after_digits n (words bytes))
-    → ends_text digits (44 ∷ bytes) ≡ after_digits digits (words (44 ∷ bytes))
+comma_step : (bytes : List ℕ) (digits : ℕ) → digits ≤ 3 → ((n : ℕ) → n ≤ 3 → ends_text n bytes ≡ after_digits n (position_texts bytes))
+    → ends_text digits (44 ∷ bytes) ≡ after_digits digits (position_texts (44 ∷ bytes))
 comma_step bytes digits few rest =
-    let here = ap (after_digits digits) (words_comma bytes) ∙ comma_words (words bytes) digits (are_words bytes) in
+    let here = ap (after_digits digits) (words_comma bytes) ∙ comma_words (position_texts bytes) digits (are_words bytes) in
     elim (cases_eq digits 0) [
       | inl none ↦
           follows digits 44 bytes None (after_nothing digits 44 refl refl none)
-          ∙ sym (here ∙ not_begun digits (list_all (λ part. list_all is_position_text part) (words bytes)) none)
+          ∙ sym (here ∙ not_begun digits (list_all (λ part. list_all is_position_text part) (position_texts bytes)) none)
       | inr other ↦
           let some : 0 < digits = omega arith in
           follows digits 44 bytes (Some 0) (after_mark digits 44 refl refl some)
           ∙ rest 0 (omega arith)
-          ∙ from_none (words bytes) (are_words bytes)
-          ∙ sym (here ∙ ended digits (list_all (λ part. list_all is_position_text part) (words bytes)) few some)
+          ∙ from_none (position_texts bytes) (are_words bytes)
+          ∙ sym (here ∙ ended digits (list_all (λ part. list_all is_position_text part) (position_texts bytes)) few some)
     ]
 
 -- a digit more
-digit_step : (byte : ℕ) (bytes : List ℕ) (digits : ℕ) → digits ≤ 3 → ((n : ℕ) → n ≤ 3 → ends_text n bytes ≡ after_digits n (words bytes))
-    → (byte == 44) ≡ false → (byte == 47) ≡ false → is_digit byte 10 ≡ true → ends_text digits (byte ∷ bytes) ≡ after_digits digits (words (byte ∷ bytes))
+digit_step : (byte : ℕ) (bytes : List ℕ) (digits : ℕ) → digits ≤ 3 → ((n : ℕ) → n ≤ 3 → ends_text n bytes ≡ after_digits n (position_texts bytes))
+    → (byte == 44) ≡ false → (byte == 47) ≡ false → is_digit byte 10 ≡ true → ends_text digits (byte ∷ bytes) ≡ after_digits digits (position_texts (byte ∷ bytes))
 digit_step byte bytes digits few rest no_comma no_slash digit =
     let here = ap (after_digits digits) (words_plain byte bytes no_comma no_slash) in
     elim (cases_lt digits 3) [
       | inl fewer ↦
           follows digits byte bytes (Some (digits + 1)) (after_digit digits byte digit fewer)
           ∙ rest (digits + 1) (omega arith)
-          ∙ sym (here ∙ digit_more digits byte (words bytes) (are_words bytes) digit)
+          ∙ sym (here ∙ digit_more digits byte (position_texts bytes) (are_words bytes) digit)
       | inr many ↦
           follows digits byte bytes None (after_three digits byte digit many)
-          ∙ sym (here ∙ digit_many digits byte (words bytes) (are_words bytes) many)
+          ∙ sym (here ∙ digit_many digits byte (position_texts bytes) (are_words bytes) many)
     ]
 
-at_end : (digits : ℕ) → digits ≤ 3 → 0 < digits → nat_lt 0 digits ≡ after_digits digits (words [])
+at_end : (digits : ℕ) → digits ≤ 3 → 0 < digits → nat_lt 0 digits ≡ after_digits digits (position_texts [])
 unfolding after_digits
 at_end digits few some =
     let test : nat_lt 0 digits ≡ true = grind (arith, nat_tests) in test ∙ sym (ended digits (true && true) few some)
 
 -- one byte more
-kind_step : (byte : ℕ) (bytes : List ℕ) (digits : ℕ) → digits ≤ 3 → ((n : ℕ) → n ≤ 3 → ends_text n bytes ≡ after_digits n (words bytes))
-    → Kind byte → ends_text digits (byte ∷ bytes) ≡ after_digits digits (words (byte ∷ bytes))
+kind_step : (byte : ℕ) (bytes : List ℕ) (digits : ℕ) → digits ≤ 3 → ((n : ℕ) → n ≤ 3 → ends_text n bytes ≡ after_digits n (position_texts bytes))
+    → Kind byte → ends_text digits (byte ∷ bytes) ≡ after_digits digits (position_texts (byte ∷ bytes))
 kind_step byte bytes digits few rest (Slash is) =
-    subst (λ b. ends_text digits (b ∷ bytes) ≡ after_digits digits (words (b ∷ bytes))) (sym is) (slash_step bytes digits few rest)
+    subst (λ b. ends_text digits (b ∷ bytes) ≡ after_digits digits (position_texts (b ∷ bytes))) (sym is) (slash_step bytes digits few rest)
 kind_step byte bytes digits few rest (Comma is) =
-    subst (λ b. ends_text digits (b ∷ bytes) ≡ after_digits digits (words (b ∷ bytes))) (sym is) (comma_step bytes digits few rest)
+    subst (λ b. ends_text digits (b ∷ bytes) ≡ after_digits digits (position_texts (b ∷ bytes))) (sym is) (comma_step bytes digits few rest)
 kind_step byte bytes digits few rest (Plain no_comma no_slash) =
     elim (by_test (is_digit byte 10)) [
       | inl digit ↦ digit_step byte bytes digits few rest no_comma no_slash digit
       | inr other ↦
           let no_mark : is_mark byte ≡ false = rw (no_comma, no_slash) refl in
           follows digits byte bytes None (after_other digits byte other no_mark)
-          ∙ sym (ap (after_digits digits) (words_plain byte bytes no_comma no_slash) ∙ no_digit digits byte (words bytes) (are_words bytes) other)
+          ∙ sym (ap (after_digits digits) (words_plain byte bytes no_comma no_slash) ∙ no_digit digits byte (position_texts bytes) (are_words bytes) other)
     ]
 
 -- reading a text byte by byte tells how it ends
-accepted : (text : List ℕ) (digits : ℕ) → digits ≤ 3 → ends_text digits text ≡ after_digits digits (words text)
+accepted : (text : List ℕ) (digits : ℕ) → digits ≤ 3 → ends_text digits text ≡ after_digits digits (position_texts text)
 unfolding after_digits ends_word
 accepted [] digits few =
     elim (cases_eq digits 0) [ inl none ↦ rw none refl | inr some ↦ at_end digits few (omega arith) ]
@@ -266,4 +266,4 @@ accepted (byte ∷ bytes) digits few = kind_step byte bytes digits few (λ n sho
 
 -- a text is one of the grammar where reading it byte by byte says so
 pub text_read : (text : List ℕ) → ends_text 0 text ≡ is_layout_text text
-text_read text = accepted text 0 (omega arith) ∙ from_none (words text) (are_words text)
+text_read text = accepted text 0 (omega arith) ∙ from_none (position_texts text) (are_words text)

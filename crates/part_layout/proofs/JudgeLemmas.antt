@@ -7,17 +7,17 @@ use Rattle.std.proofs.lemmas.List.Elements.{All-head, All-tail}
 use Rattle.std.proofs.lemmas.List.{length-set, get_or-replicate, get_or-set_other, get_or-set_same}
 use Rattle.part_layout.specs.Faults.{first_beyond, first_repeated, numbers_of, stands_in}
 use Rattle.part_layout.specs.ReadOn.{grown, numbers_left, parts_left, Tells}
-use Rattle.part_layout.specs.declared.cursor.Listed.{Listed}
+use Rattle.part_layout.specs.declared.cursor.ListedPosition.{ListedPosition}
 use Rattle.part_layout.proofs.CursorLemmas.{numbers_grown}
 use Rattle.part_layout.proofs.GrammarLemmas.{by_test}
 
 -- the numbers of a rest are its first position and those after it
-pub numbers_next : (rest after : List ℕ) (listed : Listed) → parts_left rest ≡ grown listed (parts_left after)
+pub numbers_next : (rest after : List ℕ) (listed : ListedPosition) → parts_left rest ≡ grown listed (parts_left after)
     → numbers_of (parts_left rest) ≡ listed.position ∷ numbers_of (parts_left after)
 numbers_next rest after listed same = ap numbers_of same ∙ numbers_grown listed (parts_left after)
 
 -- they are small, as all are
-pub small_next : (rest after : List ℕ) (listed : Listed) → parts_left rest ≡ grown listed (parts_left after) → All (λ number. number < 256) (numbers_left rest)
+pub small_next : (rest after : List ℕ) (listed : ListedPosition) → parts_left rest ≡ grown listed (parts_left after) → All (λ number. number < 256) (numbers_left rest)
     → (listed.position < 256) × All (λ number. number < 256) (numbers_left after)
 small_next rest after listed same small =
     let next = numbers_next rest after listed same in
@@ -169,7 +169,7 @@ wide_over at width n [] over = wide_cons at width (n ∷ []) [] true (grind (ari
 wide_over at width n (part ∷ parts) over = wide_cons at width (n ∷ part) parts true (grind (arith, nat_tests))
 
 -- one position more makes the part too wide
-pub wide_here : (at width : ℕ) (listed : Listed) (parts left : List (List ℕ)) → parts ≡ grown listed left → 12 < width + 1 → wide_from at width parts ≡ Some at
+pub wide_here : (at width : ℕ) (listed : ListedPosition) (parts left : List (List ℕ)) → parts ≡ grown listed left → 12 < width + 1 → wide_from at width parts ≡ Some at
 unfolding wide_from
 wide_here at width listed parts left same over =
     elim (by_test listed.ends_part) [
@@ -182,7 +182,7 @@ wide_here at width listed parts left same over =
     ]
 
 -- the part ends
-pub wide_next : (at width : ℕ) (listed : Listed) (parts left : List (List ℕ)) → parts ≡ grown listed left → listed.ends_part ≡ true → width + 1 ≤ 12
+pub wide_next : (at width : ℕ) (listed : ListedPosition) (parts left : List (List ℕ)) → parts ≡ grown listed left → listed.ends_part ≡ true → width + 1 ≤ 12
     → wide_from at width parts ≡ wide_from (at + 1) 0 left
 unfolding wide_from
 wide_next at width listed parts left same ends narrow =
@@ -191,7 +191,7 @@ wide_next at width listed parts left same ends narrow =
     ∙ wide_start (at + 1) left
 
 -- the part goes on
-pub wide_on : (at width : ℕ) (listed : Listed) (parts left : List (List ℕ)) → parts ≡ grown listed left → listed.ends_part ≡ false → width + 1 ≤ 12
+pub wide_on : (at width : ℕ) (listed : ListedPosition) (parts left : List (List ℕ)) → parts ≡ grown listed left → listed.ends_part ≡ false → width + 1 ≤ 12
     → wide_from at width parts ≡ wide_from at (width + 1) left
 unfolding wide_from
 wide_on at width listed parts left same goes narrow =
@@ -214,7 +214,7 @@ part_start [] some = absurd (omega arith)
 part_start (part ∷ parts) some = refl
 
 -- the part ends
-pub part_ends : (listed : Listed) (part : List ℕ) (parts left : List (List ℕ)) → parts ≡ grown listed left → listed.ends_part ≡ true
+pub part_ends : (listed : ListedPosition) (part : List ℕ) (parts left : List (List ℕ)) → parts ≡ grown listed left → listed.ends_part ≡ true
     → after_part part parts ≡ (part ++ listed.position ∷ []) ∷ left
 unfolding after_part
 part_ends listed part parts left same ends =
@@ -226,7 +226,7 @@ part_onto part n [] = refl
 part_onto part n (first ∷ others) = ap (λ xs. xs ∷ others) (sym (append_assoc part (n ∷ []) first))
 
 -- the part goes on
-pub part_on : (listed : Listed) (part : List ℕ) (parts left : List (List ℕ)) → parts ≡ grown listed left → listed.ends_part ≡ false
+pub part_on : (listed : ListedPosition) (part : List ℕ) (parts left : List (List ℕ)) → parts ≡ grown listed left → listed.ends_part ≡ false
     → after_part part parts ≡ after_part (part ++ listed.position ∷ []) left
 part_on listed part parts left same goes =
     ap (after_part part) (same ∙ ap (λ b. cond b ((listed.position ∷ []) ∷ left) (onto_first listed.position left)) goes)

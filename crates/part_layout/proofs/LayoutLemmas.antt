@@ -10,7 +10,7 @@ use Rattle.std.proofs.lemmas.List.Elements.{All-head, All-tail}
 use Rattle.std.proofs.lemmas.List.Folds.{length-flat_map-take}
 use Rattle.std.proofs.lemmas.List.Sums.{sum_by-cons}
 use Rattle.hamming_model.specs.Layouts.{IsLayout, bits_at, part_value}
-use Rattle.part_layout.specs.Inside.{Fits, laid_of, lists_of}
+use Rattle.part_layout.specs.Kept.{FitsText, laid_of, lists_of}
 use Rattle.part_layout.specs.Laid.{Laid, part_at}
 use Rattle.part_layout.proofs.RunLemmas.{hit, miss}
 use Rattle.std.specs.Global.{Vec}
@@ -92,7 +92,7 @@ all_positions bits parts laid =
     sym (tally_all bits (flat_map (λ part. part) parts) laid.in_range) ∙ tally_ones bits (flat_map (λ part. part) parts) laid.once
 
 -- a buffer of 2,048 bytes has room for the text of a layout
-pub layout_fits : (bits bytes : ℕ) (parts : List (List ℕ)) → bits ≤ 256 → 2048 ≤ bytes → IsLayout bits parts → Fits bytes parts
+pub layout_fits : (bits bytes : ℕ) (parts : List (List ℕ)) → bits ≤ 256 → 2048 ≤ bytes → IsLayout bits parts → FitsText bytes parts
 layout_fits bits bytes parts few long laid =
     let all = all_positions bits parts laid in
     record {

@@ -1,3 +1,4 @@
+pub mod BytesLemmas
 pub mod CursorLemmas
 pub mod FaultLemmas
 pub mod GrammarLemmas

@@ -8,7 +8,7 @@ use Rattle.std.proofs.lemmas.Fmt.{decimal_is_IsNumeral}
 use Rattle.std.proofs.lemmas.List.Elements.{All-append, All-head, All-tail}
 use Rattle.std.proofs.lemmas.List.Splits.{slice_split_at, slice_split_none}
 use Rattle.part_layout.specs.Faults.{IsReadBack}
-use Rattle.part_layout.specs.Grammar.{is_position_text, spelled, words, words_of_part}
+use Rattle.part_layout.specs.Grammar.{is_position_text, spelled, position_texts, texts_of_part}
 use Rattle.part_layout.specs.Laid.{Laid, IsLaid}
 use Rattle.part_layout.specs.Text.{layout_text, part_text}
 use Rattle.part_layout.proofs.FaultLemmas.{faultless_of_laid}
@@ -101,7 +101,7 @@ numbers_same (n ∷ part) small =
     ∙ ap (λ others. n ∷ others) (numbers_same part (All-tail (λ m. m < 1000) n part small))
 
 -- the words of a part's text
-part_words : (part : List ℕ) → 0 < length part → All (λ n. n < 1000) part → words_of_part (part_text part) ≡ map decimal part
+part_words : (part : List ℕ) → 0 < length part → All (λ n. n < 1000) part → texts_of_part (part_text part) ≡ map decimal part
 part_words [] some small = absurd (omega arith)
 part_words (n ∷ part) some small =
     split_join 44 (map decimal (n ∷ part)) (omega arith) refl (numbers_lack 44 (n ∷ part) (lit≤ tt) small)
@@ -119,19 +119,19 @@ texts_lack (part ∷ parts) small =
     (join_lacks 44 47 (map decimal part) refl (numbers_lack 47 part (lit≤ tt) (All-head (λ p. All (λ n. n < 1000) p) part parts small)))
     (texts_lack parts (All-tail (λ p. All (λ n. n < 1000) p) part parts small))
 
-texts_words : (parts : List (List ℕ)) → AreSome parts → AreSmall parts → map words_of_part (map part_text parts) ≡ map (λ part. map decimal part) parts
+texts_words : (parts : List (List ℕ)) → AreSome parts → AreSmall parts → map texts_of_part (map part_text parts) ≡ map (λ part. map decimal part) parts
 texts_words [] some small = refl
 texts_words (part ∷ parts) some small =
-    ap (λ piece. piece ∷ map words_of_part (map part_text parts))
+    ap (λ piece. piece ∷ map texts_of_part (map part_text parts))
     (part_words part (All-head (λ p. 0 < length p) part parts some) (All-head (λ p. All (λ n. n < 1000) p) part parts small))
     ∙ ap (λ others. map decimal part ∷ others)
     (texts_words parts (All-tail (λ p. 0 < length p) part parts some) (All-tail (λ p. All (λ n. n < 1000) p) part parts small))
 
 -- the words of the text of parts
-layout_words : (parts : List (List ℕ)) → 0 < length parts → AreSome parts → AreSmall parts → words (layout_text parts) ≡ map (λ part. map decimal part) parts
+layout_words : (parts : List (List ℕ)) → 0 < length parts → AreSome parts → AreSmall parts → position_texts (layout_text parts) ≡ map (λ part. map decimal part) parts
 layout_words [] there some small = absurd (omega arith)
 layout_words (part ∷ parts) there some small =
-    ap (map words_of_part) (split_join 47 (map part_text (part ∷ parts)) (omega arith) refl (texts_lack (part ∷ parts) small))
+    ap (map texts_of_part) (split_join 47 (map part_text (part ∷ parts)) (omega arith) refl (texts_lack (part ∷ parts) small))
     ∙ texts_words (part ∷ parts) some small
 
 parts_pass : (parts : List (List ℕ)) → AreSmall parts → list_all (λ part. list_all is_position_text part) (map (λ part. map decimal part) parts) ≡ true

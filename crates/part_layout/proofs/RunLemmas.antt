@@ -12,7 +12,7 @@ use Rattle.std.proofs.lemmas.Nat.{div-add-mod', le-div}
 use Rattle.std.proofs.Math.Nat.{mul-le-mul_right}
 use Rattle.hamming_model.specs.Layouts.{IsLayout}
 use Rattle.part_layout.specs.Contiguous.{CanBeCut, IsNoNumber, contiguous, runs}
-use Rattle.part_layout.specs.Inside.{lists_of}
+use Rattle.part_layout.specs.Kept.{lists_of}
 
 -- one position more
 pub range_more : (a n j : ℕ) → a + n ≡ j → range_with_len a (suc n) ≡ range_with_len a n ++ j ∷ []

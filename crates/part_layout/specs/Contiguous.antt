@@ -1,6 +1,7 @@
 -- The contiguous layout: the positions in order, cut into parts as equal as can be.
 use Rattle.std.specs.Prelude.{◌≡◌, ℕ, zero, suc, ◌+◌, ◌-◌, ◌*◌, ◌/◌, ◌%◌, ◌<◌, ◌⊎◌, ◌&&◌, nat_le, Bool, true, List, [], ◌∷◌, ◌++◌, length, slice_index_or}
 use Rattle.std.specs.List.{range_with_len}
+use Rattle.hamming_model.specs.declared.limits.TheConstants.{PARTS_MOST, PART_WIDTH_MOST}
 use Rattle.part_layout.specs.declared.layout_fault.LayoutFault.{LayoutFault}
 use Rattle.part_layout.specs.declared.layout_fault.LayoutFault.TheVariants.{Syntax, Range, Twice, Missing, Width, Parts, NoMemory}
 
@@ -16,12 +17,12 @@ contiguous bits parts =
 
 -- a number of bits isn't cut into so many parts: none, over 64, or more than there are bits
 abbrev pub IsNoNumber : ℕ → ℕ → Type 0
-IsNoNumber bits parts = (parts ≡ 0) ⊎ ((64 < parts) ⊎ (bits < parts))
+IsNoNumber bits parts = (parts ≡ 0) ⊎ ((PARTS_MOST < parts) ⊎ (bits < parts))
 
 -- so many parts may be, and the first part of the contiguous layout has more than 12 positions
 pub record IsWide (bits parts : ℕ) : Type 0 where
   pub number : IsNoNumber bits parts → ⊥
-  pub wide : 12 < length (slice_index_or (contiguous bits parts) 0 [])
+  pub wide : PART_WIDTH_MOST < length (slice_index_or (contiguous bits parts) 0 [])
 
 -- this number of parts is told as none that may be
 abbrev pub IsNumberFault : ℕ → ℕ → ℕ → Type 0
@@ -43,7 +44,7 @@ IsCutFault NoMemory = Unit {0}
 
 -- whether so many bits can be cut into so many parts: there are 1 to 64, none is empty, and none has over 12 positions
 abbrev pub can_be_cut : ℕ → ℕ → Bool
-can_be_cut bits parts = nat_le 1 parts && (nat_le parts 64 && (nat_le parts bits && nat_le bits (12 * parts)))
+can_be_cut bits parts = nat_le 1 parts && (nat_le parts PARTS_MOST && (nat_le parts bits && nat_le bits (PART_WIDTH_MOST * parts)))
 
 -- so many bits can be cut into so many parts
 abbrev pub CanBeCut : ℕ → ℕ → Type 0

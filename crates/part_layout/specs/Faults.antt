@@ -2,6 +2,7 @@
 use Rattle.std.specs.Prelude.{◌≡◌, ℕ, ◌==◌, not, nat_le, nat_lt, if◌then◌else◌, Bool, List, [], ◌∷◌, length, Option, Some, None}
 use Rattle.std.specs.List.{find, flat_map, list_any, position_from, range_with_len}
 use Rattle.std.specs.Option.{option_map}
+use Rattle.hamming_model.specs.declared.limits.TheConstants.{PARTS_MOST, PART_WIDTH_MOST}
 use Rattle.part_layout.specs.Grammar.{IsLayoutText, spelled}
 use Rattle.part_layout.specs.Laid.{Laid}
 use Rattle.part_layout.specs.Text.{layout_text}
@@ -32,11 +33,11 @@ least_missing bits numbers = find (λ position. not (stands_in numbers position)
 
 -- the first part, from 0, of more than 12 positions
 abbrev pub first_wide : List (List ℕ) → Option ℕ
-first_wide parts = position_from (λ part. nat_lt 12 (length part)) 0 parts
+first_wide parts = position_from (λ part. nat_lt PART_WIDTH_MOST (length part)) 0 parts
 
 -- the number of parts, where it is over 64
 abbrev pub too_many : List (List ℕ) → Option ℕ
-too_many parts = if nat_lt 64 (length parts) then Some (length parts) else None
+too_many parts = if nat_lt PARTS_MOST (length parts) then Some (length parts) else None
 
 -- the first of several faults that is there
 abbrev pub first_there : List (Option LayoutFault) → Option LayoutFault

@@ -10,16 +10,16 @@ abbrev pub is_position_text : List ℕ → Bool
 is_position_text word = nat_le 1 (length word) && (nat_le (length word) 3 && list_all (λ byte. is_digit byte 10) word)
 
 -- the texts of a part's positions: commas part them
-abbrev pub words_of_part : List ℕ → List (List ℕ)
-words_of_part part = slice_split (λ byte. byte == 44) part
+abbrev pub texts_of_part : List ℕ → List (List ℕ)
+texts_of_part part = slice_split (λ byte. byte == 44) part
 
 -- the texts of the positions of each part: slashes part the parts
-abbrev pub words : List ℕ → List (List (List ℕ))
-words text = map words_of_part (slice_split (λ byte. byte == 47) text)
+abbrev pub position_texts : List ℕ → List (List (List ℕ))
+position_texts text = map texts_of_part (slice_split (λ byte. byte == 47) text)
 
 -- whether a text is one of the grammar
 abbrev pub is_layout_text : List ℕ → Bool
-is_layout_text text = list_all (λ part. list_all is_position_text part) (words text)
+is_layout_text text = list_all (λ part. list_all is_position_text part) (position_texts text)
 
 -- a text of the grammar
 abbrev pub IsLayoutText : List ℕ → Type 0
@@ -27,7 +27,7 @@ IsLayoutText text = is_layout_text text ≡ true
 
 -- the parts that a text spells, each the list of its positions
 abbrev pub spelled : List ℕ → List (List ℕ)
-spelled text = map (λ part. map (digits_value 10) part) (words text)
+spelled text = map (λ part. map (digits_value 10) part) (position_texts text)
 
 -- a text of the grammar begins with these bytes
 abbrev pub IsPrefixOfText : List ℕ → Type 0

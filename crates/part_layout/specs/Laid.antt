@@ -3,6 +3,7 @@ use Rattle.std.specs.Prelude.{◌≡◌, ℕ, ◌%◌, ◌≤◌, List, [], slic
 use Rattle.std.specs.Coded.{Coded, code_by, coded×, coded_list, coded_ℕ}
 use Rattle.hamming_model.specs.Layouts.{IsLayout, part_value}
 use Rattle.hamming_model.specs.Codes.{StandsFor}
+use Rattle.hamming_model.specs.declared.limits.TheConstants.{BITS_MOST}
 
 -- the number of bits of a code, and the positions of each part
 pub record Laid : Type 0 where
@@ -16,14 +17,14 @@ laid_code =
     (λ laid. (laid.bits, laid.parts)) (λ both. record { bits = both.0; parts = both.1 }) (λ _. refl)
 
 -- a number of bits that a code may have: whole bytes, 8 to 256
-pub record IsAllowed (bits : ℕ) : Type 0 where
+pub record IsCodeSize (bits : ℕ) : Type 0 where
   pub whole : bits % 8 ≡ 0
   pub some : 8 ≤ bits
-  pub few : bits ≤ 256
+  pub few : bits ≤ BITS_MOST
 
 -- a layout of an allowed number of bits
 pub record IsLaid (laid : Laid) : Type 0 where
-  pub allowed : IsAllowed laid.bits
+  pub allowed : IsCodeSize laid.bits
   pub layout : IsLayout laid.bits laid.parts
 
 -- the positions of a part, counted from 0

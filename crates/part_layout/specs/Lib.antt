@@ -1,7 +1,7 @@
 pub mod Contiguous
 pub mod Faults
 pub mod Grammar
-pub mod Inside
+pub mod Kept
 pub mod Laid
 pub mod Ranges
 pub mod ReadOn

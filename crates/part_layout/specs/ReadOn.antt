@@ -2,9 +2,10 @@
 use Rattle.std.specs.Prelude.{◌≡◌, ℕ, ◌+◌, ◌<◌, ◌==◌, ◌||◌, nat_lt, if◌then◌else◌, Bool, false, List, [], ◌∷◌, slice_index_or, Option, Some, None}
 use Rattle.std.specs.Char.{is_digit}
 use Rattle.std.specs.List.{onto_first}
+use Rattle.hamming_model.specs.declared.limits.TheConstants.{BITS_MOST}
 use Rattle.part_layout.specs.Faults.{numbers_of, stands_in}
 use Rattle.part_layout.specs.Grammar.{IsLayoutText, spelled}
-use Rattle.part_layout.specs.declared.cursor.Listed.{Listed}
+use Rattle.part_layout.specs.declared.cursor.ListedPosition.{ListedPosition}
 
 -- a comma or a slash
 abbrev pub is_mark : ℕ → Bool
@@ -36,11 +37,11 @@ IsRest [] = Unit {0}
 IsRest (byte ∷ bytes) = IsLayoutText (byte ∷ bytes)
 
 -- parts with one position before them, the last of its part or one before others
-abbrev pub grown : Listed → List (List ℕ) → List (List ℕ)
+abbrev pub grown : ListedPosition → List (List ℕ) → List (List ℕ)
 grown listed parts = if listed.ends_part then (listed.position ∷ []) ∷ parts else onto_first listed.position parts
 
 -- a text lists a position first, and has this rest after its mark
-abbrev pub Lists : List ℕ → Listed → List ℕ → Type 0
+abbrev pub Lists : List ℕ → ListedPosition → List ℕ → Type 0
 Lists text listed rest = parts_left text ≡ grown listed (parts_left rest)
 
 -- a text spells a part first, and has this rest after its mark
@@ -49,4 +50,4 @@ BeginsWith text part rest = parts_left text ≡ part ∷ parts_left rest
 
 -- a table tells which positions stand among numbers
 abbrev pub Tells : List Bool → List ℕ → Type 0
-Tells table numbers = (position : ℕ) → position < 256 → slice_index_or table position false ≡ stands_in numbers position
+Tells table numbers = (position : ℕ) → position < BITS_MOST → slice_index_or table position false ≡ stands_in numbers position

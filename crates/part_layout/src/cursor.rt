@@ -4,9 +4,11 @@ ghost use Rattle.std.specs.Prelude.{◌≡◌, ◌<◌, ◌≤◌, [], All, true
 ghost use Rattle.std.specs.Str.Parse.{digits_value, AllDigits};
 ghost use Rattle.part_layout.specs.ReadOn.{is_mark, IsRest, Lists};
 
+use line_forms::value_of;
+
 /// A position as a text lists it.
 #[derive(Clone, Copy, Debug, PartialEq, Eq)]
-pub struct Listed {
+pub struct ListedPosition {
     /// Below 1,000.
     pub position: u32,
     /// Whether it is the last of its part.
@@ -14,7 +16,7 @@ pub struct Listed {
 }
 
 /// The first position that the rest of a layout text lists, and what follows it and its mark, or None where nothing is left.
-pub fn next_position(text: &[u8]) -> Option<(Listed, &[u8])>
+pub fn next_position(text: &[u8]) -> Option<(ListedPosition, &[u8])>
     requires { IsRest text.now }
     ensures parts { MatchOption result (text.now ≡ []) (λ it. Lists text.now it.0 it.1.now) }
     ensures rest { IfSome result (λ found. IsRest found.1.now) }
@@ -25,18 +27,18 @@ pub fn next_position(text: &[u8]) -> Option<(Listed, &[u8])>
     if text.is_empty() {
         return None;
     }
-    let (word, after) = text.split_at(word_end(text));
-    let position = value_of(word);
+    let (word, after) = text.split_at(first_mark(text));
+    let position = position_of(word);
     match after {
         [] => Some((
-            Listed {
+            ListedPosition {
                 position,
                 ends_part: true,
             },
             after,
         )),
         [mark, rest @ ..] => Some((
-            Listed {
+            ListedPosition {
                 position,
                 ends_part: *mark == b'/',
             },
@@ -46,7 +48,7 @@ pub fn next_position(text: &[u8]) -> Option<(Listed, &[u8])>
 }
 
 // The place of the first mark, or the number of bytes where there is none.
-fn word_end(text: &[u8]) -> usize
+fn first_mark(text: &[u8]) -> usize
     ensures within { result ≤ length text.now }
     ensures word { All (λ byte. is_mark byte ≡ false) (take result text.now) }
     ensures stops { result < length text.now → is_mark (slice_index text.now result) ≡ true }
@@ -59,15 +61,11 @@ fn word_end(text: &[u8]) -> usize
 }
 
 // The number that up to three decimal digits write.
-fn value_of(word: &[u8]) -> u32
+fn position_of(word: &[u8]) -> u32
     requires short { length word.now ≤ 3 }
     requires digits { AllDigits 10 word.now }
     ensures value { result ≡ digits_value 10 word.now }
     ensures small { result < 1000 }
 {
-    let mut value = 0;
-    for digit in word {
-        value = value * 10 + u32::from(*digit - b'0');
-    }
-    value
+    value_of(word) as u32
 }

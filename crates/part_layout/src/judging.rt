@@ -1,20 +1,22 @@
 //! What is wrong with the parts that a layout text spells.
 
 ghost use Rattle.std.specs.Prelude.{◌≡◌, ℕ, ◌<◌, ◌≤◌, List, [], All, length, Some, None, IfOk, IfErr};
+ghost use Rattle.hamming_model.specs.declared.limits.TheConstants.{BITS_MOST};
 ghost use Rattle.part_layout.specs.Faults.{fault_of, first_beyond, first_repeated, first_wide, least_missing};
 ghost use Rattle.part_layout.specs.Grammar.{IsLayoutText, spelled};
-ghost use Rattle.part_layout.specs.Laid.{IsAllowed};
+ghost use Rattle.part_layout.specs.Laid.{IsCodeSize};
 ghost use Rattle.part_layout.specs.ReadOn.{numbers_left, parts_left, IsRest, Tells};
 
 use crate::LayoutFault;
 use crate::cursor::next_position;
+use hamming_model::{BITS_MOST, PART_WIDTH_MOST, PARTS_MOST};
 
 // How many positions a code may have.
-const POSITIONS: usize = 256;
+const POSITIONS: usize = BITS_MOST as usize;
 
 /// The first fault of the parts that a layout text spells, as a layout of codes of so many bits. It takes no memory.
 pub fn fault_in(bits: u32, text: &[u8]) -> Option<LayoutFault>
-    requires allowed { IsAllowed bits }
+    requires allowed { IsCodeSize bits }
     requires text { IsLayoutText text.now }
     ensures { result ≡ fault_of bits (spelled text.now) }
 {
@@ -32,7 +34,7 @@ pub fn fault_in(bits: u32, text: &[u8]) -> Option<LayoutFault>
         return Some(LayoutFault::Width { part });
     }
     let count = number_of_parts(text);
-    if 64 < count {
+    if PARTS_MOST < count as usize {
         return Some(LayoutFault::Parts { count });
     }
     None
@@ -56,7 +58,7 @@ fn first_beyond(bits: u32, text: &[u8]) -> Option<u32>
 // Which positions the text lists, or the first number that stood before.
 fn table_of(text: &[u8]) -> Result<[bool; POSITIONS], u32>
     requires rest { IsRest text.now }
-    requires few { All (λ number. number < 256) (numbers_left text.now) }
+    requires few { All (λ number. number < BITS_MOST) (numbers_left text.now) }
     ensures repeated { IfErr result (λ n. first_repeated [] (numbers_left text.now) ≡ Some n) }
     ensures single { IfOk result (λ table. first_repeated [] (numbers_left text.now) ≡ None) }
     ensures table { IfOk result (λ table. Tells table (numbers_left text.now)) }
@@ -76,14 +78,14 @@ fn table_of(text: &[u8]) -> Result<[bool; POSITIONS], u32>
 // The table of no positions.
 fn empty_table() -> [bool; POSITIONS]
     ensures none { Tells result [] }
-    ensures size { length result ≡ 256 }
+    ensures size { length result ≡ BITS_MOST }
 {
     [false; POSITIONS]
 }
 
 // The least position below the number of bits that isn't listed.
 fn least_missing(bits: u32, table: &[bool; POSITIONS]) -> Option<u32>
-    requires { bits ≤ 256 }
+    requires { bits ≤ BITS_MOST }
     ensures { (numbers : List ℕ) → Tells table.now numbers → result ≡ least_missing bits numbers }
 {
     for position in 0..bits {
@@ -97,7 +99,7 @@ fn least_missing(bits: u32, table: &[bool; POSITIONS]) -> Option<u32>
 // The first part, from 0, of more than 12 positions.
 fn first_wide(text: &[u8]) -> Option<u32>
     requires rest { IsRest text.now }
-    requires few { length (numbers_left text.now) ≤ 256 }
+    requires few { length (numbers_left text.now) ≤ BITS_MOST }
     ensures { result ≡ first_wide (parts_left text.now) }
 {
     let mut part = 0;
@@ -105,7 +107,7 @@ fn first_wide(text: &[u8]) -> Option<u32>
     let mut rest = text;
     while let Some((listed, after)) = next_position(rest) {
         width += 1;
-        if 12 < width {
+        if PART_WIDTH_MOST < width {
             return Some(part);
         }
         if listed.ends_part {
@@ -120,7 +122,7 @@ fn first_wide(text: &[u8]) -> Option<u32>
 // How many parts there are.
 fn number_of_parts(text: &[u8]) -> u32
     requires rest { IsRest text.now }
-    requires few { length (numbers_left text.now) ≤ 256 }
+    requires few { length (numbers_left text.now) ≤ BITS_MOST }
     ensures { result ≡ length (parts_left text.now) }
 {
     let mut count = 0;

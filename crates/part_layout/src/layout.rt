@@ -1,7 +1,9 @@
 //! The layout of a code's positions in parts.
 
 ghost use Rattle.std.specs.Prelude.{◌≡◌, ◌*◌, ◌^◌, ◌<◌, ◌≤◌, ◌↔◌, ℕ, length, take, slice_index, Err, IfErr, IfOk};
-ghost use Rattle.part_layout.specs.Laid.{IsAllowed, IsLaid, IsValue, part_at};
+ghost use Rattle.hamming_model.specs.declared.limits.TheConstants.{PART_WIDTH_MOST};
+ghost use Rattle.part_layout.specs.declared.layout_text.TheConstants.{TEXT};
+ghost use Rattle.part_layout.specs.Laid.{IsCodeSize, IsLaid, IsValue, part_at};
 ghost use Rattle.part_layout.specs.Contiguous.{CanBeCut, IsCutFault, IsNumberFault, IsWidthFault, can_be_cut, contiguous};
 ghost use Rattle.part_layout.specs.Faults.{IsFaultless, IsFault};
 ghost use Rattle.part_layout.specs.Grammar.{IsSyntaxFault, spelled};
@@ -15,8 +17,12 @@ use crate::spelling::parts_of;
 use crate::syntax::syntax_fault;
 use crate::{LayoutFault, LayoutText};
 use gph_codes::Code;
+use hamming_model::{PART_WIDTH_MOST, PARTS_MOST};
 use std::alloc::Global;
 use std::marker::Model;
+
+// The most parts, as a number of parts is given.
+const PARTS: u32 = PARTS_MOST as u32;
 
 /// The positions of a code of 8 to 256 bits, in 1 to 64 parts of 1 to 12 positions.
 #[derive(Drop)]
@@ -26,7 +32,7 @@ pub struct Layout {
 }
 
 impl Model for Layout {
-    ghost use Rattle.part_layout.specs.Inside.{laid_of};
+    ghost use Rattle.part_layout.specs.Kept.{laid_of};
     ghost use Rattle.part_layout.specs.Laid.{IsLaid, Laid, laid_code};
 
     ghost Value = { Laid };
@@ -43,7 +49,7 @@ impl Layout {
     pub fn can_be_cut(bits: u32, parts: u32) -> bool
         ensures { result ≡ can_be_cut bits parts }
     {
-        1 <= parts && parts <= 64 && parts <= bits && bits <= 12 * parts
+        1 <= parts && parts <= PARTS && parts <= bits && bits <= PART_WIDTH_MOST * parts
     }
 
     /// The contiguous layout: the positions in order, in parts as equal as can be, the longer first.
@@ -53,7 +59,7 @@ impl Layout {
     /// `Parts` where `parts` is 0, over 64 or over `bits`, else `Width` of part 0 where the first
     /// part would have more than 12 positions, else `NoMemory` where there is no memory for it.
     pub fn contiguous(alloc: Global, bits: u32, parts: u32) -> Result<Layout, LayoutFault>
-        requires { IsAllowed bits }
+        requires { IsCodeSize bits }
         ensures bits { IfOk result (λ layout. layout.bits ≡ bits) }
         ensures layout { IfOk result (λ layout. layout.parts ≡ contiguous bits parts) }
         ensures causes { IfErr result IsCutFault }
@@ -62,10 +68,10 @@ impl Layout {
         ensures cut { IfOk result (λ layout. CanBeCut bits parts) }
         ensures memory { IfErr result (λ fault. (fault ≡ NoMemory) ↔ CanBeCut bits parts) }
     {
-        if parts == 0 || parts > 64 || parts > bits {
+        if parts == 0 || parts > PARTS || parts > bits {
             return Err(LayoutFault::Parts { count: parts });
         }
-        if first_width(bits, parts) > 12 {
+        if first_width(bits, parts) > PART_WIDTH_MOST {
             return Err(LayoutFault::Width { part: 0 });
         }
         let Ok(kept) = contiguous_parts(alloc, bits, parts) else {
@@ -84,7 +90,7 @@ impl Layout {
     /// `Twice` of the first number that stood before; `Missing` of the least position that stands nowhere; `Width` of the
     /// first part of more than 12 positions; `Parts` where there are over 64; `NoMemory` where there is no memory for it.
     pub fn parse(alloc: Global, bits: u32, text: &[u8]) -> Result<Layout, LayoutFault>
-        requires { IsAllowed bits }
+        requires { IsCodeSize bits }
         // The layout.
         ensures bits { IfOk result (λ layout. layout.bits ≡ bits) }
         ensures layout { IfOk result (λ layout. layout.parts ≡ spelled text.now) }
@@ -114,7 +120,7 @@ impl Layout {
     /// The number of bits of the codes.
     pub fn bits(&self) -> u32
         ensures bits { result ≡ self.now.bits }
-        ensures allowed { IsAllowed result }
+        ensures allowed { IsCodeSize result }
     {
         self.bits
     }
@@ -132,7 +138,7 @@ impl Layout {
         requires { part < length self.now.parts }
         ensures width { result ≡ length (part_at self.now part) }
         ensures some { 1 ≤ result }
-        ensures narrow { result ≤ 12 }
+        ensures narrow { result ≤ PART_WIDTH_MOST }
     {
         self.parts[part as usize].len() as u32
     }
@@ -160,9 +166,9 @@ impl Layout {
     /// Writes the text at the front of a buffer and gives its length: the positions in decimal,
     /// ',' between those of a part and '/' between parts.
     pub fn write(&self, out: &mut [u8]) -> usize
-        requires { length out.old ≡ 2048 }
+        requires { length out.old ≡ TEXT }
         ensures text { take result out.new ≡ layout_text self.now.parts }
-        ensures bound { result ≤ 2048 }
+        ensures bound { result ≤ TEXT }
     {
         put_parts(self.parts.as_slice(), out)
     }

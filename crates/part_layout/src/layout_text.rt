@@ -1,6 +1,7 @@
 //! The text of a layout.
 
 ghost use Rattle.std.specs.Prelude.{◌≡◌, ◌≤◌, length, take};
+ghost use Rattle.part_layout.specs.declared.layout_text.TheConstants.{TEXT};
 
 use std::marker::Model;
 
@@ -16,18 +17,19 @@ pub struct LayoutText {
 
 impl Model for LayoutText {
     ghost use Rattle.std.specs.Prelude.{ℕ, ◌≤◌, List, take};
+    ghost use Rattle.part_layout.specs.declared.layout_text.TheConstants.{TEXT};
 
     ghost Value = { List ℕ };
 
     ghost view = { λ text. take text.length text.bytes };
 
-    ghost invariant = { λ text. text.length ≤ 2048 };
+    ghost invariant = { λ text. text.length ≤ TEXT };
 }
 
 impl LayoutText {
     /// The text of so many of a buffer's first bytes.
     pub fn new(bytes: [u8; TEXT], length: usize) -> LayoutText
-        requires { length ≤ 2048 }
+        requires { length ≤ TEXT }
         ensures { result ≡ take length bytes }
     {
         LayoutText { bytes, length }
@@ -36,7 +38,7 @@ impl LayoutText {
     /// The bytes of the text.
     pub fn bytes(&self) -> &[u8]
         ensures value { result.now ≡ self.now }
-        ensures short { length self.now ≤ 2048 }
+        ensures short { length self.now ≤ TEXT }
     {
         &self.bytes[..self.length]
     }

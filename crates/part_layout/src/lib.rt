@@ -14,7 +14,7 @@ mod spelling;
 mod syntax;
 
 pub use config::{Config, INPUT_MOST};
-pub use laws::text_of_layouts;
+pub use laws::{bytes_of_layouts, text_of_layouts};
 pub use layout::Layout;
 pub use layout_fault::LayoutFault;
 pub use layout_text::LayoutText;

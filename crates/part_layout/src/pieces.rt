@@ -4,8 +4,9 @@ ghost use Rattle.std.specs.Prelude.{◌≡◌, ◌+◌, ◌-◌, ◌*◌, ◌^�
 ghost use Rattle.std.specs.List.{range_with_len};
 ghost use Rattle.hamming_model.specs.Codes.{StandsFor};
 ghost use Rattle.hamming_model.specs.Layouts.{part_value};
+ghost use Rattle.hamming_model.specs.declared.limits.TheConstants.{BITS_MOST, PART_WIDTH_MOST};
 ghost use Rattle.part_layout.specs.Contiguous.{contiguous};
-ghost use Rattle.part_layout.specs.Inside.{AddsRuns, Fits, lists_of, mark_before};
+ghost use Rattle.part_layout.specs.Kept.{AddsRuns, FitsText, lists_of, mark_before};
 ghost use Rattle.part_layout.specs.Text.{layout_text, part_text};
 
 use gph_codes::Code;
@@ -16,7 +17,7 @@ use std::alloc::Global;
 /// How many positions the first part of the contiguous layout has.
 pub fn first_width(bits: u32, parts: u32) -> u32
     requires some { 0 < parts }
-    requires few { bits ≤ 256 }
+    requires few { bits ≤ BITS_MOST }
     ensures { result ≡ length (slice_index_or (contiguous bits parts) 0 []) }
 {
     if bits % parts == 0 {
@@ -29,7 +30,7 @@ pub fn first_width(bits: u32, parts: u32) -> u32
 /// The parts of the contiguous layout.
 pub fn contiguous_parts(alloc: Global, bits: u32, parts: u32) -> Result<Vec<Vec<u16>>, NoMemory>
     requires some { 0 < parts }
-    requires few { bits ≤ 256 }
+    requires few { bits ≤ BITS_MOST }
     ensures { IfOk result (λ kept. lists_of kept.items ≡ contiguous bits parts) }
 {
     let width = bits / parts;
@@ -54,7 +55,7 @@ fn push_runs(
     width: u32,
     first: u32,
 ) -> Result<(), NoMemory>
-    requires { first + number * width ≤ 256 }
+    requires { first + number * width ≤ BITS_MOST }
     ensures { OnOk result (AddsRuns parts.old.items parts.new.items number width first) }
 {
     for i in 0..number {
@@ -68,7 +69,7 @@ fn push_runs(
 
 // So many positions in order.
 fn run(alloc: Global, first: u32, width: u32) -> Result<Vec<u16>, NoMemory>
-    requires { first + width ≤ 256 }
+    requires { first + width ≤ BITS_MOST }
     ensures { IfOk result (λ part. part.items ≡ range_with_len first width) }
 {
     let mut part = Vec::new(alloc);
@@ -84,7 +85,7 @@ fn run(alloc: Global, first: u32, width: u32) -> Result<Vec<u16>, NoMemory>
 pub fn value_at<const W: usize>(code: &Code<W>, bits: u32, part: &[u16]) -> u16
     requires in_code { All (λ position. position < bits) part.now }
     requires room { bits ≤ 64 * W }
-    requires narrow { length part.now ≤ 12 }
+    requires narrow { length part.now ≤ PART_WIDTH_MOST }
     ensures value { (x : List ℕ) → StandsFor W bits code.now x → result ≡ part_value x part.now }
     ensures bound { result < 2 ^ length part.now }
 {
@@ -107,7 +108,7 @@ fn bit_at<const W: usize>(code: &Code<W>, bits: u32, position: u32) -> u16
 
 /// Writes the text of parts at the front of a buffer and gives its length.
 pub fn put_parts(parts: &[Vec<u16>], out: &mut [u8]) -> usize
-    requires { Fits (length out.old) (lists_of parts.now) }
+    requires { FitsText (length out.old) (lists_of parts.now) }
     ensures text { take result out.new ≡ layout_text (lists_of parts.now) }
     ensures bound { result ≤ length out.old }
 {

@@ -1,7 +1,7 @@
 //! The parts that a layout text spells, as they are kept.
 
 ghost use Rattle.std.specs.Prelude.{◌≡◌, ◌<◌, ◌∷◌, length, IfOk};
-ghost use Rattle.part_layout.specs.Inside.{lists_of};
+ghost use Rattle.part_layout.specs.Kept.{lists_of};
 ghost use Rattle.part_layout.specs.ReadOn.{parts_left, BeginsWith, IsRest};
 
 use crate::cursor::next_position;

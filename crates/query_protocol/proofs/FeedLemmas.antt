@@ -7,7 +7,9 @@ use Rattle.std.proofs.lemmas.Str.Parse.{numerals_by_value, tells_digits, digit_f
 use Rattle.std.specs.Int.{IsInRange}
 use Rattle.std.specs.List.{list_all}
 use Rattle.std.specs.Str.Parse.{AllDigits}
-use Rattle.query_protocol.specs.Forms.{is_tag, is_letter_or_digit}
+use Rattle.line_forms.specs.Forms.{is_tag, is_letter_or_digit}
+use Rattle.part_layout.specs.Text.{layout_text, is_layout_byte, HasLayoutBytes, IsTextOfLayout}
+use Rattle.part_layout.specs.Laid.{Laid, IsLaid}
 use Rattle.query_protocol.specs.Replies as reply
 use Rattle.query_protocol.specs.Replies.{LineReply, has_no_feed, IsWritten, IsSigned64, reply_text, fault_text, threshold_text, thresholds_text}
 use Rattle.query_protocol.specs.declared.bad.Bad.{Bad}
@@ -70,6 +72,27 @@ tag_no_feed tag is =
     letters_no_feed tag
     (parts (nat_le 1 (length tag) && nat_le (length tag) 16) (list_all is_letter_or_digit tag) is).1
 
+-- a byte of a layout's text, by whether it is a line feed
+layout_step : (byte : ℕ) (feed : Bool) → (byte == 10) ≡ feed → is_layout_byte byte ≡ true → not feed ≡ true
+layout_step byte true passed is =
+    let Is : ℕ → Type 0 = λ (n : ℕ). is_layout_byte n ≡ true in subst Is (feed_is byte passed) is
+layout_step byte false passed is = refl
+
+-- digits, commas and slashes
+marks_no_feed : (bytes : List ℕ) → HasLayoutBytes bytes → has_no_feed bytes ≡ true
+marks_no_feed [] all = refl
+marks_no_feed (byte ∷ bytes) all =
+    let split = parts (is_layout_byte byte) (list_all is_layout_byte bytes) all in
+    both (not (byte == 10)) (has_no_feed bytes) (layout_step byte (byte == 10) refl split.0) (marks_no_feed bytes split.1)
+
+-- the texts of layouts have only such bytes
+abbrev AllHaveLayoutBytes : Type 0
+AllHaveLayoutBytes = (layout : Laid) → IsLaid layout → HasLayoutBytes (layout_text layout.parts)
+
+-- the text of a layout
+layout_no_feed : AllHaveLayoutBytes → (text : List ℕ) → IsTextOfLayout text → has_no_feed text ≡ true
+layout_no_feed each text is = rw is.2 (marks_no_feed (layout_text is.0.parts) (each is.0 is.1))
+
 -- a text with three parts of its own, in the order word, text, word, text
 four : (a b c d : List ℕ) → has_no_feed a ≡ true → has_no_feed b ≡ true → has_no_feed c ≡ true → has_no_feed d ≡ true
     → has_no_feed (a ++ b ++ c ++ d) ≡ true
@@ -107,34 +130,34 @@ fault_no_feed fault number word = step (fault.number == 5)
     step false = no_feed_joined (codes "bad " ++ decimal fault.number) [] front refl
 
 -- the text of a reply
-pub reply_no_feed : (one : LineReply) → IsWritten one → has_no_feed (reply_text one) ≡ true
-reply_no_feed (reply.Added key at) is =
+pub reply_no_feed : AllHaveLayoutBytes → (one : LineReply) → IsWritten one → has_no_feed (reply_text one) ≡ true
+reply_no_feed each (reply.Added key at) is =
     four (codes "added ") (decimal key) (codes " at ") (decimal at) refl (number_no_feed key is.0) refl (number_no_feed at is.1)
-reply_no_feed (reply.Taken key at) is =
+reply_no_feed each (reply.Taken key at) is =
     four (codes "taken ") (decimal key) (codes " at ") (decimal at) refl (number_no_feed key is.0) refl (number_no_feed at is.1)
-reply_no_feed (reply.Full at) is = no_feed_joined (codes "full at ") (decimal at) refl (number_no_feed at is)
-reply_no_feed (reply.Open tag at) is =
+reply_no_feed each (reply.Full at) is = no_feed_joined (codes "full at ") (decimal at) refl (number_no_feed at is)
+reply_no_feed each (reply.Open tag at) is =
     four (codes "open ") tag (codes " at ") (decimal at) refl (tag_no_feed tag is.0) refl (number_no_feed at is.1)
-reply_no_feed (reply.Hit tag dist key) is =
+reply_no_feed each (reply.Hit tag dist key) is =
     no_feed_joined (codes "hit " ++ tag ++ codes " " ++ decimal dist ++ codes " ") (decimal key)
     (no_feed_joined (codes "hit " ++ tag ++ codes " " ++ decimal dist) (codes " ")
     (four (codes "hit ") tag (codes " ") (decimal dist) refl (tag_no_feed tag is.0) refl (number_no_feed dist is.1)) refl)
     (number_no_feed key is.2)
-reply_no_feed (reply.More tag) is = no_feed_joined (codes "more ") tag refl (tag_no_feed tag is)
-reply_no_feed (reply.Done tag count) is =
+reply_no_feed each (reply.More tag) is = no_feed_joined (codes "more ") tag refl (tag_no_feed tag is)
+reply_no_feed each (reply.Done tag count) is =
     four (codes "done ") tag (codes " ") (decimal count) refl (tag_no_feed tag is.0) refl (number_no_feed count is.1)
-reply_no_feed (reply.Cost tag reads bound) is =
+reply_no_feed each (reply.Cost tag reads bound) is =
     no_feed_joined (codes "cost " ++ tag ++ codes " reads " ++ decimal reads ++ codes " bound ") (decimal bound)
     (no_feed_joined (codes "cost " ++ tag ++ codes " reads " ++ decimal reads) (codes " bound ")
     (four (codes "cost ") tag (codes " reads ") (decimal reads) refl (tag_no_feed tag is.0) refl (number_no_feed reads is.1)) refl)
     (number_no_feed bound is.2)
-reply_no_feed (reply.Plan tag shard cost thresholds) is =
+reply_no_feed each (reply.Plan tag shard cost thresholds) is =
     no_feed_joined (codes "plan " ++ tag ++ codes " " ++ decimal shard ++ codes " cost " ++ decimal cost) (thresholds_text thresholds)
     (no_feed_joined (codes "plan " ++ tag ++ codes " " ++ decimal shard ++ codes " cost ") (decimal cost)
     (no_feed_joined (codes "plan " ++ tag ++ codes " " ++ decimal shard) (codes " cost ")
     (four (codes "plan ") tag (codes " ") (decimal shard) refl (tag_no_feed tag is.0) refl (number_no_feed shard is.1)) refl)
     (number_no_feed cost is.2)) (thresholds_no_feed thresholds is.3)
-reply_no_feed (reply.Layout shard text) is =
-    four (codes "layout ") (decimal shard) (codes " ") text refl (number_no_feed shard is.0) refl is.1
-reply_no_feed (reply.Bad fault) is = fault_no_feed fault is.0 is.1
-reply_no_feed reply.NoMemory is = refl
+reply_no_feed each (reply.Layout shard text) is =
+    four (codes "layout ") (decimal shard) (codes " ") text refl (number_no_feed shard is.0) refl (layout_no_feed each text is.1)
+reply_no_feed each (reply.Bad fault) is = fault_no_feed fault is.0 is.1
+reply_no_feed each reply.NoMemory is = refl

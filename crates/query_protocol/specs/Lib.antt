@@ -1,5 +1,2 @@
-pub mod TagLayout
-pub mod Words
-pub mod Forms
 pub mod Requests
 pub mod Replies

@@ -2,7 +2,8 @@
 use Rattle.std.specs.Prelude.{◌≡◌, ℕ, ◌<◌, ◌^◌, ◌==◌, not, Bool, true, if◌then◌else◌, List, [], ◌∷◌, ◌++◌, All, ℤ, pos, negsuc, suc, codes, decimal}
 use Rattle.std.specs.Fmt.{signed_decimal}
 use Rattle.std.specs.List.{flat_map, list_all}
-use Rattle.query_protocol.specs.Forms.{is_tag}
+use Rattle.line_forms.specs.Forms.{is_tag}
+use Rattle.part_layout.specs.Text.{IsTextOfLayout}
 use Rattle.query_protocol.specs.declared.bad.Bad as fault
 use Rattle.query_protocol.specs.declared.reply.Reply.{Reply}
 use Rattle.query_protocol.specs.declared.reply.Reply.TheVariants as reply
@@ -85,7 +86,7 @@ abbrev pub IsSigned64 : ℤ → Type 0
 IsSigned64 (pos number) = IsWord64 number
 IsSigned64 (negsuc number) = IsWord64 (suc number)
 
--- what a reply may hold: numbers of at most 64 bits, tags of the form of tags, and a layout's text with no line feed
+-- what a reply may hold: numbers of at most 64 bits, tags of the form of tags, and the texts of layouts
 abbrev pub IsWritten : LineReply → Type 0
 IsWritten (Added key at) = IsWord64 key × IsWord64 at
 IsWritten (Taken key at) = IsWord64 key × IsWord64 at
@@ -97,6 +98,6 @@ IsWritten (Done tag count) = (is_tag tag ≡ true) × IsWord64 count
 IsWritten (Cost tag reads bound) = (is_tag tag ≡ true) × IsWord64 reads × IsWord64 bound
 IsWritten (Plan tag shard cost thresholds) =
     (is_tag tag ≡ true) × IsWord64 shard × IsWord64 cost × All IsSigned64 thresholds
-IsWritten (Layout shard text) = IsWord64 shard × (has_no_feed text ≡ true)
+IsWritten (Layout shard text) = IsWord64 shard × IsTextOfLayout text
 IsWritten (Bad fault) = IsWord64 fault.number × IsWord64 fault.word
 IsWritten NoMemory = Unit {0}

@@ -1,10 +1,10 @@
 -- What a line asks, or its first fault. Codes here have just their own bits.
-use Rattle.std.specs.Prelude.{◌≡◌, ℕ, ◌*◌, ◌≤◌, not, nat_lt, if◌then◌else◌, List, [], ◌∷◌, length, take, codes, Option, Some, None, Result, Ok, Err}
+use Rattle.std.specs.Prelude.{◌≡◌, ℕ, ◌≤◌, not, nat_lt, if◌then◌else◌, List, [], ◌∷◌, length, take, codes, Option, Some, None, Result, Ok, Err}
 use Rattle.std.specs.Str.{bytes_eq}
-use Rattle.hamming_model.specs.Codes.{padded, StandsFor}
+use Rattle.hamming_model.specs.Codes.{StandsFor}
 use Rattle.part_layout.specs.declared.config.Config.{Config}
-use Rattle.query_protocol.specs.Words.{words, is_printable}
-use Rattle.query_protocol.specs.Forms.{key_of, radius_of, count_of, code_of, shard_of, tag_of}
+use Rattle.line_forms.specs.Words.{words, is_printable}
+use Rattle.line_forms.specs.Forms.{key_of, radius_of, count_of, code_of, shard_of, tag_of}
 use Rattle.query_protocol.specs.declared.bad.Bad.{Bad}
 use Rattle.query_protocol.specs.declared.request.Request.{Request}
 use Rattle.query_protocol.specs.declared.request.Request.TheVariants as kept
@@ -135,22 +135,6 @@ abbrev pub reading : Config → List ℕ → LineReading
 reading config line =
     if nat_lt 4096 (length line) then Err (bad 1) else
     if not (is_printable line) then Err (bad 2) else of_words config (words line)
-
--- a request with its code as W words of 64 bits keep it
-abbrev pub stored : (W : ℕ) → LineRequest → Request W
-stored W (Add key code) = kept.Add key (padded (64 * W) code)
-stored W (Range tag tau code) = kept.Range tag tau (padded (64 * W) code)
-stored W (Next tag n) = kept.Next tag n
-stored W (Cost tag) = kept.Cost tag
-stored W (Plan tag shard) = kept.Plan tag shard
-stored W (Layout shard) = kept.Layout shard
-stored W Quit = kept.Quit
-
--- a reading with its code so
-abbrev pub stored_reading : (W : ℕ) → LineReading → Result (Option (Request W)) Bad
-stored_reading W (Ok None) = Ok None
-stored_reading W (Ok (Some request)) = Ok (Some (stored W request))
-stored_reading W (Err fault) = Err fault
 
 -- what a request asks, its code cut to so many bits
 abbrev pub unstored : {W : ℕ} → ℕ → Request W → LineRequest

@@ -3,12 +3,11 @@
 ghost use Rattle.std.specs.Prelude.{◌≡◌, ℕ, ◌≤◌, length};
 ghost use Rattle.gph_codes.specs.Allowed.{IsAllowed};
 ghost use Rattle.line_io.specs.declared.cutter.TheConstants.{LINE_MOST};
-ghost use Rattle.query_protocol.specs.Words.{words};
-ghost use Rattle.query_protocol.specs.Requests.{reading, of_words, stored_reading, request_word, with_words, add_asked, range_asked, next_asked, cost_asked, plan_asked, layout_asked, quit_asked, ReadsAs};
+ghost use Rattle.line_forms.specs.Words.{words};
+ghost use Rattle.query_protocol.specs.Requests.{reading, of_words, request_word, with_words, add_asked, range_asked, next_asked, cost_asked, plan_asked, layout_asked, quit_asked, ReadsAs};
 
-use crate::forms::{code_of, count_of, key_of, radius_of, shard_of};
-use crate::words::{is_printable, next_word};
-use crate::{Bad, Request, RequestWord, Tag};
+use crate::{Bad, Request, RequestWord};
+use line_forms::{Tag, code_of, count_of, is_printable, key_of, next_word, radius_of, shard_of};
 use part_layout::Config;
 
 /// What a line asks of a server that was asked for so: None where the line has no word, else a request or the
@@ -22,7 +21,6 @@ pub fn read_line<const W: usize>(config: &Config, line: &[u8]) -> Result<Option<
     requires allowed { IsAllowed W config.now.bits }
     requires short { length line.now ≤ LINE_MOST }
     ensures reads { ReadsAs W config.now.bits result (reading config.now line.now) }
-    ensures stored { result ≡ stored_reading W (reading config.now line.now) }
 {
     if !is_printable(line) {
         return Err(Bad::no_text());

@@ -4,7 +4,8 @@ ghost use Rattle.query_protocol.specs.Replies.{reply_line, line_of, threshold_te
 ghost use Rattle.hamming_model.specs.declared.limits.TheConstants.{PARTS_MOST};
 ghost use Rattle.query_protocol.specs.Replies as reply;
 
-use crate::{Bad, Tag};
+use crate::Bad;
+use line_forms::Tag;
 use line_io::LineBuf;
 use part_layout::LayoutText;
 

@@ -1,5 +1,5 @@
-use crate::Tag;
 use gph_codes::Code;
+use line_forms::Tag;
 
 /// The first word of a request.
 #[derive(Clone, Copy, Debug, PartialEq, Eq)]

@@ -1,6 +1,6 @@
 use Rattle.std.proofs.Common.{ℕ, ◌∷◌, List, map, string_bytes, option_copied, sym, arith}
 use Rattle.std.proofs.lemmas.Result.{err_from_is_err_and}
-use Rattle.command_line.specs.CommandWords.{in_one_word, in_two_words}
+use Rattle.command_line.specs.WrittenOptions.{in_one_word, in_two_words}
 use Rattle.command_line.proofs.GivenLemmas.{after_one, after_two, fault_two}
 use Rattle.command_line.proofs.command_words.read_options.Goals as goal
 

@@ -1,6 +1,7 @@
 use Rattle.std.proofs.Common.{◌≡◌, ◌+◌, ◌*◌, ◌≤◌, List, [], length, map, string_bytes}
-use Rattle.command_line.specs.CommandWords.{Written, asked_after, written}
-use Rattle.command_line.specs.GivenValues.{kept, size}
+use Rattle.command_line.specs.CommandWords.{asked_after}
+use Rattle.command_line.specs.WrittenOptions.{Written, written}
+use Rattle.command_line.specs.Kept.{kept, size}
 use Rattle.command_line.proofs.command_words.read_options.Given as goal
 
 abbrev pub invariant-loop-word : goal.invariant-loop-word

@@ -6,8 +6,8 @@ use Rattle.part_layout.proofs.judging.first_wide.Goals as goal
 pub loop-listed-init : goal.loop-listed-init
 loop-listed-init c = (c.requires.rest, lit≤ tt, omega (arith, c.requires.few), wide_start 0 (parts_left c.args.text.now))
 
-pub returns-then-width-gt12 : goal.returns-then-width-gt12
-returns-then-width-gt12 c =
+pub returns-then-width-gt-PART_WIDTH_MOST : goal.returns-then-width-gt-PART_WIDTH_MOST
+returns-then-width-gt-PART_WIDTH_MOST c =
     sym
     (c.loop-listed.invariant.3
     ∙ wide_here c.loop-listed.part c.loop-listed.width c.in-Some.listed (parts_left c.loop-listed.rest.now) (parts_left c.in-Some.after.now)

@@ -1,6 +1,6 @@
 use Rattle.std.proofs.Common.{◌≡◌, ◌++◌}
 use Rattle.part_layout.specs.Contiguous.{runs}
-use Rattle.part_layout.specs.Inside.{lists_of}
+use Rattle.part_layout.specs.Kept.{lists_of}
 use Rattle.part_layout.proofs.pieces.push_runs.Given as goal
 
 abbrev pub invariant-loop-i : goal.invariant-loop-i

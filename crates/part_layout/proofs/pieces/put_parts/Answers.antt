@@ -2,7 +2,7 @@ use Rattle.std.proofs.Common.{◌≡◌, ◌<◌, ◌∙◌, ℕ, List, [], ap, 
 use Rattle.std.proofs.lemmas.List.{length-map}
 use Rattle.std.proofs.lemmas.List.Folds.{length-flat_map-take}
 use Rattle.std.specs.Global.{Vec}
-use Rattle.part_layout.specs.Inside.{lists_of}
+use Rattle.part_layout.specs.Kept.{lists_of}
 use Rattle.part_layout.specs.Text.{part_text}
 use Rattle.part_layout.proofs.LayoutLemmas.{own_part}
 use Rattle.part_layout.proofs.TextLemmas.{flat_step, length-mark_before, next_piece}

@@ -1,6 +1,6 @@
 use Rattle.std.proofs.Common.{◌≡◌, ◌+◌, ◌*◌, min, ◌≤◌, length, take}
 use Rattle.std.specs.List.{flat_map}
-use Rattle.part_layout.specs.Inside.{lists_of}
+use Rattle.part_layout.specs.Kept.{lists_of}
 use Rattle.part_layout.specs.Text.{layout_text}
 use Rattle.part_layout.proofs.pieces.put_parts.Given as goal
 

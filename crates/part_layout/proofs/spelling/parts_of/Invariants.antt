@@ -1,5 +1,5 @@
 use Rattle.std.proofs.Common.{◌≡◌, ◌++◌, length}
-use Rattle.part_layout.specs.Inside.{lists_of}
+use Rattle.part_layout.specs.Kept.{lists_of}
 use Rattle.part_layout.specs.ReadOn.{parts_left, IsRest}
 use Rattle.part_layout.proofs.spelling.parts_of.Given as goal
 

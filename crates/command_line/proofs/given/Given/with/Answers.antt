@@ -1,12 +1,12 @@
 use Rattle.std.proofs.Common.{◌≡◌, ℕ, Option, option_copied, Some, sym, ap}
-use Rattle.command_line.specs.CommandWords.{setting}
-use Rattle.command_line.specs.declared.given.Entry.{Entry}
+use Rattle.command_line.specs.WrittenOptions.{setting}
+use Rattle.command_line.specs.declared.given.GivenNumber.{GivenNumber}
 use Rattle.command_line.proofs.GivenLemmas.{kept_with}
 use Rattle.command_line.proofs.given.Given.with.Goals as goal
 
 pub returns-then-is_value-clause-value : goal.returns-then-is_value-clause-value
 returns-then-is_value-clause-value c = λ before same.
-    let entry : Option ℕ → Entry = λ (number : Option ℕ). record { number = number; place = c.args.value_place } in
+    let entry : Option ℕ → GivenNumber = λ (number : Option ℕ). record { number = number; place = c.args.value_place } in
     let stands : option_copied c.args.value ≡ Some c.in-Some-value.value.now = rw c.in-Some-value.is in
     kept_with before (setting c.args.name.now c.args.place (option_copied c.args.value) c.args.value_place) c.in-Some.option
     c.in-Some-value.value.now c.args.self c.put.result (entry c.number-number.result) (sym c.in-Some.ensures) same

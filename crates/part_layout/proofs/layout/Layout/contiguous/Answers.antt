@@ -12,8 +12,8 @@ invariant_of-result c =
           (number_ok c.args.bits c.args.parts (omega arith) (omega arith) (omega arith)) (omega arith));
     }
 
-pub returns-then-first_width-gt12-clause-memory : goal.returns-then-first_width-gt12-clause-memory
-returns-then-first_width-gt12-clause-memory c =
+pub returns-then-first_width-gt-PART_WIDTH_MOST-clause-memory : goal.returns-then-first_width-gt-PART_WIDTH_MOST-clause-memory
+returns-then-first_width-gt-PART_WIDTH_MOST-clause-memory c =
     let wide = cut_wide c.args.bits c.args.parts (omega arith) (omega arith) in
     ((λ same. absurd (let both = same in cc)), (λ can. absurd (let holds = cut_holds c.args.bits c.args.parts can in omega arith)))
 

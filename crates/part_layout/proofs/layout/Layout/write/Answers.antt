@@ -1,5 +1,5 @@
 use Rattle.std.proofs.Common.{length, arith}
-use Rattle.part_layout.specs.Inside.{lists_of}
+use Rattle.part_layout.specs.Kept.{lists_of}
 use Rattle.part_layout.proofs.LayoutLemmas.{layout_fits}
 use Rattle.part_layout.proofs.layout.Layout.write.Goals as goal
 

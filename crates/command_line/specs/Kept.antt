@@ -1,0 +1,84 @@
+-- How the reader keeps what the options were given. No public clause cites this module.
+use Rattle.std.specs.Prelude.{◌≡◌, ℕ, ◌+◌, ◌/◌, ◌%◌, ◌≤◌, if◌then◌else◌, List, [], ◌∷◌, Option, Some, None, IfSome, unwrap_or, Result, Ok, Err}
+use Rattle.std.specs.Option.{option_map, option_and_then}
+use Rattle.hamming_model.specs.declared.limits.TheConstants.{BITS_MOST}
+use Rattle.part_layout.specs.Contiguous.{can_be_cut}
+use Rattle.command_line.specs.CommandOptions.{least, greatest}
+use Rattle.command_line.specs.CommandWords.{number_given, or_fault}
+use Rattle.command_line.specs.WrittenOptions.{Written, given, fault_of}
+use Rattle.command_line.specs.declared.command_option.CommandOption.{CommandOption}
+use Rattle.command_line.specs.declared.command_option.CommandOption.TheVariants.{Bits, Parts, Input}
+use Rattle.command_line.specs.declared.given.GivenNumber.{GivenNumber}
+use Rattle.command_line.specs.declared.given.Given.{Given}
+
+-- what is kept of one option
+abbrev pub entry_of : CommandOption → Written → GivenNumber
+entry_of option one = record { number = number_given option one; place = one.value_place }
+
+-- what is kept of an option, if it was given
+abbrev pub entry_in : CommandOption → List Written → Option GivenNumber
+entry_in option settings = option_map (entry_of option) (given option settings)
+
+-- what is kept of an option
+abbrev pub entry_at : CommandOption → Given → Option GivenNumber
+entry_at Bits given = given.bits
+entry_at Parts given = given.parts
+entry_at Input given = given.input
+
+-- what is kept once an option is given
+abbrev pub put : CommandOption → GivenNumber → Given → Given
+put Bits entry given = record given { bits = Some entry }
+put Parts entry given = record given { parts = Some entry }
+put Input entry given = record given { input = Some entry }
+
+-- the number of an entry, or else a default
+abbrev pub entry_number_or : ℕ → Option GivenNumber → ℕ
+entry_number_or default entry = unwrap_or (option_and_then (λ kept. kept.number) entry) default
+
+-- the parts of an entry, judged against the bits, and eight bits each where there is none
+abbrev pub entry_parts_or : ℕ → Option GivenNumber → Result ℕ ℕ
+entry_parts_or bits None = Ok (bits / 8)
+entry_parts_or bits (Some entry) =
+    elim entry.number [ None ↦ Err entry.place | Some parts ↦ if can_be_cut bits parts then Ok parts else Err entry.place ]
+
+-- one for an option that was given
+abbrev pub present : Option GivenNumber → ℕ
+present None = 0
+present (Some entry) = 1
+
+-- how many options were given
+abbrev pub size : Given → ℕ
+size given = present given.bits + present given.parts + present given.input
+
+-- what is kept of the options
+abbrev pub kept : List Written → Given
+kept settings = record { bits = entry_in Bits settings; parts = entry_in Parts settings; input = entry_in Input settings }
+
+-- what is kept after one more option, or its fault
+abbrev pub kept_after : List Written → Written → Result Given ℕ
+kept_after before one = or_fault (fault_of before one) (Ok (kept (one ∷ before)))
+
+-- a number that an option may be given
+abbrev pub IsNumberOf : CommandOption → ℕ → Type 0
+IsNumberOf Bits number = (8 ≤ number) × (number ≤ BITS_MOST) × (number % 8 ≡ 0)
+IsNumberOf option number = (least option ≤ number) × (number ≤ greatest option)
+
+-- the number of an entry, if there is one, is such a number
+abbrev pub IsEntryOf : CommandOption → Option GivenNumber → Type 0
+IsEntryOf option entry = IfSome entry (λ kept. IfSome kept.number (IsNumberOf option))
+
+-- each entry is one of its option
+pub record AreEntries (given : Given) : Type 0 where
+  pub of_bits : IsEntryOf Bits given.bits
+  pub of_parts : IsEntryOf Parts given.parts
+  pub of_input : IsEntryOf Input given.input
+
+-- the next word, if there is one
+abbrev pub next_in : List (List ℕ) → Option (List ℕ)
+next_in [] = None
+next_in (word ∷ words) = Some word
+
+-- the words after the next one
+abbrev pub after_next : List (List ℕ) → List (List ℕ)
+after_next [] = []
+after_next (word ∷ words) = words

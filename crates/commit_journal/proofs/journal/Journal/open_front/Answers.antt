@@ -1,0 +1,42 @@
+-- One live front more.
+use Rattle.std.proofs.Common.{subst}
+use Rattle.commit_journal.specs.Fronts.{front_of}
+use Rattle.commit_journal.specs.Journals.{JournalState, KeepsFronts, Opens}
+use Rattle.commit_journal.specs.Kept.{journal_of}
+use Rattle.commit_journal.proofs.JournalLemmas.{slab_keeps, slab_kept, slab_knows, slab_lives, slab_opens}
+use Rattle.commit_journal.proofs.journal.Journal.open_front.Goals as goal
+
+pub invariant_of-self-2 : goal.invariant_of-self-2
+invariant_of-self-2 g c =
+    let inside = c.self.inside in
+    slab_kept inside.entries c.in_ok-entries.entries inside.live c.insert.new.self inside.next inside.limit c.in-Ok.id c.args.who c.len-position.result c.len-position.ensures.number
+    c.in-Ok.ensures.updates g.row.W inside.rows.entries c.self.invariant
+
+pub returns-clause-opened : goal.returns-clause-opened
+returns-clause-opened g c =
+    let inside = c.self.inside in
+    let after = journal_of inside.entries c.insert.new.self inside.next inside.limit in
+    let front = front_of c.in-Ok.id c.args.who c.in_ok-older.older.items c.in_ok-entries.entries in
+    subst (λ (before : JournalState). Opens before after c.args.who front) c.self.view_is
+    (slab_opens inside.entries c.in_ok-entries.entries inside.live c.insert.new.self inside.next inside.limit c.in-Ok.id c.args.who c.len-position.result c.len-position.ensures.number
+    c.in-Ok.ensures.updates c.in_ok-older.older.items c.in_ok-entries.ensures c.in_ok-older.ensures c.in-Ok.ensures.was_vacant)
+
+pub returns-clause-live : goal.returns-clause-live
+returns-clause-live g c =
+    let inside = c.self.inside in
+    slab_lives inside.entries c.in_ok-entries.entries inside.live c.insert.new.self inside.next inside.limit c.in-Ok.id c.args.who c.len-position.result c.len-position.ensures.number
+    c.in-Ok.ensures.updates c.in_ok-older.older.items c.in_ok-entries.ensures
+
+pub returns-clause-known : goal.returns-clause-known
+returns-clause-known g c =
+    let inside = c.self.inside in
+    slab_knows inside.entries c.in_ok-entries.entries inside.live c.insert.new.self inside.next inside.limit c.in-Ok.id c.args.who c.len-position.result c.len-position.ensures.number
+    c.in-Ok.ensures.updates c.in_ok-older.older.items c.in_ok-entries.ensures c.in_ok-older.ensures
+
+pub returns-clause-fronts : goal.returns-clause-fronts
+returns-clause-fronts g c =
+    let inside = c.self.inside in
+    let after = journal_of inside.entries c.insert.new.self inside.next inside.limit in
+    subst (λ (before : JournalState). KeepsFronts before after) c.self.view_is
+    (slab_keeps inside.entries c.in_ok-entries.entries inside.live c.insert.new.self inside.next inside.limit c.in-Ok.id c.args.who c.len-position.result c.len-position.ensures.number
+    c.in-Ok.ensures.updates)

@@ -1,0 +1,4 @@
+pub mod CodeLemmas
+pub mod FormLemmas
+pub mod JoinedLemmas
+pub mod WordLemmas

@@ -1,0 +1,7 @@
+use Rattle.std.proofs.Common.{◌≡◌, ◌+◌}
+use Rattle.versioned_shard.specs.Shards.{contents_at}
+use Rattle.versioned_shard.specs.Way.{Reaches}
+use Rattle.versioned_shard.proofs.follow.reached.Given as goal
+
+abbrev pub invariant-loop-i : goal.invariant-loop-i
+invariant-loop-i g l = Reaches l.front.entries (contents_at l.version) l.i l.next.contents × (l.steps + l.at ≡ l.initial.steps + l.i)

@@ -1,0 +1,4 @@
+pub mod Along
+pub mod Rule
+pub mod Shards
+pub mod Way
