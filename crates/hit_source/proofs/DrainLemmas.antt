@@ -23,19 +23,19 @@ pub takes_again : (a : Asked) (old mid new : Standing) (before at after : List H
     → Takes a mid new at after → Takes a old new before after
 takes_again a old mid new before at after first then =
     let both : new.given - old.given ≡ (mid.given - old.given) + (new.given - mid.given) =
-        omega (arith, first.rises, then.rises) in
+    omega (arith, first.rises, then.rises) in
     let to_mid : old.given + (mid.given - old.given) ≡ mid.given = omega (arith, first.rises) in
     let rest : drop (mid.given - old.given) (drop old.given a.hits) ≡ drop mid.given a.hits =
-        drop-drop (mid.given - old.given) old.given a.hits ∙ ap (λ n. drop n a.hits) to_mid in
+    drop-drop (mid.given - old.given) old.given a.hits ∙ ap (λ n. drop n a.hits) to_mid in
     record {
       rises = omega (arith, first.rises, then.rises);
       next = then.next
           ∙ ap (λ hits. hits ++ take (new.given - mid.given) (drop mid.given a.hits)) first.next
           ∙ append_assoc before (take (mid.given - old.given) (drop old.given a.hits))
-              (take (new.given - mid.given) (drop mid.given a.hits))
+          (take (new.given - mid.given) (drop mid.given a.hits))
           ∙ ap (λ hits. before ++ hits) (
           ap (λ hits. take (mid.given - old.given) (drop old.given a.hits) ++ take (new.given - mid.given) hits)
-              (sym rest)
+          (sym rest)
           ∙ sym (take-add (mid.given - old.given) (new.given - mid.given) (drop old.given a.hits))
           ∙ ap (λ n. take n (drop old.given a.hits)) (sym both)
           );
@@ -93,7 +93,7 @@ pub takes_more : (a b : Asked) (old mid new : Standing) (result : Option Hit) (h
 takes_more a b old mid new result hit before at after same takes law first pops pushed =
     takes_again a old mid new before at after takes (
     subst (λ hits. Takes a mid new at hits) (sym pushed)
-        (takes_first a mid new result hit at (subst (λ x. IsLawful x mid) same law) first pops)
+    (takes_first a mid new result hit at (subst (λ x. IsLawful x mid) same law) first pops)
     )
 
 -- hits taken after a call that gave none
@@ -101,7 +101,7 @@ pub takes_further : (a b : Asked) (old mid waited new : Standing) (before at aft
     → Takes a old mid before at → waited.given ≡ mid.given → Takes b waited new at after → Takes a old new before after
 takes_further a b old mid waited new before at after same takes none more =
     takes_again a old waited new before at after (takes_same a old mid waited before at takes none)
-        (subst (λ x. Takes x waited new at after) same more)
+    (subst (λ x. Takes x waited new at after) same more)
 
 one_less : (hits : List Hit) → length (take 1 hits) + length (drop 1 hits) ≡ length hits
 one_less [] = refl
@@ -139,8 +139,18 @@ nearer_end budget a b c old waited new from to Moved goes some same again none p
 nearer_end budget a b c old waited new from to Full goes some same again none polls gives empty law =
     let hits : length c.hits ≡ length a.hits = ap (λ (x : Asked). length x.hits) (again ∙ same) in
     let full = polls.answers.full.0 refl in
-    omega (arith, hits, full.1, some, polls.spends.units, polls.given, gives.units, gives.reached, ap length empty,
-        law.within)
+    omega (
+      arith,
+      hits,
+      full.1,
+      some,
+      polls.spends.units,
+      polls.given,
+      gives.units,
+      gives.reached,
+      ap length empty,
+      law.within,
+    )
 
 -- hits taken after a poll that ended the source are all that were left
 pub drained_then : (a b : Asked) (old waited new : Standing) (before after : List Hit) → b ≡ a

@@ -101,8 +101,8 @@ moved_on a s answers (inr full) = go s.ended refl
 module _ (budget count : ℕ) (a b : Asked) (old new : Standing) (from to : ℕ) (result : Polled) (some : 1 ≤ budget)
     (none : old.waiting ≡ []) (same : b ≡ a)
     (works : Works old.floor count old new from to) (within : count ≤ budget)
-        (stops : (count ≡ budget) ⊎ (IsStopped b new ⊎ AwaitsRadius b old.floor new))
-        (answers : PollAnswers b new result) where
+    (stops : (count ≡ budget) ⊎ (IsStopped b new ⊎ AwaitsRadius b old.floor new))
+    (answers : PollAnswers b new result) where
   whole_or_waits : result ≡ Moved → (count ≡ budget) ⊎ AwaitsRadius b old.floor new
   whole_or_waits moved = go stops
     where
@@ -116,7 +116,7 @@ module _ (budget count : ℕ) (a b : Asked) (old new : Standing) (from to : ℕ)
   none_idle waits idle =
       let empty : length old.waiting ≡ 0 = ap length none in
       waits.onward (nil_from_length new.waiting (omega (arith, works.spent, works.rises, works.farther, empty, idle)))
-          (works.idle idle)
+      (works.idle idle)
 
   -- a poll is at most a budget of units of work, and stops before the budget is spent only where none can be done, or a radius would be begun above the floor
   pub polls_by_work : Polls budget a old new from to result
@@ -157,10 +157,10 @@ module _ (budget count : ℕ) (a b : Asked) (old new : Standing) (from to : ℕ)
 pub polls_by_range : (budget count : ℕ) (a b : Asked) (old new : Standing) (from to : ℕ) (result : Polled) → 1 ≤ budget
     → old.waiting ≡ [] → b ≡ a → new.begun ≡ old.begun
     → Works None count old new from to → count ≤ budget → (count ≡ budget) ⊎ IsStopped b new → PollAnswers b new result
-        → Polls budget a old new from to result
+    → Polls budget a old new from to result
 polls_by_range budget count a b old new from to result some none same still works within stops answers =
     polls_by_work budget count a b old new from to result some none same
-        (works_at None old.floor count old new from to still works) within (stopped stops) answers
+    (works_at None old.floor count old new from to still works) within (stopped stops) answers
   where
     stopped : (count ≡ budget) ⊎ IsStopped b new → (count ≡ budget) ⊎ (IsStopped b new ⊎ AwaitsRadius b old.floor new)
     stopped (inl all) = inl all

@@ -27,7 +27,7 @@ window_floor a w reads ended units hits up is ends = record {
     to : first_distance (left_of w) ≡ None → (w.given ≡ length w.found) × (ended ≡ true)
     to none =
         let all : w.given ≡ length w.found =
-            omega (arith, none_where_empty (left_of w) none, length-drop w.given w.found, is.behind, is.among) in
+        omega (arith, none_where_empty (left_of w) none, length-drop w.given w.found, is.behind, is.among) in
         (all, ends all)
 
     back : (w.given ≡ length w.found) × (ended ≡ true) → first_distance (left_of w) ≡ None
@@ -49,8 +49,8 @@ pub listed_lawful : (w : Window) (reads : ℕ) → IsListed w reads
     → IsLawful (asked_of_list w.found w.room) (standing_of_list w reads)
 listed_lawful w reads is =
     let fits : reached (standing_of_list w reads) ≡ w.moved =
-        window_reached w reads (w.moved == length w.found) ((length w.found - reads) + (length w.found - w.moved))
-        is.window in
+    window_reached w reads (w.moved == length w.found) ((length w.found - reads) + (length w.found - w.moved))
+    is.window in
     record {
       asked = listed_asked w reads is;
       window = window_prefix w is.window;

@@ -107,7 +107,10 @@ fn compare<R: Abort + Threads + Sync + Env>(
         if given < limit {
             assert!(rt; gather.more(rt, &NoGate, budget, &mut meters));
             let hit = gather.next(rt, &NoGate, budget, &mut meters);
-            assert!(rt; hit == Some(Hit { dist, key }), "hit {given} of at most {limit}");
+            assert!(rt;
+                hit == Some(Hit { dist, key }),
+                "hit {given} of at most {limit}"
+            );
             given += 1;
         }
     }
@@ -141,7 +144,9 @@ fn a_source_is_polled_only_where_it_may_have_the_next_hit(rt: HostRuntime) -> Re
     assert!(rt; gather.poll_one(1, 1, &mut meters) == Some(Polled::Moved));
     assert!(rt; gather.poll_one(1, 1, &mut meters).is_none());
     assert!(rt; gather.ready() == Some(Hit { dist: 0, key: 7 }));
-    assert!(rt; gather.last() == Some(0) && gather.floor(0) == Some(1) && gather.floor(1) == Some(3));
+    assert!(rt;
+        gather.last() == Some(0) && gather.floor(0) == Some(1) && gather.floor(1) == Some(3)
+    );
     assert!(rt; gather.plan(0) == 3 && gather.thresholds(0).is_empty());
     assert!(rt; gather.cost() == (1, 7));
     let tally = gather.cancel();

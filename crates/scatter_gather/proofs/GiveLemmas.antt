@@ -68,7 +68,7 @@ one_first hit m s first law held l = by_waiting s.standing.waiting refl
     by_floor empty (Some floor) some =
         let above : nat_le floor m ≡ false = rw some at (rw empty at held) in
         let far : All (λ other. floor ≤ other.dist) (drop s.standing.given s.asked.hits) =
-            rw some at law.floor.none_nearer in
+        rw some at law.floor.none_nearer in
         first_by_distance hit floor _ (omega (arith, leb-false floor m above, l)) (recursion_from_All _ _ far)
 
     by_waiting : (waiting : List Hit) → s.standing.waiting ≡ waiting → IsFirst hit (drop s.standing.given s.asked.hits)
@@ -76,7 +76,7 @@ one_first hit m s first law held l = by_waiting s.standing.waiting refl
     by_waiting (head ∷ rest) some =
         let not_after : is_gt (hit_cmp hit head) ≡ false = rw some at first in
         first_of_window head hit rest _ (length s.standing.waiting) (sym some ∙ law.window) not_after
-            (ascends_drop s.standing.given s.asked.hits (ascends_from_sorted s.asked.hits law.asked.ascends))
+        (ascends_drop s.standing.given s.asked.hits (ascends_from_sorted s.asked.hits law.asked.ascends))
 
 all_first : (hit : Hit) (m : ℕ) (sources : List Source) → AllByRecursion (HeadNotBefore hit) sources
     → AreLawful sources → list_any (may_have_next (Some m)) sources ≡ false → hit.dist ≤ m
@@ -140,7 +140,7 @@ best_is_first sources shard hit d law held best = by_least (least_floor sources)
         let is = least_is_one floor_at sources m some in
         let none : list_any (may_have_next (Some m)) sources ≡ false = rw some at held in
         let l : hit.dist ≤ m = least_head hit m (get_or sources is.0 d) (All-from_recursion _ sources law is.0 d is.1)
-            (All-from_recursion _ sources heads is.0 d is.1) (any_at _ sources is.0 d is.1 none) (is.2 d) in
+        (All-from_recursion _ sources heads is.0 d is.1) (any_at _ sources is.0 d is.1 none) (is.2 d) in
         all_first hit m sources heads law none l
 
 head_first : (hit : Hit) (n : ℕ) (hits rest : List Hit) → hit ∷ rest ≡ take n hits → hits ≡ hit ∷ drop 1 hits
@@ -153,15 +153,15 @@ best_split : (g : Gathering) (shard : ℕ) (hit : Hit) (d s : Source) → AreLaw
     → IsBestHead g.sources (length g.sources) shard hit
     → s.asked ≡ (get_or g.sources shard d).asked → s.standing.given ≡ (get_or g.sources shard d).standing.given + 1
     → drop (get_or g.sources shard d).standing.given
-        (get_or g.sources shard d).asked.hits ≡ hit ∷ drop s.standing.given s.asked.hits
+    (get_or g.sources shard d).asked.hits ≡ hit ∷ drop s.standing.given s.asked.hits
 best_split g shard hit d s law best asked given =
     let before : Source = get_or g.sources shard d in
     let waits = has_first before.standing.waiting hit (best.waits d) in
     let window = (All-from_recursion _ g.sources law shard d best.within).window in
     head_first hit (length before.standing.waiting) (drop before.standing.given before.asked.hits) waits.0 (sym waits.1
-        ∙ window)
+    ∙ window)
     ∙ ap (λ hits. hit ∷ hits) (drop-drop 1 before.standing.given before.asked.hits
-        ∙ ap (λ n. drop n before.asked.hits) (sym given) ∙ ap (λ (a : Asked). drop s.standing.given a.hits) (sym asked))
+    ∙ ap (λ n. drop n before.asked.hits) (sym given) ∙ ap (λ (a : Asked). drop s.standing.given a.hits) (sym asked))
 
 -- no hit that is left after the best head was given is before it
 pub best_first_left : (g : Gathering) (shard : ℕ) (hit : Hit) (d s : Source) → IsGathering g → AreLawful g.sources
@@ -170,7 +170,7 @@ pub best_first_left : (g : Gathering) (shard : ℕ) (hit : Hit) (d s : Source) �
     → IsFirst hit (left_hits (set g.sources shard s))
 best_first_left g shard hit d s is law held best asked given =
     (first_permuted hit _ _ (left_permutation g.sources shard d s hit best.within
-        (best_split g shard hit d s law best asked given)) (best_is_first g.sources shard hit d law held best)).1
+    (best_split g shard hit d s law best asked given)) (best_is_first g.sources shard hit d law held best)).1
 
 -- the best head is the next hit of the merge, and the others are those left after it
 pub next_of_merge : (g : Gathering) (shard : ℕ) (hit : Hit) (d s : Source) → IsGathering g → AreLawful g.sources
@@ -179,7 +179,7 @@ pub next_of_merge : (g : Gathering) (shard : ℕ) (hit : Hit) (d s : Source) →
     → drop g.given (merged (all_asked g.sources)) ≡ hit ∷ in_order (left_hits (set g.sources shard s))
 next_of_merge g shard hit d s is law held best asked given =
     is.merge ∙ order_of_permutation _ _ (left_permutation g.sources shard d s hit best.within
-        (best_split g shard hit d s law best asked given))
+    (best_split g shard hit d s law best asked given))
     ∙ order_from_first hit _ (best_first_left g shard hit d s is law held best asked given)
 
 -- the answer that is left is the merge that is left, cut at what the limit leaves
@@ -188,7 +188,7 @@ pub left_of_answer : (g : Gathering) → g.given ≤ g.limit
 left_of_answer g l =
     let e : g.given + (g.limit - g.given) ≡ g.limit = omega (arith, l) in
     ap (λ n. drop g.given (take n (merged (all_asked g.sources)))) (sym e)
-        ∙ drop-take g.given (g.limit - g.given) (merged (all_asked g.sources))
+    ∙ drop-take g.given (g.limit - g.given) (merged (all_asked g.sources))
 
 first_taken : (n : ℕ) (hit : Hit) (hits rest : List Hit) → 1 ≤ n → hits ≡ hit ∷ rest → first_of (take n hits) ≡ Some hit
 first_taken zero hit hits rest l e = absurd (omega arith)
@@ -199,13 +199,13 @@ pub next_of_answer : (g : Gathering) (hit : Hit) (rest : List Hit) → IsGatheri
     → drop g.given (merged (all_asked g.sources)) ≡ hit ∷ rest → first_of (answer_left g) ≡ Some hit
 next_of_answer g hit rest is more next =
     ap first_of (left_of_answer g is.within)
-        ∙ first_taken (g.limit - g.given) hit _ rest (omega (arith, is.within, more)) next
+    ∙ first_taken (g.limit - g.given) hit _ rest (omega (arith, is.within, more)) next
 
 -- no hit of the answer is left where the limit is reached
 pub none_at_limit : (g : Gathering) → g.given ≡ g.limit → first_of (answer_left g) ≡ None
 none_at_limit g all =
     ap first_of (drop_all g.given (take g.limit (merged (all_asked g.sources)))
-        (omega (arith, length-take g.limit (merged (all_asked g.sources)), all)))
+    (omega (arith, length-take g.limit (merged (all_asked g.sources)), all)))
 
 none_left_in : (s : Source) → IsLawful s.asked s.standing → s.standing.floor ≡ None
     → drop s.standing.given s.asked.hits ≡ []
@@ -224,8 +224,16 @@ none_left_with (s ∷ sources) law none =
 -- a source that stands for none where a list has to be read
 abbrev pub nobody : Source
 nobody = record {
-  asked = record { hits = []; rows = 0; near = false; room = 0; farthest = 0; plan = λ given. ([], 0); bound =
-      λ given. 0 };
+  asked = record {
+    hits = [];
+    rows = 0;
+    near = false;
+    room = 0;
+    farthest = 0;
+    plan = λ given. ([], 0);
+    bound =
+        λ given. 0;
+  };
   standing = record { given = 0; waiting = []; floor = None; reads = 0; ended = false; begun = None; units = 0 };
 }
 
@@ -246,16 +254,16 @@ none_at_end g d is law held empty = by_least (least_floor g.sources) refl
     by_least : (least : Option ℕ) → least_floor g.sources ≡ least → first_of (answer_left g) ≡ None
     by_least None none =
         let all : AllByRecursion (λ s. NotBelow None s.standing.floor) g.sources =
-            rw none at (least_below floor_at g.sources) in
+        rw none at (least_below floor_at g.sources) in
         ap first_of (left_of_answer g is.within
-            ∙ ap (take (g.limit - g.given)) (is.merge ∙ ap in_order (none_left_with g.sources law all)))
-            ∙ nothing (g.limit - g.given)
+        ∙ ap (take (g.limit - g.given)) (is.merge ∙ ap in_order (none_left_with g.sources law all)))
+        ∙ nothing (g.limit - g.given)
     by_least (Some m) some =
         let at = least_is_one floor_at g.sources m some in
         let s : Source = get_or g.sources at.0 d in
         let none : list_any (may_have_next (Some m)) g.sources ≡ false = rw some at held in
         let one : may_have_next (Some m) s ≡ false = any_at _ g.sources at.0 d at.1 none in
         let waits : s.standing.waiting ≡ [] =
-            no_hit s.standing.waiting (All-from_recursion _ g.sources empty at.0 d at.1) in
+        no_hit s.standing.waiting (All-from_recursion _ g.sources empty at.0 d at.1) in
         let is_it : nat_le m m ≡ false = rw (at.2 d) at (rw waits at one) in
         absurd (omega (arith, leb-false m m is_it))

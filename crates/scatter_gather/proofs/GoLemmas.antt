@@ -75,7 +75,7 @@ lets_one hit shard floor s first above goes = by_waiting s.standing.waiting refl
 lets_all : (hit : Hit) (shard : ℕ) (floor : Option ℕ) (sources : List Source)
     → AllByRecursion (HeadNotBefore hit) sources
     → AllByRecursion (λ s. NotBelow floor (empty_floor s)) sources → has_to_wait (Some (shard, hit)) floor ≡ false
-        → AllByRecursion (LetsGo hit) sources
+    → AllByRecursion (LetsGo hit) sources
 lets_all hit shard floor [] first above goes = tt
 lets_all hit shard floor (s ∷ sources) first above goes =
     (lets_one hit shard floor s first.0 above.0 goes, lets_all hit shard floor sources first.1 above.1 goes)
@@ -127,10 +127,10 @@ module _ (sources : List Source) (law : AreLawful sources) where
     best_alone other first =
         one_hit other hit
         (head_lets other hit (get_or sources shard d)
-            (All-from_recursion (LetsGo other) sources first.lets shard d best.within) (best.waits d))
+        (All-from_recursion (LetsGo other) sources first.lets shard d best.within) (best.waits d))
         (head_not_before hit other (get_or sources first.shard d)
-            (All-from_recursion (HeadNotBefore hit) sources (whole (HeadNotBefore hit) best.first)
-            first.shard d first.within) (first.waits d))
+        (All-from_recursion (HeadNotBefore hit) sources (whole (HeadNotBefore hit) best.first)
+        first.shard d first.within) (first.waits d))
 
     -- where the best head has not to wait, no source may have the next hit
     pub none_held : has_to_wait (Some (shard, hit)) (least_of empty_floor sources) ≡ false
@@ -144,14 +144,14 @@ module _ (sources : List Source) (law : AreLawful sources) where
         from_floor i (Some own) None within none e f is = cc
         from_floor i (Some own) (Some m) within none e f is =
             let above = subst (NotBelow (least_of empty_floor sources)) (of_empty (get_or sources i d) none ∙ e)
-                (All-from_recursion (λ s. NotBelow (least_of empty_floor sources) (empty_floor s)) sources
-                    (least_below empty_floor sources) i d within) in
+            (All-from_recursion (λ s. NotBelow (least_of empty_floor sources) (empty_floor s)) sources
+            (least_below empty_floor sources) i d within) in
             let low = some_above (least_of empty_floor sources) own above in
             let free : has_to_wait (Some (shard, hit)) (Some low.0) ≡ false =
-                subst (λ floor. has_to_wait (Some (shard, hit)) floor ≡ false) low.1 goes in
+            subst (λ floor. has_to_wait (Some (shard, hit)) floor ≡ false) low.1 goes in
             let heads = subst (NotBelow (least_floor sources)) (floor_of_head shard d hit best.within (best.waits d))
-                (All-from_recursion (λ s. NotBelow (least_floor sources) (floor_at s)) sources
-                    (least_below floor_at sources) shard d best.within) in
+            (All-from_recursion (λ s. NotBelow (least_floor sources) (floor_at s)) sources
+            (least_below floor_at sources) shard d best.within) in
             let near : m ≤ hit.dist = rw f at heads in
             omega (arith, leb-true own m is, low.2, near, leb-false low.0 hit.dist free)
 
@@ -165,9 +165,9 @@ module _ (sources : List Source) (law : AreLawful sources) where
             let at = any_where (may_have_next (least_floor sources)) sources e in
             let s : Source = get_or sources at.0 d in
             let both = and_parts (is_empty s.standing.waiting) (is_least s.standing.floor (least_floor sources))
-                (at.2 d) in
+            (at.2 d) in
             absurd (from_floor at.0 (floor_at s) (least_floor sources) at.1 (nothing s.standing.waiting both.0)
-                refl refl both.1)
+            refl refl both.1)
 
   module _ (best : Option (ℕ × Hit)) (is : BestOf sources (length sources) best) (d : Source) where
     -- the best head isn't after another
@@ -179,13 +179,13 @@ module _ (sources : List Source) (law : AreLawful sources) where
             → floor ≤ head.dist
         go None none waits =
             let all = All-from_recursion (λ (s : Source). first_of s.standing.waiting ≡ None) sources
-                (whole (λ s. first_of s.standing.waiting ≡ None) none) i d within in
+            (whole (λ s. first_of s.standing.waiting ≡ None) none) i d within in
             let f : None ≡ Some head = sym all ∙ first in
             cc
         go (Some found) best waits =
             let before = head_not_before found.1 head (get_or sources i d)
-                (All-from_recursion (HeadNotBefore found.1) sources (whole (HeadNotBefore found.1) best.first)
-                i d within) first in
+            (All-from_recursion (HeadNotBefore found.1) sources (whole (HeadNotBefore found.1) best.first)
+            i d within) first in
             omega (arith, leb-true floor found.1.dist waits, nearer found.1 head before)
 
     module _ (floor : ℕ) (least : least_of empty_floor sources ≡ Some floor)
@@ -197,7 +197,7 @@ module _ (sources : List Source) (law : AreLawful sources) where
           let s : Source = get_or sources at.0 d in
           let empty = no_head s floor (at.2 d) in
           let farther = empty_lets other s floor (All-from_recursion (LetsGo other) sources first.lets at.0 d at.1)
-              empty.0 empty.1 in
+          empty.0 empty.1 in
           let near = best_near floor first.shard other waits first.within (first.waits d) in
           omega (arith, farther, near)
 
@@ -211,7 +211,7 @@ module _ (sources : List Source) (law : AreLawful sources) where
               → (get_or sources at.0 d).standing.waiting ≡ waiting → floor ≤ m
           go at [] none =
               let above = All-from_recursion (λ s. NotBelow (least_of empty_floor sources) (empty_floor s)) sources
-                  (least_below empty_floor sources) at.0 d at.1 in
+              (least_below empty_floor sources) at.0 d at.1 in
               let low : floor ≤ m = rw (least, of_empty (get_or sources at.0 d) none, at.2 d) at above in
               low
           go at (head ∷ rest) some =
@@ -228,11 +228,11 @@ module _ (sources : List Source) (law : AreLawful sources) where
           let empty = no_head s floor (at.2 d) in
           list_any_at (may_have_next (least_floor sources)) sources at.0 d at.1
           (and_from (is_empty s.standing.waiting) (is_least s.standing.floor (least_floor sources))
-              (ap is_empty empty.0)
+          (ap is_empty empty.0)
           (ap (λ f. is_least f (least_floor sources)) empty.1
-              ∙ by_least (least_floor sources) refl (subst (NotBelow (least_floor sources)) empty.1
+          ∙ by_least (least_floor sources) refl (subst (NotBelow (least_floor sources)) empty.1
           (All-from_recursion (λ s. NotBelow (least_floor sources) (floor_at s)) sources
-              (least_below floor_at sources) at.0 d at.1))))
+          (least_below floor_at sources) at.0 d at.1))))
         where
           by_least : (all : Option ℕ) → least_floor sources ≡ all → NotBelow all (Some floor)
               → is_least (Some floor) all ≡ true
@@ -244,7 +244,7 @@ module _ (sources : List Source) (law : AreLawful sources) where
     none_waits nobody other first =
         let none = subst (BestOf sources (length sources)) nobody is in
         let all = All-from_recursion (λ (s : Source). first_of s.standing.waiting ≡ None) sources
-            (whole (λ s. first_of s.standing.waiting ≡ None) none) first.shard d first.within in
+        (whole (λ s. first_of s.standing.waiting ≡ None) none) first.shard d first.within in
         let f : None ≡ Some other = sym all ∙ first.waits d in
         cc
 

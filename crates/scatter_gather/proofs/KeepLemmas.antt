@@ -30,7 +30,7 @@ pub same_gathering : (old new : List Source) (limit given : ℕ) (last : Option 
     → IsGathering (gathering_of new limit given last)
 same_gathering old new limit given last asked count is =
     let size : length new ≡ length old = sym (length-map new (λ (s : Source). s.asked)) ∙ ap length asked
-        ∙ length-map old (λ (s : Source). s.asked) in
+    ∙ length-map old (λ (s : Source). s.asked) in
     record {
       some = omega (arith, size, is.some);
       few = omega (arith, size, is.few);
@@ -71,9 +71,9 @@ pub one_polled : {S : Type 0} (asks : S → Asked) (stands : S → Standing) (so
 one_polled {S = S} asks stands sources shard was new limit given last l here asked count is =
     same_gathering (sources_of asks stands sources) (sources_of asks stands (set sources shard new)) limit given last
     (asked_seen asks stands (set sources shard new) ∙ set_alike asks sources shard was new l here asked
-        ∙ sym (asked_seen asks stands sources))
+    ∙ sym (asked_seen asks stands sources))
     (given_seen asks stands (set sources shard new)
-        ∙ set_alike (λ x. (stands x).given) sources shard was new l here count ∙ sym (given_seen asks stands sources))
+    ∙ set_alike (λ x. (stands x).given) sources shard was new l here count ∙ sym (given_seen asks stands sources))
     is
 
 -- what sources are seen as at a place, where the lists are seen as one
@@ -82,7 +82,7 @@ pub same_at : {S T : Type 0} (h : S → T) (xs ys : List S) (i : ℕ) (d : S) �
 same_at h xs ys i d same l =
     let size : length xs ≡ length ys = sym (length-map xs h) ∙ ap length same ∙ length-map ys h in
     sym (get_or-map h xs i d (h d) l) ∙ ap (λ zs. get_or zs i (h d)) same
-        ∙ get_or-map h ys i d (h d) (omega (arith, l, size))
+    ∙ get_or-map h ys i d (h d) (omega (arith, l, size))
 
 -- the last hit is as far as any source's may be
 pub last_within : {S : Type 0} (asks : S → Asked) (stands : S → Standing) (hs : List S) (limit given : ℕ)
@@ -92,10 +92,10 @@ last_within asks stands hs limit given None is shard d l = tt
 last_within asks stands hs limit given (Some far) is shard d l =
     let seen_asks : all_asked (sources_of asks stands hs) ≡ map asks hs = asked_seen asks stands hs in
     let all = All-from_recursion (λ (a : Asked). a.farthest ≡ length_of (map asks hs)) (map asks hs)
-        (subst AreOneLength seen_asks is.one_length) shard (asks d) (omega (arith, l, length-map hs asks)) in
+    (subst AreOneLength seen_asks is.one_length) shard (asks d) (omega (arith, l, length-map hs asks)) in
     let here : get_or (map asks hs) shard (asks d) ≡ asks (get_or hs shard d) = get_or-map asks hs shard d (asks d) l in
     let one : (asks (get_or hs shard d)).farthest ≡ length_of (map asks hs) =
-        subst (λ a. a.farthest ≡ length_of (map asks hs)) here all in
+    subst (λ a. a.farthest ≡ length_of (map asks hs)) here all in
     let within : far ≤ length_of (map asks hs) = subst (λ asks. far ≤ length_of asks) seen_asks is.last in
     omega (arith, one, within)
 
@@ -113,5 +113,5 @@ planned_keeps asks stands old new limit given last asked stood is =
     same_gathering (sources_of asks stands old) (sources_of asks stands new) limit given last
     (asked_seen asks stands new ∙ asked ∙ sym (asked_seen asks stands old))
     (given_seen asks stands new ∙ given_stands stands new ∙ ap (map (λ (s : Standing). s.given)) stood
-        ∙ sym (given_stands stands old) ∙ sym (given_seen asks stands old))
+    ∙ sym (given_stands stands old) ∙ sym (given_seen asks stands old))
     is

@@ -17,7 +17,7 @@ use Rattle.hit_source.specs.Sources.{IsFresh}
 pub order_of_permutation : (xs ys : List Hit) → IsPermutation xs ys → in_order xs ≡ in_order ys
 order_of_permutation xs ys same =
     sym (sorted_is_in_order xs (in_order ys) (IsPermutation-trans _ _ _ same (in_order_permutation ys))
-        (in_order_sorted ys))
+    (in_order_sorted ys))
 
 placed_first : (hit : Hit) (hits : List Hit) → IsFirst hit hits → placed hit hits ≡ hit ∷ hits
 placed_first hit [] first = refl
@@ -27,7 +27,7 @@ placed_first hit (other ∷ hits) first = rw first.0
 pub first_permuted : (hit : Hit) (xs ys : List Hit) → IsPermutation xs ys → IsFirst hit xs → IsFirst hit ys
 first_permuted hit xs ys same first =
     recursion_from_All _ ys (All-permutation (λ other. is_gt (hit_cmp hit other) ≡ false) xs ys same
-        (All-from_recursion _ xs first))
+    (All-from_recursion _ xs first))
 
 -- the order of a first hit and others
 pub order_from_first : (hit : Hit) (hits : List Hit) → IsFirst hit hits → in_order (hit ∷ hits) ≡ hit ∷ in_order hits
@@ -37,7 +37,7 @@ order_from_first hit hits first =
 -- a source gives its next hit: that hit and those that are left then are those that were left
 pub left_permutation : (sources : List Source) (i : ℕ) (d s : Source) (hit : Hit) → i < length sources
     → drop (get_or sources i d).standing.given
-        (get_or sources i d).asked.hits ≡ hit ∷ drop s.standing.given s.asked.hits
+    (get_or sources i d).asked.hits ≡ hit ∷ drop s.standing.given s.asked.hits
     → IsPermutation (left_hits sources) (hit ∷ left_hits (set sources i s))
 left_permutation [] i d s hit l next = absurd (omega arith)
 left_permutation (first ∷ sources) zero d s hit l next =
@@ -45,7 +45,7 @@ left_permutation (first ∷ sources) zero d s hit l next =
 left_permutation (first ∷ sources) (suc i) d s hit l next =
     IsPermutation-trans _ _ _
     (IsPermutation-append_right (drop first.standing.given first.asked.hits) _ _
-        (left_permutation sources i d s hit (omega arith) next))
+    (left_permutation sources i d s hit (omega arith) next))
     (IsPermutation-middle (drop first.standing.given first.asked.hits) hit (left_hits (set sources i s)))
 
 -- where nothing was taken all hits are left
@@ -70,6 +70,8 @@ all_always P law (x ∷ xs) = (law x, all_always P law xs)
 pub read_seen : {S T : Type 0} (f : S → T) (ys xs : List S) (i : ℕ) (x : S) → ys ≡ xs → i < length ys
     → x ≡ get_or ys i x → (i < length (map f xs)) × (get_or (map f xs) i (f x) ≡ f x)
 read_seen f ys xs i x same l here =
-    let within : i < length xs = omega (arith, l, ap length same) in
-    (omega (arith, within, length-map xs f), get_or-map f xs i x (f x) within
-        ∙ ap f (sym (here ∙ ap (λ zs. get_or zs i x) same)))
+    let within : i < length xs = omega (arith, l, ap length same) in (
+      omega (arith, within, length-map xs f),
+      get_or-map f xs i x (f x) within
+          ∙ ap f (sym (here ∙ ap (λ zs. get_or zs i x) same)),
+    )

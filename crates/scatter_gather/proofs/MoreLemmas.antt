@@ -34,12 +34,20 @@ some_left : (sources : List Source) → AreLawful sources → list_any has_head 
     → 1 ≤ length (left_hits sources)
 some_left [] law e = cc
 some_left (s ∷ sources) law e = elim (or_cases (has_head s) (list_any has_head sources) e) [
-    inl first ↦ omega (arith, length-append (drop s.standing.given s.asked.hits)
-        (left_hits sources), none_waits s.standing.waiting (length s.standing.waiting)
-        (drop s.standing.given s.asked.hits) first law.0.window)
-  | inr later ↦ omega (arith, length-append (drop s.standing.given s.asked.hits)
-      (left_hits sources), some_left sources law.1 later)
-  ]
+  | inl first ↦ omega (
+    arith,
+    length-append (drop s.standing.given s.asked.hits)
+        (left_hits sources),
+    none_waits s.standing.waiting (length s.standing.waiting)
+        (drop s.standing.given s.asked.hits) first law.0.window,
+  )
+  | inr later ↦ omega (
+    arith,
+    length-append (drop s.standing.given s.asked.hits)
+        (left_hits sources),
+    some_left sources law.1 later,
+  )
+]
 
 -- the answer has another hit where one waits and the limit isn't reached
 pub more_waits : (g : Gathering) → IsGathering g → AreLawful g.sources → (g.given ≡ g.limit → ⊥)
@@ -48,7 +56,7 @@ more_waits g is law more waits =
     let all = merged (all_asked g.sources) in
     let some = some_left g.sources law waits in
     let left : length all - g.given ≡ length (left_hits g.sources) = sym (length-drop g.given all) ∙ ap length is.merge
-        ∙ length_in_order (left_hits g.sources) in
+    ∙ length_in_order (left_hits g.sources) in
     lt-ltb g.given (length (answer_of g)) (omega (arith, length-take g.limit all, is.within, more, some, left))
 
 no_first : (hits : List Hit) → first_of hits ≡ None → length hits ≡ 0
@@ -59,7 +67,7 @@ no_first (hit ∷ hits) e = cc
 pub no_more : (g : Gathering) → first_of (answer_left g) ≡ None → nat_lt g.given (length (answer_of g)) ≡ false
 no_more g none =
     le-ltb g.given (length (answer_of g))
-        (omega (arith, length-drop g.given (answer_of g), no_first (answer_left g) none))
+    (omega (arith, length-drop g.given (answer_of g), no_first (answer_left g) none))
 
 no_heads : (sources : List Source) → list_any has_head sources ≡ false
     → AllByRecursion (λ s. first_of s.standing.waiting ≡ None) sources
@@ -78,19 +86,24 @@ all_rows : (sources : List Source) → AreLawful sources → list_all (λ (s : S
 all_rows [] law near = refl
 all_rows (s ∷ sources) law near =
     let both = and_parts s.asked.near (list_all (λ (s : Source). s.asked.near) sources) near in
-    omega (arith, length-append s.asked.hits (flat_map (λ (a : Asked). a.hits) (all_asked sources)),
-        (law.0.asked.near both.0).all_rows, all_rows sources law.1 both.1, sum_by-cons
-        (λ (s : Source). s.asked.rows) s sources)
+    omega (
+      arith,
+      length-append s.asked.hits (flat_map (λ (a : Asked). a.hits) (all_asked sources)),
+      (law.0.asked.near both.0).all_rows,
+      all_rows sources law.1 both.1,
+      sum_by-cons
+          (λ (s : Source). s.asked.rows) s sources,
+    )
 
 -- the answer has another hit where every row is a hit, there are as many as the limit, and it isn't reached
 pub more_rows : (g : Gathering) → IsGathering g → AreLawful g.sources → (g.given ≡ g.limit → ⊥)
     → reaches_by_rows g ≡ true → nat_lt g.given (length (answer_of g)) ≡ true
 more_rows g is law more near =
     let both = and_parts (list_all (λ (s : Source). s.asked.near) g.sources)
-        (nat_le g.limit (sum_by (λ (s : Source). s.asked.rows) g.sources)) near in
+    (nat_le g.limit (sum_by (λ (s : Source). s.asked.rows) g.sources)) near in
     let all = flat_map (λ (a : Asked). a.hits) (all_asked g.sources) in
     let enough : g.limit ≤ length (in_order all) =
-        omega (arith, leb-true _ _ both.1, all_rows g.sources law both.0, length_in_order all) in
+    omega (arith, leb-true _ _ both.1, all_rows g.sources law both.0, length_in_order all) in
     lt-ltb g.given (length (answer_of g)) (omega (arith, length-take g.limit (in_order all), is.within, more, enough))
 
 -- the same of a gathering that was opened, for `more`
@@ -109,7 +122,7 @@ pub seen_end : {S : Type 0} (asks : S → Asked) (stands : S → Standing) (g : 
     → nat_lt g.given (length (answer_of (seen asks stands g))) ≡ false
 seen_end asks stands g law is held none =
     no_more (seen asks stands g)
-        (none_at_end (seen asks stands g) nobody is (all_lawful asks stands law g.sources) held (no_heads _ none))
+    (none_at_end (seen asks stands g) nobody is (all_lawful asks stands law g.sources) held (no_heads _ none))
 
 -- nothing is due, and no head waits
 pub none_due_more : {S : Type 0} (asks : S → Asked) (stands : S → Standing) (g : Gathered S)
@@ -118,9 +131,9 @@ pub none_due_more : {S : Type 0} (asks : S → Asked) (stands : S → Standing) 
     → nat_lt g.given (length (answer_of (seen asks stands g))) ≡ false
 none_due_more asks stands g law is more held none =
     elim (and_cases (nat_lt g.given g.limit) (any_may_have_next (sources_of asks stands g.sources)) held) [
-    inl reached ↦ absurd (more (omega (arith, is.within, ltb-false g.given g.limit reached)))
-  | inr nobody ↦ seen_end asks stands g law is nobody none
-  ]
+      | inl reached ↦ absurd (more (omega (arith, is.within, ltb-false g.given g.limit reached)))
+      | inr nobody ↦ seen_end asks stands g law is nobody none
+    ]
 
 -- whether the answer has another hit is as it was
 pub waited_more : {S : Type 0} (asks : S → Asked) (stands : S → Standing) (old new : Gathered S) (from to : List ℕ)
@@ -129,7 +142,7 @@ pub waited_more : {S : Type 0} (asks : S → Asked) (stands : S → Standing) (o
     (length (answer_of (seen asks stands old)))
 waited_more asks stands old new from to waited =
     let same : all_asked (sources_of asks stands new.sources) ≡ all_asked (sources_of asks stands old.sources) =
-        asked_seen asks stands new.sources ∙ waited.asked ∙ sym (asked_seen asks stands old.sources) in
+    asked_seen asks stands new.sources ∙ waited.asked ∙ sym (asked_seen asks stands old.sources) in
     rw (same, waited.limit, waited.given)
 
 -- the limit isn't reached, as before
@@ -146,10 +159,10 @@ rows_step most rows sum more at one result was next here all = grind arith
 pub ends_at_limit : (g : Gathering) → IsGathering g → AreLawful g.sources → reaches_by_rows g ≡ true
     → first_of (answer_left g) ≡ None → g.given ≡ g.limit
 ends_at_limit g is law near none = elim (cases_eq g.given g.limit) [
-    inl same ↦ same
+  | inl same ↦ same
   | inr more ↦ absurd (both_ways (nat_lt g.given (length (answer_of g))) (no_more g none)
       (more_rows g is law more near))
-  ]
+]
 
 -- nothing is due at the limit
 pub not_due : (given limit : ℕ) (other : Bool) → given ≡ limit → (nat_lt given limit && other) ≡ true → ⊥
@@ -165,12 +178,12 @@ rows_same (s ∷ old) [] same = cc
 rows_same (s ∷ old) (t ∷ new) same =
     let first : t.asked ≡ s.asked = cc in
     let rest : all_asked new ≡ all_asked old = cc in
-    let both = rows_same old new rest in
-    ( ap (λ (a : Asked). a.near && list_all (λ (s : Source). s.asked.near) new) first
-        ∙ ap (λ b. s.asked.near && b) both.0
-    , sum_by-cons (λ (s : Source). s.asked.rows) t new
-        ∙ ap (λ (a : Asked). a.rows + sum_by (λ (s : Source). s.asked.rows) new) first
-        ∙ ap (λ n. s.asked.rows + n) both.1 ∙ sym (sum_by-cons (λ (s : Source). s.asked.rows) s old)
+    let both = rows_same old new rest in (
+      ap (λ (a : Asked). a.near && list_all (λ (s : Source). s.asked.near) new) first
+          ∙ ap (λ b. s.asked.near && b) both.0,
+      sum_by-cons (λ (s : Source). s.asked.rows) t new
+          ∙ ap (λ (a : Asked). a.rows + sum_by (λ (s : Source). s.asked.rows) new) first
+          ∙ ap (λ n. s.asked.rows + n) both.1 ∙ sym (sum_by-cons (λ (s : Source). s.asked.rows) s old),
     )
 
 -- whether the rows reach the limit is as it was
@@ -179,6 +192,6 @@ pub waited_rows : {S : Type 0} (asks : S → Asked) (stands : S → Standing) (o
     → reaches_by_rows (seen asks stands new) ≡ reaches_by_rows (seen asks stands old)
 waited_rows asks stands old new from to waited =
     let same : all_asked (sources_of asks stands new.sources) ≡ all_asked (sources_of asks stands old.sources) =
-        asked_seen asks stands new.sources ∙ waited.asked ∙ sym (asked_seen asks stands old.sources) in
+    asked_seen asks stands new.sources ∙ waited.asked ∙ sym (asked_seen asks stands old.sources) in
     let both = rows_same (sources_of asks stands old.sources) (sources_of asks stands new.sources) same in
     rw (both.0, both.1, waited.limit)

@@ -26,9 +26,9 @@ round_same {S = S} h asks stands budget old new from to keeps polls =
     at : (k : ℕ) (e : S) → k < length old → h (get_or new k e) ≡ h (get_or old k e)
     at k e l = elim (cases_Bool (may_have_next (least_floor (sources_of asks stands old))
         (source_of asks stands (get_or old k e)))) [
-        inl may ↦ keeps _ _ _ _ (MatchBool-at_true _ _ may (polls.at k e l))
-      | inr held ↦ ap h (MatchBool-at_false _ _ held (polls.at k e l)).0
-      ]
+          | inl may ↦ keeps _ _ _ _ (MatchBool-at_true _ _ may (polls.at k e l))
+          | inr held ↦ ap h (MatchBool-at_false _ _ held (polls.at k e l)).0
+        ]
 
 -- a round of polls keeps a gathering
 pub round_keeps : {S : Type 0} (asks : S → Asked) (stands : S → Standing) (budget : ℕ) (old new : List S)
@@ -38,9 +38,9 @@ pub round_keeps : {S : Type 0} (asks : S → Asked) (stands : S → Standing) (b
 round_keeps asks stands budget old new from to limit given last polls is =
     same_gathering (sources_of asks stands old) (sources_of asks stands new) limit given last
     (asked_seen asks stands new ∙ round_same asks asks stands budget old new from to (λ x y m n one. one.asked) polls
-        ∙ sym (asked_seen asks stands old))
+    ∙ sym (asked_seen asks stands old))
     (given_seen asks stands new ∙ round_same (λ x. (stands x).given) asks stands budget old new from to
-        (λ x y m n one. one.polls.given) polls ∙ sym (given_seen asks stands old))
+    (λ x y m n one. one.polls.given) polls ∙ sym (given_seen asks stands old))
     is
 
 -- no reads
@@ -55,11 +55,11 @@ round_reads asks stands budget old new from to polls = record {
   count = polls.count;
   at = λ i d within. elim
       (cases_Bool (may_have_next (least_floor (sources_of asks stands old)) (source_of asks stands (get_or old i d)))) [
-      inl may ↦ (let one : PollsOnce asks stands budget (get_or old i d) (get_or from i 0) (get_or new i d)
-          (get_or to i 0) = MatchBool-at_true _ _ may (polls.at i d within) in one.polls.ledger)
-    | inr held ↦ (let same = MatchBool-at_false _ _ held (polls.at i d within) in
-        omega (arith, same.1, ap (λ x. (stands x).reads) same.0))
-    ];
+        | inl may ↦ (let one : PollsOnce asks stands budget (get_or old i d) (get_or from i 0) (get_or new i d)
+            (get_or to i 0) = MatchBool-at_true _ _ may (polls.at i d within) in one.polls.ledger)
+        | inr held ↦ (let same = MatchBool-at_false _ _ held (polls.at i d within) in
+            omega (arith, same.1, ap (λ x. (stands x).reads) same.0))
+      ];
   beyond = polls.beyond;
 }
 
@@ -74,8 +74,14 @@ reads_again stands old mid new from at to first later = record {
 -- nothing was polled yet
 pub waited_none : {S : Type 0} (asks : S → Asked) (stands : S → Standing) (g : Gathered S) (steps : List ℕ)
     → Waited asks stands g g steps steps
-waited_none asks stands g steps = record { asked = refl; limit = refl; given = refl; last = refl; ledgers =
-    reads_stay stands g.sources steps }
+waited_none asks stands g steps = record {
+  asked = refl;
+  limit = refl;
+  given = refl;
+  last = refl;
+  ledgers =
+      reads_stay stands g.sources steps;
+}
 
 -- one round more
 pub waited_again : {S : Type 0} (asks : S → Asked) (stands : S → Standing) (budget : ℕ) (old mid new : Gathered S)
@@ -97,14 +103,20 @@ pub waited_left : {S : Type 0} (asks : S → Asked) (stands : S → Standing) (o
     → Waited asks stands old new from to → answer_left (seen asks stands new) ≡ answer_left (seen asks stands old)
 waited_left asks stands old new from to waited =
     let same : all_asked (sources_of asks stands new.sources) ≡ all_asked (sources_of asks stands old.sources) =
-        asked_seen asks stands new.sources ∙ waited.asked ∙ sym (asked_seen asks stands old.sources) in
+    asked_seen asks stands new.sources ∙ waited.asked ∙ sym (asked_seen asks stands old.sources) in
     rw (same, waited.limit, waited.given)
 
 -- after the wait nothing was given
 pub gave_none : {S : Type 0} (asks : S → Asked) (stands : S → Standing) (old new : Gathered S) (from to : List ℕ)
     → Waited asks stands old new from to → Gave asks stands old new from to None
-gave_none asks stands old new from to waited = record { asked = waited.asked; limit = waited.limit; given =
-    waited.given; last = waited.last; ledgers = waited.ledgers }
+gave_none asks stands old new from to waited = record {
+  asked = waited.asked;
+  limit = waited.limit;
+  given =
+      waited.given;
+  last = waited.last;
+  ledgers = waited.ledgers;
+}
 
 -- after the wait one source gave the hit
 pub gave_one : {S : Type 0} (asks : S → Asked) (stands : S → Standing) (old mid new : Gathered S) (from to : List ℕ)
@@ -144,20 +156,20 @@ gave_one {S = S} asks stands old mid new from to hit waited gives = record {
     reads : (i : ℕ) (e : S) → i < length mid.sources
         → (stands (get_or new.sources i e)).reads ≡ (stands (get_or mid.sources i e)).reads
     reads i e within = elim (cases_eq i shard) [
-        inl same ↦ ap (λ k. (stands (get_or new.sources k e)).reads) same ∙ (one.pops e).reads
-            ∙ ap (λ k. (stands (get_or mid.sources k e)).reads) (sym same)
+      | inl same ↦ ap (λ k. (stands (get_or new.sources k e)).reads) same ∙ (one.pops e).reads
+          ∙ ap (λ k. (stands (get_or mid.sources k e)).reads) (sym same)
       | inr other ↦ ap (λ xs. (stands (get_or xs i e)).reads) sources
           ∙ ap (λ x. (stands x).reads) (get_or-set_other mid.sources shard i after e other)
-      ]
+    ]
 
 -- a round of polls where some source is due leaves less to do
 pub loop_todo : {S : Type 0} (asks : S → Asked) (stands : S → Standing) (budget : ℕ) (old mid new : Gathered S)
     (from to : List ℕ)
     → ((x : S) → IsLawful (asks x) (stands x)) → mid ≡ old → some_due (seen asks stands mid) ≡ true
-        → PollsAll asks stands budget mid.sources new.sources from to
+    → PollsAll asks stands budget mid.sources new.sources from to
     → sum_by todo (sources_of asks stands new.sources) < sum_by todo (sources_of asks stands old.sources)
 loop_todo asks stands budget old mid new from to law stayed due polls =
     let any = (and_parts (nat_lt mid.given mid.limit) (any_may_have_next (sources_of asks stands mid.sources)) due).1 in
     subst (λ g. sum_by todo (sources_of asks stands new.sources) < sum_by todo (sources_of asks stands g.sources))
-        stayed
+    stayed
     (round_todo asks stands budget mid.sources new.sources from to law any polls)

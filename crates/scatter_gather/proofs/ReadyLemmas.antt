@@ -25,7 +25,7 @@ pub all_lawful : {S : Type 0} (asks : S → Asked) (stands : S → Standing) →
     → (xs : List S) → AreLawful (sources_of asks stands xs)
 all_lawful asks stands law xs =
     all_of_map (source_of asks stands) (λ s. IsLawful s.asked s.standing) xs
-        (all_always (λ x. IsLawful (asks x) (stands x)) law xs)
+    (all_always (λ x. IsLawful (asks x) (stands x)) law xs)
 
 all_nearer : (hit : Hit) (hits : List Hit) → IsFirst hit hits
     → AllByRecursion (λ (other : Hit). hit.dist ≤ other.dist) hits
@@ -58,31 +58,31 @@ head_within waiting hit n given hits most first window all =
 pub best_given : {S : Type 0} (asks : S → Asked) (stands : S → Standing) (hs : List S) (limit given : ℕ)
     (last : Option ℕ) (shard : ℕ) (hit : Hit) (was new : S) (result : Option Hit)
     → ((x : S) → IsLawful (asks x) (stands x)) → IsGathering (seen asks stands (gathered hs limit given last))
-        → (given ≡ limit → ⊥)
+    → (given ≡ limit → ⊥)
     → IsReadyHead (sources_of asks stands hs) (Some (shard, hit)) → was ≡ get_or hs shard was → asks new ≡ asks was
-        → Pops (stands was) (stands new) result
+    → Pops (stands was) (stands new) result
     → IsGathering (seen asks stands (gathered (set hs shard new) limit (given + 1) (Some hit.dist))) ×
-        (first_of (answer_left (seen asks stands (gathered hs limit given last))) ≡ Some hit) × (shard < length hs) ×
-        (result ≡ Some hit)
-best_given {S = S} asks stands hs limit given last shard hit was new result law is more ready here asked pops =
-    ( record {
-        some = omega (arith, is.some, size);
-        few = omega (arith, is.few, size);
-        merge =
-            ap (λ asks. drop (given + 1) (merged asks)) same
-            ∙ sym (drop-drop 1 given (merged (all_asked all)))
-            ∙ ap (drop 1) next
-            ∙ ap (λ ss. in_order (left_hits ss)) (sym (map-set (source_of asks stands) hs shard new));
-        within = omega (arith, is.within, more);
-        one_length = subst AreOneLength (sym same) is.one_length;
-        last = subst (λ asks. hit.dist ≤ length_of asks) (sym same) far;
-        later = subst (λ ss. AllByRecursion (λ (other : Hit). hit.dist ≤ other.dist) (left_hits ss))
-            (sym (map-set (source_of asks stands) hs shard new)) (all_nearer hit _ first_left);
-      }
-    , next_of_answer (seen asks stands (gathered hs limit given last)) hit _ is more next
-    , within
-    , pops.head ∙ waits
-    )
+    (first_of (answer_left (seen asks stands (gathered hs limit given last))) ≡ Some hit) × (shard < length hs) ×
+    (result ≡ Some hit)
+best_given {S = S} asks stands hs limit given last shard hit was new result law is more ready here asked pops = (
+  record {
+    some = omega (arith, is.some, size);
+    few = omega (arith, is.few, size);
+    merge =
+        ap (λ asks. drop (given + 1) (merged asks)) same
+        ∙ sym (drop-drop 1 given (merged (all_asked all)))
+        ∙ ap (drop 1) next
+        ∙ ap (λ ss. in_order (left_hits ss)) (sym (map-set (source_of asks stands) hs shard new));
+    within = omega (arith, is.within, more);
+    one_length = subst AreOneLength (sym same) is.one_length;
+    last = subst (λ asks. hit.dist ≤ length_of asks) (sym same) far;
+    later = subst (λ ss. AllByRecursion (λ (other : Hit). hit.dist ≤ other.dist) (left_hits ss))
+        (sym (map-set (source_of asks stands) hs shard new)) (all_nearer hit _ first_left);
+  },
+  next_of_answer (seen asks stands (gathered hs limit given last)) hit _ is more next,
+  within,
+  pops.head ∙ waits,
+)
   where
     all : List Source
     all = sources_of asks stands hs
@@ -97,8 +97,13 @@ best_given {S = S} asks stands hs limit given last shard hit was new result law 
     at = (read_seen (source_of asks stands) hs hs shard was refl within here).1
 
     size : length (sources_of asks stands (set hs shard new)) ≡ length all
-    size = omega (arith, length-map (set hs shard new) (source_of asks stands), length-map hs
-        (source_of asks stands), length-set hs shard new)
+    size = omega (
+      arith,
+      length-map (set hs shard new) (source_of asks stands),
+      length-map hs
+          (source_of asks stands),
+      length-set hs shard new,
+    )
 
     same : all_asked (sources_of asks stands (set hs shard new)) ≡ all_asked all
     same = asked_seen asks stands (set hs shard new) ∙ set_alike asks hs shard was new within here asked
@@ -117,20 +122,20 @@ best_given {S = S} asks stands hs limit given last shard hit was new result law 
     far =
         let l : shard < length all = omega (arith, within, length-map hs (source_of asks stands)) in
         let lawful = All-from_recursion (λ (s : Source). IsLawful s.asked s.standing) all
-            (all_lawful asks stands law hs) shard d l in
+        (all_lawful asks stands law hs) shard d l in
         let seen_asks : all_asked all ≡ map asks hs = asked_seen asks stands hs in
         let there : get_or (map asks hs) shard (asks was) ≡ asks was = get_or-map asks hs shard was (asks was) within
-            ∙ ap asks (sym here_was) in
+        ∙ ap asks (sym here_was) in
         let size : shard < length (map asks hs) = omega (arith, within, length-map hs asks) in
         let far : (asks was).farthest ≡ length_of (map asks hs) =
-            subst (λ a. a.farthest ≡ length_of (map asks hs)) there
-            (All-from_recursion (λ (a : Asked). a.farthest ≡ length_of (map asks hs)) (map asks hs)
-            (subst AreOneLength seen_asks is.one_length) shard (asks was) size) in
+        subst (λ a. a.farthest ≡ length_of (map asks hs)) there
+        (All-from_recursion (λ (a : Asked). a.farthest ≡ length_of (map asks hs)) (map asks hs)
+        (subst AreOneLength seen_asks is.one_length) shard (asks was) size) in
         let within_far = recursion_from_All (λ (hit : Hit). hit.dist ≤ (asks was).farthest) (asks was).hits
-            (law was).asked.reached in
+        (law was).asked.reached in
         let window = (law was).window in
         let near : hit.dist ≤ (asks was).farthest = head_within (stands was).waiting hit (length (stands was).waiting)
-            (stands was).given (asks was).hits (asks was).farthest waits window within_far in
+        (stands was).given (asks was).hits (asks was).farthest waits window within_far in
         subst (λ asks. hit.dist ≤ length_of asks) (sym seen_asks) (omega (arith, near, far))
 
     after_all : List Source
@@ -150,13 +155,13 @@ best_given {S = S} asks stands hs limit given last shard hit was new result law 
 pub given_one : {S : Type 0} (asks : S → Asked) (stands : S → Standing) (hs : List S) (limit given : ℕ)
     (last : Option ℕ) (shard : ℕ) (hit : Hit) (was new : S) (result : Option Hit) (old after : Gathered S)
     → shard < length hs → was ≡ get_or hs shard was → asks new ≡ asks was → Pops (stands was) (stands new) result
-        → result ≡ Some hit → gathered hs limit given last ≡ old
-        → after ≡ gathered (set hs shard new) limit (given + 1) (Some hit.dist)
+    → result ≡ Some hit → gathered hs limit given last ≡ old
+    → after ≡ gathered (set hs shard new) limit (given + 1) (Some hit.dist)
     → GivesOne asks stands shard old after hit
 given_one {S = S} asks stands hs limit given last shard hit was new result old after within here asked pops gives
     before changed =
     subst (λ x. GivesOne asks stands shard x after hit) before
-        (subst (λ x. GivesOne asks stands shard (gathered hs limit given last) x hit) (sym changed) record {
+    (subst (λ x. GivesOne asks stands shard (gathered hs limit given last) x hit) (sym changed) record {
       within = within;
       asked = λ d. ap asks (there d) ∙ asked ∙ ap asks (sym (first d));
       pops = λ d. subst (λ x. Pops x (stands (get_or (set hs shard new) shard d)) (Some hit))
@@ -175,15 +180,15 @@ given_one {S = S} asks stands hs limit given last shard hit was new result old a
 pub none_given : {S : Type 0} (asks : S → Asked) (stands : S → Standing) (hs : List S) (limit given : ℕ)
     (last : Option ℕ) (old : Gathered S)
     → ((x : S) → IsLawful (asks x) (stands x)) → IsGathering (seen asks stands (gathered hs limit given last))
-        → (given ≡ limit → ⊥) → IsReadyHead (sources_of asks stands hs) None
+    → (given ≡ limit → ⊥) → IsReadyHead (sources_of asks stands hs) None
     → gathered hs limit given last ≡ old → some_due (seen asks stands old) ≡ false
-        → next_hit (seen asks stands old) ≡ None
+    → next_hit (seen asks stands old) ≡ None
 none_given asks stands hs limit given last old law is more ready before idle =
     let all = sources_of asks stands hs in
     let below : nat_lt given limit ≡ true = lt-ltb given limit (omega (arith, is.within, more)) in
     let here : (nat_lt given limit && any_may_have_next all) ≡ false =
-        subst (λ g. some_due (seen asks stands g) ≡ false) (sym before) idle in
+    subst (λ g. some_due (seen asks stands g) ≡ false) (sym before) idle in
     let held : any_may_have_next all ≡ false = rw below at here in
     subst (λ g. next_hit (seen asks stands g) ≡ None) before
     (none_at_end (seen asks stands (gathered hs limit given last)) nobody is (all_lawful asks stands law hs) held
-        (ready.held held))
+    (ready.held held))

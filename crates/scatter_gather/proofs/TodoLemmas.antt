@@ -14,7 +14,6 @@ use Rattle.scatter_gather.specs.Gathering.{Source, source_of, sources_of}
 use Rattle.scatter_gather.specs.Due.{is_empty, is_idle, is_least, may_have_next, any_may_have_next, least_floor, todo}
 use Rattle.scatter_gather.specs.Polling.{PollsAll}
 
-
 at_most_one : (b : Bool) → cond {A = ℕ} b 1 0 ≤ 1
 at_most_one true = omega arith
 at_most_one false = omega arith
@@ -33,7 +32,7 @@ polled_todo a old new budget from to Moved polls law room idle =
 polled_todo a old new budget from to Full polls law room idle =
     let one : cond {A = ℕ} (is_idle old) 1 0 ≡ 1 = rw idle in
     let wait : is_empty new.waiting ≡ false =
-        some_wait new.waiting (omega (arith, (polls.answers.full.0 refl).1, room)) in
+    some_wait new.waiting (omega (arith, (polls.answers.full.0 refl).1, room)) in
     let none : cond {A = ℕ} (is_idle new) 1 0 ≡ 0 = rw wait in
     omega (arith, polls.spends.units, one, none)
 polled_todo a old new budget from to Ended polls law room idle =
@@ -56,8 +55,14 @@ sum_at_most f [] [] same all = omega arith
 sum_at_most f [] (y ∷ ys) same all = absurd (omega arith)
 sum_at_most f (x ∷ xs) [] same all = absurd (omega arith)
 sum_at_most f (x ∷ xs) (y ∷ ys) same all =
-    omega (arith, sum_by-cons f x xs, sum_by-cons f y ys, all 0 x (omega arith), sum_at_most f xs ys (omega arith)
-    (λ i d within. all (suc i) d (omega arith)))
+    omega (
+      arith,
+      sum_by-cons f x xs,
+      sum_by-cons f y ys,
+      all 0 x (omega arith),
+      sum_at_most f xs ys (omega arith)
+          (λ i d within. all (suc i) d (omega arith)),
+    )
 
 -- where no term of a sum is greater, and one is less, the sum is less
 pub sum_less : {S : Type 0} (f : S → ℕ) (xs ys : List S) (k : ℕ) → length ys ≡ length xs
@@ -66,20 +71,32 @@ pub sum_less : {S : Type 0} (f : S → ℕ) (xs ys : List S) (k : ℕ) → lengt
 sum_less f [] ys k same all l less = absurd (omega arith)
 sum_less f (x ∷ xs) [] k same all l less = absurd (omega arith)
 sum_less f (x ∷ xs) (y ∷ ys) zero same all l less =
-    omega (arith, sum_by-cons f x xs, sum_by-cons f y ys, less x, sum_at_most f xs ys (omega arith)
-        (λ i d within. all (suc i) d (omega arith)))
+    omega (
+      arith,
+      sum_by-cons f x xs,
+      sum_by-cons f y ys,
+      less x,
+      sum_at_most f xs ys (omega arith)
+          (λ i d within. all (suc i) d (omega arith)),
+    )
 sum_less f (x ∷ xs) (y ∷ ys) (suc k) same all l less =
-    omega (arith, sum_by-cons f x xs, sum_by-cons f y ys, all 0 x (omega arith), sum_less f xs ys k (omega arith)
-        (λ i d within. all (suc i) d (omega arith)) (omega arith) less)
+    omega (
+      arith,
+      sum_by-cons f x xs,
+      sum_by-cons f y ys,
+      all 0 x (omega arith),
+      sum_less f xs ys k (omega arith)
+          (λ i d within. all (suc i) d (omega arith)) (omega arith) less,
+    )
 
 -- a test that passes for some passes at some place
 pub any_where : {S : Type 0} (p : S → Bool) (xs : List S) → list_any p xs ≡ true
     → (i : ℕ) × (i < length xs) × ((d : S) → p (get_or xs i d) ≡ true)
 any_where p [] e = cc
 any_where p (x ∷ xs) e = elim (or_cases (p x) (list_any p xs) e) [
-    inl first ↦ (0, omega arith, λ d. first)
+  | inl first ↦ (0, omega arith, λ d. first)
   | inr later ↦ let at = any_where p xs later in (suc at.0, omega (arith, at.1), λ d. at.2 d)
-  ]
+]
 
 has_floor : (floor least : Option ℕ) → is_least floor least ≡ true → is_some floor ≡ true
 has_floor None least e = cc
@@ -99,11 +116,11 @@ some_of (x ∷ xs) i l = x
 pub round_todo : {S : Type 0} (asks : S → Asked) (stands : S → Standing) (budget : ℕ) (old new : List S)
     (from to : List ℕ) → ((x : S) → IsLawful (asks x) (stands x))
     → any_may_have_next (sources_of asks stands old) ≡ true → PollsAll asks stands budget old new from to
-        → sum_by todo (sources_of asks stands new) < sum_by todo (sources_of asks stands old)
+    → sum_by todo (sources_of asks stands new) < sum_by todo (sources_of asks stands old)
 round_todo {S = S} asks stands budget old new from to law any polls =
     let at = any_where (may_have_next least) all any in
     sum_less todo all (map f new) at.0 (omega (arith, polls.count, size, length-map new f))
-        (λ i d within. step i d within) at.1 (λ d. less at.0 d at.1 (at.2 d))
+    (λ i d within. step i d within) at.1 (λ d. less at.0 d at.1 (at.2 d))
   where
     f : S → Source
     f = source_of asks stands
@@ -131,10 +148,10 @@ round_todo {S = S} asks stands budget old new from to law any polls =
     at_once i e within may =
         let one = MatchBool-at_true _ _ may (polls.at i e within) in
         let lawful : IsLawful (asks (get_or old i e)) (stands (get_or new i e)) =
-            subst (λ a. IsLawful a (stands (get_or new i e))) one.asked (law (get_or new i e)) in
+        subst (λ a. IsLawful a (stands (get_or new i e))) one.asked (law (get_or new i e)) in
         polled_todo (asks (get_or old i e)) (stands (get_or old i e))
-            (stands (get_or new i e)) budget _ _ one.answer one.polls lawful (room i e within)
-            (idle_if_next least (f (get_or old i e)) may)
+        (stands (get_or new i e)) budget _ _ one.answer one.polls lawful (room i e within)
+        (idle_if_next least (f (get_or old i e)) may)
 
     less : (i : ℕ) (d : Source) → i < length all → may_have_next least (get_or all i d) ≡ true
         → todo (get_or (map f new) i d) < todo (get_or all i d)
@@ -148,9 +165,9 @@ round_todo {S = S} asks stands budget old new from to law any polls =
         let l : i < length old = omega (arith, within, size) in
         let e : S = some_of old i l in
         rw (here_new i d e l, here_old i d e l) (
-          elim (cases_Bool (may_have_next least (f (get_or old i e)))) [
-            inl may ↦ (let less = at_once i e l may in omega (arith, less))
+        elim (cases_Bool (may_have_next least (f (get_or old i e)))) [
+          | inl may ↦ (let less = at_once i e l may in omega (arith, less))
           | inr held ↦ (let same = (MatchBool-at_false _ _ held (polls.at i e l)).0 in
               omega (arith, ap (λ x. todo (f x)) same))
-          ]
+        ]
         )

@@ -16,8 +16,10 @@ ghost use Rattle.scatter_gather.specs.Polling.{PollsAll, PollsSome};
 ghost use Rattle.scatter_gather.specs.Moves.{PollsOne, GivesReady, Waited, Gave, Looks, distance_of};
 ghost use Rattle.scatter_gather.specs.Moves.{BeginsForNext, BeginsUpTo, BegunWithin};
 
-use crate::looks::{all_near, any_may_have_next, any_waits, bound_of, least_floor, may_have_next};
-use crate::looks::{reads_of, ready_head, rows_of};
+use crate::looks::{
+    all_near, any_may_have_next, any_waits, bound_of, least_floor, may_have_next, reads_of,
+    ready_head, rows_of,
+};
 use crate::round::{poll_all, poll_by};
 use crate::{Gate, Tally};
 use hamming_model::Hit;
@@ -312,7 +314,8 @@ impl<H: HitSource> Gather<H> {
 
     /// Ends the gathering, and tells how many hits it gave and how much was read.
     pub fn cancel(self) -> Tally
-        where H: Drop
+    where
+        H: Drop,
         ensures given { result.given ≡ self.given }
         ensures reads { result.reads ≡ all_reads H.standing self }
     {

@@ -178,7 +178,7 @@ pub(crate) fn reads_of<H: HitSource>(sources: &[H]) -> u64
 pub(crate) fn bound_of<H: HitSource>(sources: &mut [H], given: Option<u32>) -> u64
     requires { (shard : ℕ) → (d : H) → shard < length sources.old
         → IfSome given
-            (λ radius. radius ≤ (H.asked (slice_index_or sources.old shard d)).farthest) }
+        (λ radius. radius ≤ (H.asked (slice_index_or sources.old shard d)).farthest) }
     ensures bound { result
         ≡ min (sum_by (λ source. (H.asked source).bound given) sources.old) u64.MAX }
     ensures asked { map H.asked sources.new ≡ map H.asked sources.old }

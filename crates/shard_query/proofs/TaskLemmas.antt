@@ -29,7 +29,7 @@ module _ (p : Planned) (old new : Place) (hits : Window) (reads : ℕ) (is : IsT
     answer_kept : in_order ((hits.found ++ option_to_list kept) ++ hits_left p new) ≡ scan_of p
     answer_kept =
         ap in_order (append_assoc hits.found (option_to_list kept) (hits_left p new))
-            ∙ ap (λ xs. in_order (hits.found ++ xs)) (sym of_hits) ∙ (is.search more).answer
+        ∙ ap (λ xs. in_order (hits.found ++ xs)) (sym of_hits) ∙ (is.search more).answer
 
     -- a posting was read that isn't the last
     pub read_on : reads + 1 ≢ p.least → IsTask p new (with_kept hits kept) (reads + 1)
@@ -85,8 +85,13 @@ module _ (p : Planned) (old new : Place) (hits : Window) (reads : ℕ) (is : IsT
         reserved = is.reserved;
         few = is.few;
         bounded = is.bounded;
-        search = λ again. record { place = place; left = omega arith; answer =
-            ap (λ xs. in_order (hits.found ++ xs)) of_hits ∙ search.answer; none_moved = search.none_moved };
+        search = λ again. record {
+          place = place;
+          left = omega arith;
+          answer =
+              ap (λ xs. in_order (hits.found ++ xs)) of_hits ∙ search.answer;
+          none_moved = search.none_moved;
+        };
         found_all = λ all. absurd (omega arith);
       }
 

@@ -25,7 +25,7 @@ second false b both = cc
 pub search_works : (p : Planned) (old new : Place) (hits more_hits : Window) (reads more_reads from to : ℕ)
     → IsTask p old hits reads → reads < p.least
     → more_hits.given ≡ hits.given → more_hits.moved ≡ hits.moved → reads ≤ more_reads → more_reads ≤ reads + 1
-        → to + reads ≡ from + more_reads
+    → to + reads ≡ from + more_reads
     → values_left p new + (p.least - more_reads) + 1 ≡ values_left p old + (p.least - reads)
     → Works None 1 (standing_of p old hits reads) (standing_of p new more_hits more_reads) from to
 search_works p old new hits more_hits reads more_reads from to is more given moved rises fewer ledger units =
@@ -33,7 +33,7 @@ search_works p old new hits more_hits reads more_reads from to is more given mov
     let waiting = length-take (more_hits.moved - more_hits.given) (left_of more_hits) in
     let searching : (reads == p.least) ≡ false = ne_eqb reads p.least (λ (e : reads ≡ p.least). omega arith) in
     subst (λ b. Works None 1 (standing_at p old hits reads b) (standing_of p new more_hits more_reads) from to)
-        (sym searching) (record {
+    (sym searching) (record {
       given = given;
       floor = above_zero (cond (more_reads == p.least) (first_distance (left_of more_hits)) (Some 0));
       idle = λ none. cc;
@@ -66,10 +66,13 @@ module _ (p : Planned) (w : Place) (hits : Window) (reads : ℕ) (is : IsTask p 
         begun = inl refl;
         farther = omega arith;
         stays_ended = λ ended. absurd
-            (omega (arith, eqb-true hits.moved (length hits.found)
-            (second (reads == p.least) (hits.moved == length hits.found) ended)));
+            (omega (
+              arith,
+              eqb-true hits.moved (length hits.found)
+                  (second (reads == p.least) (hits.moved == length hits.found) ended),
+            ));
         units = omega arith;
-      exact = λ same. omega arith;
+        exact = λ same. omega arith;
       }
 
   -- a hit is in the room, and the query stays one
@@ -88,14 +91,14 @@ module _ (p : Planned) (w : Place) (hits : Window) (reads : ℕ) (is : IsTask p 
 
   floor_after : (all_read : Bool) → (reads == p.least) ≡ all_read
       → NotBelow (cond all_read (first_distance (left_of hits)) (Some 0))
-          (cond all_read (first_distance (left_of (with_given hits))) (Some 0))
+      (cond all_read (first_distance (left_of (with_given hits))) (Some 0))
   floor_after false searching = omega arith
   floor_after true all =
       let found = is.found_all (eqb-true reads p.least all) in
       let up : Ascends hits.found =
-          subst Ascends (sym found) (ascends_in_order (hits_within p.version.contents.rows (query_of p) p.tau)) in
+      subst Ascends (sym found) (ascends_in_order (hits_within p.version.contents.rows (query_of p) p.tau)) in
       subst (λ xs. NotBelow (first_distance (left_of hits)) (first_distance xs))
-          (drop-drop (length (take 1 (waiting_of hits))) hits.given hits.found)
+      (drop-drop (length (take 1 (waiting_of hits))) hits.given hits.found)
       (floor_rises (length (take 1 (waiting_of hits))) (left_of hits) (ascends_drop hits.given hits.found up))
 
   -- the first hit that waits is taken

@@ -40,9 +40,9 @@ pub scan_near : (rows : List (ℕ × List ℕ)) (query : List ℕ) (radius most 
     → All (λ hit. hit.dist ≤ most) (scan rows query radius)
 scan_near rows query radius most le =
     All-permutation (λ (hit : Hit). hit.dist ≤ most) (hits_within rows query radius) (scan rows query radius)
-        (in_order_permutation (hits_within rows query radius))
+    (in_order_permutation (hits_within rows query radius))
     (All-from_recursion (λ (hit : Hit). hit.dist ≤ most) (hits_within rows query radius)
-        (farther (hits_within rows query radius) (near_only radius (map (hit_of query) rows))))
+    (farther (hits_within rows query radius) (near_only radius (map (hit_of query) rows))))
   where
     farther : (hits : List Hit) → AllByRecursion (λ hit. hit.dist ≤ radius) hits
         → AllByRecursion (λ hit. hit.dist ≤ most) hits
@@ -52,5 +52,10 @@ scan_near rows query radius most le =
 -- a scan has at most as many hits as there are rows
 pub scan_few : (rows : List (ℕ × List ℕ)) (query : List ℕ) (radius : ℕ) → length (scan rows query radius) ≤ length rows
 scan_few rows query radius =
-    omega (arith, order_size (hits_within rows query radius), few_near radius
-        (map (hit_of query) rows), length-map rows (hit_of query))
+    omega (
+      arith,
+      order_size (hits_within rows query radius),
+      few_near radius
+          (map (hit_of query) rows),
+      length-map rows (hit_of query),
+    )

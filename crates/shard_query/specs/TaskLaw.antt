@@ -68,7 +68,7 @@ module _ (p : Planned) (w : Place) (hits : Window) (reads : ℕ) (is : IsTask p 
   when_read all =
       let found = is.found_all all in
       let up : Ascends hits.found =
-          subst Ascends (sym found) (ascends_in_order (hits_within p.version.contents.rows (query_of p) p.tau)) in
+      subst Ascends (sym found) (ascends_in_order (hits_within p.version.contents.rows (query_of p) p.tau)) in
       let reached_all = given_or_waiting in
       let number = ap length found in
       let among = is.window.among in
@@ -95,8 +95,8 @@ module _ (p : Planned) (w : Place) (hits : Window) (reads : ℕ) (is : IsTask p 
   pub task_lawful : IsLawful (asked_of p hits.room) (standing_of p w hits reads)
   task_lawful =
       ⊎_elim (λ (more : reads < p.least). subst (λ b. IsLawful (asked_of p hits.room) (standing_at p w hits reads b))
-          (sym (ne_eqb reads p.least (λ (e : reads ≡ p.least). omega arith))) (while_searching more))
+      (sym (ne_eqb reads p.least (λ (e : reads ≡ p.least). omega arith))) (while_searching more))
       (λ (all : p.least ≤ reads). (let read : reads ≡ p.least = omega (arith, is.bounded) in
       subst (λ b. IsLawful (asked_of p hits.room) (standing_at p w hits reads b)) (sym (eq-eqb reads p.least read))
-          (when_read read)))
+      (when_read read)))
       (cases_lt reads p.least)

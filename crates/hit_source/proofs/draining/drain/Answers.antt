@@ -6,20 +6,20 @@ use Rattle.hit_source.proofs.draining.drain.Goals as goal
 pub returns-in_err-take_waiting-2-clause-takes : goal.returns-in_err-take_waiting-2-clause-takes
 returns-in_err-take_waiting-2-clause-takes g c =
     takes_further _ _ _ _ _ _ _ _ _ (c.poll-polled.ensures.asked
-        ∙ c.loop.invariant.3) c.loop.invariant.0 c.poll-polled.ensures.polls.given c.take_waiting-in-loop.ensures.takes
+    ∙ c.loop.invariant.3) c.loop.invariant.0 c.poll-polled.ensures.polls.given c.take_waiting-in-loop.ensures.takes
 
 pub returns-in-Ended-clause-takes : goal.returns-in-Ended-clause-takes
 returns-in-Ended-clause-takes g c =
     takes_further _ _ _ _ _ _ _ _ _ (c.poll-polled.ensures.asked
-        ∙ c.loop.invariant.3) c.loop.invariant.0 c.poll-polled.ensures.polls.given c.take_waiting-in-loop.ensures.takes
+    ∙ c.loop.invariant.3) c.loop.invariant.0 c.poll-polled.ensures.polls.given c.take_waiting-in-loop.ensures.takes
 
 pub returns-in-Ended-clause-ends : goal.returns-in-Ended-clause-ends
 returns-in-Ended-clause-ends g c =
     drained_then _ _ _ _ _ _ _ (c.take_waiting-in-loop.ensures.asked ∙ c.poll-polled.ensures.asked ∙ c.loop.invariant.3)
     (takes_further _ _ _ _ _ _ _ _ _ (c.poll-polled.ensures.asked
-        ∙ c.loop.invariant.3) c.loop.invariant.0 c.poll-polled.ensures.polls.given c.take_waiting-in-loop.ensures.takes)
+    ∙ c.loop.invariant.3) c.loop.invariant.0 c.poll-polled.ensures.polls.given c.take_waiting-in-loop.ensures.takes)
     c.take_waiting-in-loop.ensures.gives c.take_waiting-in-loop.ensures.lawful c.in_ok-take_waiting-2.ensures.empties
-        (c.in-Ended.ensures.polls.answers.ended.0 refl)
+    (c.in-Ended.ensures.polls.answers.ended.0 refl)
 
 pub loop-smaller : goal.loop-smaller
 loop-smaller g c =

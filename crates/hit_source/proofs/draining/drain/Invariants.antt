@@ -7,7 +7,7 @@ use Rattle.hit_source.proofs.draining.drain.Given as goal
 abbrev pub invariant-loop : goal.invariant-loop
 invariant-loop g l =
     Takes (g.H.HitSource.asked l.fn.source) (g.H.HitSource.standing l.fn.source) (g.H.HitSource.standing l.source)
-        l.fn.out.items l.out.items
+    l.fn.out.items l.out.items
     × ((g.H.HitSource.standing l.source).waiting ≡ [])
     × (l.steps + (g.H.HitSource.standing l.fn.source).reads ≡ l.fn.steps + (g.H.HitSource.standing l.source).reads)
     × (g.H.HitSource.asked l.source ≡ g.H.HitSource.asked l.fn.source)
@@ -16,4 +16,4 @@ invariant-loop g l =
 abbrev pub decreases-loop : goal.decreases-loop
 decreases-loop g l =
     (g.H.HitSource.standing l.source).units +
-        (length (g.H.HitSource.asked l.source).hits - (g.H.HitSource.standing l.source).given)
+    (length (g.H.HitSource.asked l.source).hits - (g.H.HitSource.standing l.source).given)

@@ -10,17 +10,17 @@ pub returns-then-not-near : goal.returns-then-not-near
 returns-then-not-near g c =
     let as_seen = source_of g.H.HitSource.asked g.H.HitSource.standing in
     let at = read_seen as_seen c.args.sources.now c.args.sources.now c.loop-shard.shard c.index-sources-shard.result
-        refl (omega (arith, c.loop-shard-test.true)) c.index-sources-shard.is in
+    refl (omega (arith, c.loop-shard-test.true)) c.index-sources-shard.is in
     sym (list_all_at (λ (s : Source). s.asked.near) (map as_seen c.args.sources.now) c.loop-shard.shard
-        (as_seen c.index-sources-shard.result) at.0 (ap (λ (s : Source). s.asked.near) at.1 ∙ sym c.near.ensures
-        ∙ c.if-not-near.true))
+    (as_seen c.index-sources-shard.result) at.0 (ap (λ (s : Source). s.asked.near) at.1 ∙ sym c.near.ensures
+    ∙ c.if-not-near.true))
 
 pub loop-shard-preserved : goal.loop-shard-preserved
 loop-shard-preserved g c =
     let as_seen = source_of g.H.HitSource.asked g.H.HitSource.standing in
     let at = read_seen as_seen c.args.sources.now c.args.sources.now c.loop-shard.shard c.index-sources-shard.result
-        refl (omega (arith, c.loop-shard-test.true)) c.index-sources-shard.is in
+    refl (omega (arith, c.loop-shard-test.true)) c.index-sources-shard.is in
     list_all_more (λ (s : Source). s.asked.near) (map as_seen c.args.sources.now) c.loop-shard.shard
-        (as_seen c.index-sources-shard.result) at.0
+    (as_seen c.index-sources-shard.result) at.0
     ∙ and_from _ _ c.loop-shard.invariant (ap (λ (s : Source). s.asked.near) at.1 ∙ sym c.near.ensures
-        ∙ c.if-not-near.false)
+    ∙ c.if-not-near.false)

@@ -8,4 +8,4 @@ use Rattle.scatter_gather.proofs.looks.any_may_have_next.Given as goal
 abbrev pub invariant-loop-shard : goal.invariant-loop-shard
 invariant-loop-shard g l =
     list_any (may_have_next l.least) (take l.shard (sources_of g.H.HitSource.asked g.H.HitSource.standing l.sources))
-        ≡ false
+    ≡ false

@@ -18,15 +18,15 @@ loop-shard-preserved g c =
     let hs = c.args.sources.now in
     let shard = c.loop-shard.shard in
     let at = read_seen as_seen hs hs shard c.index-sources-shard.result refl (omega (arith, c.loop-shard-test.true))
-        c.index-sources-shard.is in
+    c.index-sources-shard.is in
     let again = c.index-sources-shard-in-loop-shard in
-    let also = read_seen as_seen hs hs shard again.result refl (omega (arith, c.loop-shard-test.true)) again.is in
-    ( rw c.better-best.ensures
-        (best_step (map as_seen hs) shard (as_seen c.index-sources-shard.result)
-        _ c.loop-shard.best at.0 at.1 c.head.ensures.head c.loop-shard.invariant.0)
-    , rw (c.lower_floor-floor.ensures, c.empty_floor.ensures)
-        (least_step empty_floor c.loop-shard.floor (map as_seen hs) shard
-        (as_seen again.result) _ also.0 also.1 c.loop-shard.invariant.1)
+    let also = read_seen as_seen hs hs shard again.result refl (omega (arith, c.loop-shard-test.true)) again.is in (
+      rw c.better-best.ensures
+          (best_step (map as_seen hs) shard (as_seen c.index-sources-shard.result)
+          _ c.loop-shard.best at.0 at.1 c.head.ensures.head c.loop-shard.invariant.0),
+      rw (c.lower_floor-floor.ensures, c.empty_floor.ensures)
+          (least_step empty_floor c.loop-shard.floor (map as_seen hs) shard
+          (as_seen again.result) _ also.0 also.1 c.loop-shard.invariant.1),
     )
 
 pub returns-then-has_to_wait : goal.returns-then-has_to_wait
@@ -36,11 +36,11 @@ returns-then-has_to_wait g c =
     let all = map as_seen c.args.sources.now in
     let size = length-map c.args.sources.now as_seen in
     let end : c.loop-shard.shard ≡ length all =
-        omega (arith, size, c.loop-shard-test.false, c.loop-shard.auto.shard-end) in
+    omega (arith, size, c.loop-shard-test.false, c.loop-shard.auto.shard-end) in
     let floor = least_end empty_floor c.loop-shard.floor all c.loop-shard.shard (least_of empty_floor all)
-        (omega (arith, end)) c.loop-shard.invariant.1 in
+    (omega (arith, end)) c.loop-shard.invariant.1 in
     ready_held all (all_lawful g.H.HitSource.asked g.H.HitSource.standing laws.lawful c.args.sources.now)
-        c.loop-shard.best
+    c.loop-shard.best
     (subst (λ n. BestOf all n c.loop-shard.best) end c.loop-shard.invariant.0) nobody
     (ap (has_to_wait c.loop-shard.best) (sym floor) ∙ sym c.has_to_wait.ensures ∙ c.if-has_to_wait.true)
 
@@ -51,10 +51,10 @@ returns g c =
     let all = map as_seen c.args.sources.now in
     let size = length-map c.args.sources.now as_seen in
     let end : c.loop-shard.shard ≡ length all =
-        omega (arith, size, c.loop-shard-test.false, c.loop-shard.auto.shard-end) in
+    omega (arith, size, c.loop-shard-test.false, c.loop-shard.auto.shard-end) in
     let floor = least_end empty_floor c.loop-shard.floor all c.loop-shard.shard (least_of empty_floor all)
-        (omega (arith, end)) c.loop-shard.invariant.1 in
+    (omega (arith, end)) c.loop-shard.invariant.1 in
     ready_best all (all_lawful g.H.HitSource.asked g.H.HitSource.standing laws.lawful c.args.sources.now)
-        c.loop-shard.best
+    c.loop-shard.best
     (subst (λ n. BestOf all n c.loop-shard.best) end c.loop-shard.invariant.0) nobody
     (ap (has_to_wait c.loop-shard.best) (sym floor) ∙ sym c.has_to_wait.ensures ∙ c.if-has_to_wait.false)

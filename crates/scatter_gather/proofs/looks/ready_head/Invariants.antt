@@ -9,5 +9,5 @@ abbrev pub invariant-loop-shard : goal.invariant-loop-shard
 invariant-loop-shard g l =
     BestOf (sources_of g.H.HitSource.asked g.H.HitSource.standing l.sources) l.shard l.best
     × (lower l.floor (least_of empty_floor
-        (drop l.shard (sources_of g.H.HitSource.asked g.H.HitSource.standing l.sources)))
+    (drop l.shard (sources_of g.H.HitSource.asked g.H.HitSource.standing l.sources)))
     ≡ least_of empty_floor (sources_of g.H.HitSource.asked g.H.HitSource.standing l.sources))

@@ -8,5 +8,5 @@ abbrev pub invariant-loop-shard : goal.invariant-loop-shard
 invariant-loop-shard g l =
     (length l.marks ≡ length l.sources)
     × ((i : ℕ) (d : Source) → i < l.shard
-        → get_or l.marks i false ≡ may_have_next l.least
-        (get_or (sources_of g.H.HitSource.asked g.H.HitSource.standing l.sources) i d))
+    → get_or l.marks i false ≡ may_have_next l.least
+    (get_or (sources_of g.H.HitSource.asked g.H.HitSource.standing l.sources) i d))

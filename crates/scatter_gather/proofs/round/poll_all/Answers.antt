@@ -14,12 +14,12 @@ returns g c =
     let front = c.split_at_mut-ours.ensures.front ∙ ap (take n) c.as_mut.ensures.value in
     let back = c.split_at_mut-ours.ensures.back ∙ ap (drop n) c.as_mut.ensures.value in
     let fits : n ≤ length c.args.meters.now =
-        omega (arith, c.requires.few, c.as_mut.ensures.sixteen, ap length c.as_mut.ensures.value) in
+    omega (arith, c.requires.few, c.as_mut.ensures.sixteen, ap length c.as_mut.ensures.value) in
     let size : length c.poll_marked.new.meters ≡ n =
-        omega (arith, c.poll_marked.auto.meters, c.split_at_mut-ours.ensures.front_len) in
+    omega (arith, c.poll_marked.auto.meters, c.split_at_mut-ours.ensures.front_len) in
     let each = rw front at c.poll_marked.ensures.each in
     rw back
     (polls_all g.H.HitSource.asked g.H.HitSource.standing c.args.budget n c.args.sources.now c.poll_marked.new.sources
-        c.args.meters.now c.poll_marked.new.meters _ c.mark.new.marks c.mark.ensures
+    c.args.meters.now c.poll_marked.new.meters _ c.mark.new.marks c.mark.ensures
     refl (omega (arith, c.poll_marked.auto.sources)) fits size
-        (lent_back n c.args.meters.now c.poll_marked.new.meters _ size fits refl) each)
+    (lent_back n c.args.meters.now c.poll_marked.new.meters _ size fits refl) each)

@@ -9,4 +9,4 @@ invariant-loop-done g l =
     (l.self.window.found ≡ l.fn.self.window.found)
     × (l.self.window.room ≡ l.fn.self.window.room)
     × Works None l._done (standing_of_list l.fn.self.window l.fn.self.reads)
-        (standing_of_list l.self.window l.self.reads) l.fn.steps l.steps
+    (standing_of_list l.self.window l.self.reads) l.fn.steps l.steps

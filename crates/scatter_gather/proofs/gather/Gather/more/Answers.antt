@@ -15,58 +15,59 @@ returns-then-self-rows_of-clause-more g c =
     let laws = g.met.H.HitSource g.world.𝓛 g.world.𝓜 g.world.𝓡 ((λ s x. x), (λ x. x), (λ x. x), λ x. x) in
     let all = sources_of g.H.HitSource.asked g.H.HitSource.standing c.self.inside.sources.items in
     let near : list_all (λ (s : Source). s.asked.near) all ≡ true =
-        rw (← c.deref.ensures.value) (sym c.all_near.ensures ∙ c.if-all_near.true) in
+    rw (← c.deref.ensures.value) (sym c.all_near.ensures ∙ c.if-all_near.true) in
     let rows = rw c.deref-then-all_near.ensures.value at c.rows_of.ensures in
     let enough : nat_le c.self.inside.limit (sum_by (λ (s : Source). s.asked.rows) all) ≡ true =
-        le-leb c.self.inside.limit (sum_by (λ (s : Source). s.asked.rows) all)
-        (omega (arith, rows, c.if-self-rows_of.true)) in
+    le-leb c.self.inside.limit (sum_by (λ (s : Source). s.asked.rows) all)
+    (omega (arith, rows, c.if-self-rows_of.true)) in
     subst (λ x. true ≡ nat_lt x.given (length (answer_of (seen g.H.HitSource.asked g.H.HitSource.standing x))))
-        c.self.view_is
+    c.self.view_is
     (sym (more_rows (seen g.H.HitSource.asked g.H.HitSource.standing
-        (gathered c.self.inside.sources.items c.self.inside.limit c.self.inside.given c.self.inside.last))
-        c.self.invariant (all_lawful g.H.HitSource.asked g.H.HitSource.standing laws.lawful
-        c.self.inside.sources.items) c.if-self.false (and_from _ _ near enough)))
+    (gathered c.self.inside.sources.items c.self.inside.limit c.self.inside.given c.self.inside.last))
+    c.self.invariant (all_lawful g.H.HitSource.asked g.H.HitSource.standing laws.lawful
+    c.self.inside.sources.items) c.if-self.false (and_from _ _ near enough)))
 
 pub returns-then-any_waits-clause-more : goal.returns-then-any_waits-clause-more
 returns-then-any_waits-clause-more g c =
     let laws = g.met.H.HitSource g.world.𝓛 g.world.𝓜 g.world.𝓡 ((λ s x. x), (λ x. x), (λ x. x), λ x. x) in
     let open_still = subst (λ x. x.given ≡ x.limit → ⊥) c.self.view_is c.if-self.false in
     let here : list_any has_head
-        (sources_of g.H.HitSource.asked g.H.HitSource.standing c.self-in-loop-self.inside.sources.items) ≡ true =
-        rw (← c.deref-in-loop-self.ensures.value) (sym c.any_waits.ensures ∙ c.if-any_waits.true) in
+    (sources_of g.H.HitSource.asked g.H.HitSource.standing c.self-in-loop-self.inside.sources.items) ≡ true =
+    rw (← c.deref-in-loop-self.ensures.value) (sym c.any_waits.ensures ∙ c.if-any_waits.true) in
     let waits = subst (λ x. list_any has_head (sources_of g.H.HitSource.asked g.H.HitSource.standing x.sources) ≡ true)
-        c.self-in-loop-self.view_is here in
+    c.self-in-loop-self.view_is here in
     sym (seen_waits g.H.HitSource.asked g.H.HitSource.standing c.loop-self.self laws.lawful c.loop-self.invariant.1
     (waited_open g.H.HitSource.asked g.H.HitSource.standing c.args.self.now c.loop-self.self _ _
-        c.loop-self.invariant.0 open_still) waits)
+    c.loop-self.invariant.0 open_still) waits)
     ∙ waited_more g.H.HitSource.asked g.H.HitSource.standing c.args.self.now c.loop-self.self _ _
-        c.loop-self.invariant.0
+    c.loop-self.invariant.0
 
 pub returns-in_default-clause-more : goal.returns-in_default-clause-more
 returns-in_default-clause-more g c =
     let laws = g.met.H.HitSource g.world.𝓛 g.world.𝓜 g.world.𝓡 ((λ s x. x), (λ x. x), (λ x. x), λ x. x) in
     let open_still = subst (λ x. x.given ≡ x.limit → ⊥) c.self.view_is c.if-self.false in
     let here : list_any has_head
-        (sources_of g.H.HitSource.asked g.H.HitSource.standing c.self-in-loop-self.inside.sources.items) ≡ false =
-        rw (← c.deref-in-loop-self.ensures.value) (sym c.any_waits.ensures ∙ c.if-any_waits.false) in
+    (sources_of g.H.HitSource.asked g.H.HitSource.standing c.self-in-loop-self.inside.sources.items) ≡ false =
+    rw (← c.deref-in-loop-self.ensures.value) (sym c.any_waits.ensures ∙ c.if-any_waits.false) in
     let none = subst (λ x. list_any has_head (sources_of g.H.HitSource.asked g.H.HitSource.standing x.sources) ≡ false)
-        c.self-in-loop-self.view_is here in
+    c.self-in-loop-self.view_is here in
     sym (none_due_more g.H.HitSource.asked g.H.HitSource.standing c.loop-self.self laws.lawful c.loop-self.invariant.1
     (waited_open g.H.HitSource.asked g.H.HitSource.standing c.args.self.now c.loop-self.self _ _
-        c.loop-self.invariant.0 open_still) (sym c.poll_some.ensures.due ∙ ap is_some c.in_default.is) none)
+    c.loop-self.invariant.0 open_still) (sym c.poll_some.ensures.due ∙ ap is_some c.in_default.is) none)
     ∙ waited_more g.H.HitSource.asked g.H.HitSource.standing c.args.self.now c.loop-self.self _ _
-        c.loop-self.invariant.0
+    c.loop-self.invariant.0
 
 pub loop-self-smaller : goal.loop-self-smaller
 loop-self-smaller g c =
     let laws = g.met.H.HitSource g.world.𝓛 g.world.𝓜 g.world.𝓡 ((λ s x. x), (λ x. x), (λ x. x), λ x. x) in
     let polls = c.poll_some.ensures.polled (ap is_some c.in-Some.is) in
     loop_todo g.H.HitSource.asked g.H.HitSource.standing polls.budget c.loop-self.self c.loop-self.self
-        c.poll_some.new.self _ _ laws.lawful refl (sym c.poll_some.ensures.due ∙ ap is_some c.in-Some.is) polls.polls
+    c.poll_some.new.self _ _ laws.lawful refl (sym c.poll_some.ensures.due ∙ ap is_some c.in-Some.is) polls.polls
 
 pub loop-self-preserved : goal.loop-self-preserved
 loop-self-preserved g c =
-    let polls = c.poll_some.ensures.polled (ap is_some c.in-Some.is) in
-    (waited_again g.H.HitSource.asked g.H.HitSource.standing polls.budget c.args.self.now c.loop-self.self
-        c.poll_some.new.self _ _ _ c.loop-self.invariant.0 polls.polls c.poll_some.ensures.stays,
-        c.poll_some.ensures.holds)
+    let polls = c.poll_some.ensures.polled (ap is_some c.in-Some.is) in (
+      waited_again g.H.HitSource.asked g.H.HitSource.standing polls.budget c.args.self.now c.loop-self.self
+          c.poll_some.new.self _ _ _ c.loop-self.invariant.0 polls.polls c.poll_some.ensures.stays,
+      c.poll_some.ensures.holds,
+    )

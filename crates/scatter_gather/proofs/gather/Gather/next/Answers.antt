@@ -17,112 +17,112 @@ pub returns-in-Some-clause-gives : goal.returns-in-Some-clause-gives
 returns-in-Some-clause-gives g c =
     sym c.in-Some.ensures.gives
     ∙ ap first_of (waited_left g.H.HitSource.asked g.H.HitSource.standing c.args.self.now c.loop-hit.self
-        c.args.meters.now c.loop-hit.meters c.loop-hit.invariant.0)
+    c.args.meters.now c.loop-hit.meters c.loop-hit.invariant.0)
 
 pub returns-in-Some-clause-gave : goal.returns-in-Some-clause-gave
 returns-in-Some-clause-gave g c =
     gave_one g.H.HitSource.asked g.H.HitSource.standing c.args.self.now c.loop-hit.self c.ready.new.self
-        c.args.meters.now c.loop-hit.meters c.in-Some.hit c.loop-hit.invariant.0
+    c.args.meters.now c.loop-hit.meters c.in-Some.hit c.loop-hit.invariant.0
     (subst (λ r. GivesReady g.H.HitSource.asked g.H.HitSource.standing c.loop-hit.self c.ready.new.self r)
-        c.in-Some.is c.ready.ensures.after)
+    c.in-Some.is c.ready.ensures.after)
 
 pub returns-in_default-poll_some-clause-gives : goal.returns-in_default-poll_some-clause-gives
 returns-in_default-poll_some-clause-gives g c =
     let stayed : c.ready.new.self ≡ c.loop-hit.self =
-        subst (λ r. GivesReady g.H.HitSource.asked g.H.HitSource.standing c.loop-hit.self c.ready.new.self r)
-        c.in_default.is c.ready.ensures.after in
+    subst (λ r. GivesReady g.H.HitSource.asked g.H.HitSource.standing c.loop-hit.self c.ready.new.self r)
+    c.in_default.is c.ready.ensures.after in
     let held : some_due (seen g.H.HitSource.asked g.H.HitSource.standing c.loop-hit.self) ≡ false =
-        subst (λ x. some_due (seen g.H.HitSource.asked g.H.HitSource.standing x) ≡ false) stayed
-            (sym c.poll_some.ensures.due ∙ ap is_some c.in_default-poll_some.is) in
+    subst (λ x. some_due (seen g.H.HitSource.asked g.H.HitSource.standing x) ≡ false) stayed
+    (sym c.poll_some.ensures.due ∙ ap is_some c.in_default-poll_some.is) in
     sym (c.ready.ensures.none_left c.in_default.is held)
     ∙ ap first_of (waited_left g.H.HitSource.asked g.H.HitSource.standing c.args.self.now c.loop-hit.self
-        c.args.meters.now c.loop-hit.meters c.loop-hit.invariant.0)
+    c.args.meters.now c.loop-hit.meters c.loop-hit.invariant.0)
 
 pub loop-hit-smaller : goal.loop-hit-smaller
 loop-hit-smaller g c =
     let laws = g.met.H.HitSource g.world.𝓛 g.world.𝓜 g.world.𝓡 ((λ s x. x), (λ x. x), (λ x. x), λ x. x) in
     let stayed : c.ready.new.self ≡ c.loop-hit.self =
-        subst (λ r. GivesReady g.H.HitSource.asked g.H.HitSource.standing c.loop-hit.self c.ready.new.self r)
-        c.in_default.is c.ready.ensures.after in
+    subst (λ r. GivesReady g.H.HitSource.asked g.H.HitSource.standing c.loop-hit.self c.ready.new.self r)
+    c.in_default.is c.ready.ensures.after in
     loop_todo g.H.HitSource.asked g.H.HitSource.standing
-        (c.poll_some.ensures.polled (ap is_some c.in-Some-poll_some.is)).budget c.loop-hit.self c.ready.new.self
-        c.poll_some.new.self _ _ laws.lawful stayed (sym c.poll_some.ensures.due ∙ ap is_some c.in-Some-poll_some.is)
-        (c.poll_some.ensures.polled (ap is_some c.in-Some-poll_some.is)).polls
+    (c.poll_some.ensures.polled (ap is_some c.in-Some-poll_some.is)).budget c.loop-hit.self c.ready.new.self
+    c.poll_some.new.self _ _ laws.lawful stayed (sym c.poll_some.ensures.due ∙ ap is_some c.in-Some-poll_some.is)
+    (c.poll_some.ensures.polled (ap is_some c.in-Some-poll_some.is)).polls
 
 pub loop-hit-preserved : goal.loop-hit-preserved
 loop-hit-preserved g c =
     let laws = g.met.H.HitSource g.world.𝓛 g.world.𝓜 g.world.𝓡 ((λ s x. x), (λ x. x), (λ x. x), λ x. x) in
     let stayed : c.ready.new.self ≡ c.loop-hit.self =
-        subst (λ r. GivesReady g.H.HitSource.asked g.H.HitSource.standing c.loop-hit.self c.ready.new.self r)
-        c.in_default.is c.ready.ensures.after in
+    subst (λ r. GivesReady g.H.HitSource.asked g.H.HitSource.standing c.loop-hit.self c.ready.new.self r)
+    c.in_default.is c.ready.ensures.after in
     let some = c.poll_some.ensures.polled (ap is_some c.in-Some-poll_some.is) in
     let polls = subst (λ x. PollsAll g.H.HitSource.asked g.H.HitSource.standing some.budget x.sources
-        c.poll_some.new.self.sources c.loop-hit.meters c.poll_some.new.meters) stayed some.polls in
+    c.poll_some.new.self.sources c.loop-hit.meters c.poll_some.new.meters) stayed some.polls in
     let is = subst (λ x. IsGathering (seen g.H.HitSource.asked g.H.HitSource.standing x))
-        stayed c.ready.ensures.holds in
+    stayed c.ready.ensures.holds in
     let left = waited_left g.H.HitSource.asked g.H.HitSource.standing c.args.self.now c.loop-hit.self c.args.meters.now
-        c.loop-hit.meters c.loop-hit.invariant.0 in
-    ( waited_again g.H.HitSource.asked g.H.HitSource.standing some.budget c.args.self.now c.loop-hit.self
-        c.poll_some.new.self _ _ _ c.loop-hit.invariant.0 polls
-        (subst (λ x. c.poll_some.new.self ≡ gathered c.poll_some.new.self.sources x.limit x.given x.last)
-            stayed c.poll_some.ensures.stays)
-    , begins_more g.H.HitSource.standing _ c.args.self.now.sources c.loop-hit.self.sources c.poll_some.new.self.sources
-        c.loop-hit.invariant.0.ledgers.count c.loop-hit.invariant.1
-        (subst (λ hits. BeginsUpTo g.H.HitSource.standing
-            (distance_of (first_of hits)) c.loop-hit.self.sources c.poll_some.new.self.sources) left
-        (round_begins g.H.HitSource.asked g.H.HitSource.standing some.budget c.loop-hit.self
-            c.poll_some.new.self.sources _ _ laws.lawful is polls))
-    , λ reached. absurd (not_due c.loop-hit.self.given c.loop-hit.self.limit _
-        (omega (arith, reached, c.loop-hit.invariant.0.given, c.loop-hit.invariant.0.limit))
-        (subst (λ x. some_due (seen g.H.HitSource.asked g.H.HitSource.standing x) ≡ true) stayed
-            (sym c.poll_some.ensures.due ∙ ap is_some c.in-Some-poll_some.is)))
+    c.loop-hit.meters c.loop-hit.invariant.0 in (
+      waited_again g.H.HitSource.asked g.H.HitSource.standing some.budget c.args.self.now c.loop-hit.self
+          c.poll_some.new.self _ _ _ c.loop-hit.invariant.0 polls
+          (subst (λ x. c.poll_some.new.self ≡ gathered c.poll_some.new.self.sources x.limit x.given x.last)
+          stayed c.poll_some.ensures.stays),
+      begins_more g.H.HitSource.standing _ c.args.self.now.sources c.loop-hit.self.sources c.poll_some.new.self.sources
+          c.loop-hit.invariant.0.ledgers.count c.loop-hit.invariant.1
+          (subst (λ hits. BeginsUpTo g.H.HitSource.standing
+          (distance_of (first_of hits)) c.loop-hit.self.sources c.poll_some.new.self.sources) left
+          (round_begins g.H.HitSource.asked g.H.HitSource.standing some.budget c.loop-hit.self
+          c.poll_some.new.self.sources _ _ laws.lawful is polls)),
+      λ reached. absurd (not_due c.loop-hit.self.given c.loop-hit.self.limit _
+          (omega (arith, reached, c.loop-hit.invariant.0.given, c.loop-hit.invariant.0.limit))
+          (subst (λ x. some_due (seen g.H.HitSource.asked g.H.HitSource.standing x) ≡ true) stayed
+          (sym c.poll_some.ensures.due ∙ ap is_some c.in-Some-poll_some.is))),
     )
 
 pub returns-in-Some-clause-begins : goal.returns-in-Some-clause-begins
 returns-in-Some-clause-begins g c =
     let gives = subst (λ r. GivesReady g.H.HitSource.asked g.H.HitSource.standing c.loop-hit.self c.ready.new.self r)
-        c.in-Some.is c.ready.ensures.after in
+    c.in-Some.is c.ready.ensures.after in
     let next = c.in-Some.ensures.gives in
     let left = waited_left g.H.HitSource.asked g.H.HitSource.standing c.args.self.now c.loop-hit.self c.args.meters.now
-        c.loop-hit.meters c.loop-hit.invariant.0 in
+    c.loop-hit.meters c.loop-hit.invariant.0 in
     begins_more g.H.HitSource.standing _ c.args.self.now.sources c.loop-hit.self.sources c.ready.new.self.sources
-        c.loop-hit.invariant.0.ledgers.count
+    c.loop-hit.invariant.0.ledgers.count
     (subst (λ next. BeginsUpTo g.H.HitSource.standing
-        (distance_of next) c.args.self.now.sources c.loop-hit.self.sources) (ap first_of (sym left)
-        ∙ next) c.loop-hit.invariant.1)
+    (distance_of next) c.args.self.now.sources c.loop-hit.self.sources) (ap first_of (sym left)
+    ∙ next) c.loop-hit.invariant.1)
     (begins_given g.H.HitSource.asked g.H.HitSource.standing _ c.loop-hit.self c.ready.new.self c.in-Some.hit gives)
 
 pub returns-in-Some-clause-within : goal.returns-in-Some-clause-within
 returns-in-Some-clause-within g c = λ near was.
     let gives = subst (λ r. GivesReady g.H.HitSource.asked g.H.HitSource.standing c.loop-hit.self c.ready.new.self r)
-        c.in-Some.is c.ready.ensures.after in
+    c.in-Some.is c.ready.ensures.after in
     let rises : IfSome c.loop-hit.self.last (λ last. last ≤ c.in-Some.hit.dist) =
-        subst (λ r. IfSome r (λ hit. IfSome c.loop-hit.self.last (λ last. last ≤ hit.dist)))
-        c.in-Some.is c.ready.ensures.rises in
+    subst (λ r. IfSome r (λ hit. IfSome c.loop-hit.self.last (λ last. last ≤ hit.dist)))
+    c.in-Some.is c.ready.ensures.rises in
     let gave = returns-in-Some-clause-gave g c in
     within_next g.H.HitSource.standing c.args.self.now.last c.ready.new.self.last c.args.self.now.sources
-        c.ready.new.self.sources c.in-Some.hit gave.ledgers.count was (returns-in-Some-clause-begins g c)
+    c.ready.new.self.sources c.in-Some.hit gave.ledgers.count was (returns-in-Some-clause-begins g c)
     (subst (λ x. IfSome x (λ last. last ≤ c.in-Some.hit.dist)) c.loop-hit.invariant.0.last rises) gave.last
 
 pub returns-in_default-poll_some-clause-within : goal.returns-in_default-poll_some-clause-within
 returns-in_default-poll_some-clause-within g c = λ near was.
     let laws = g.met.H.HitSource g.world.𝓛 g.world.𝓜 g.world.𝓡 ((λ s x. x), (λ x. x), (λ x. x), λ x. x) in
     let stayed : c.ready.new.self ≡ c.loop-hit.self =
-        subst (λ r. GivesReady g.H.HitSource.asked g.H.HitSource.standing c.loop-hit.self c.ready.new.self r)
-        c.in_default.is c.ready.ensures.after in
+    subst (λ r. GivesReady g.H.HitSource.asked g.H.HitSource.standing c.loop-hit.self c.ready.new.self r)
+    c.in_default.is c.ready.ensures.after in
     let is = subst (λ x. IsGathering (seen g.H.HitSource.asked g.H.HitSource.standing x))
-        stayed c.ready.ensures.holds in
+    stayed c.ready.ensures.holds in
     let left = waited_left g.H.HitSource.asked g.H.HitSource.standing c.args.self.now c.loop-hit.self c.args.meters.now
-        c.loop-hit.meters c.loop-hit.invariant.0 in
+    c.loop-hit.meters c.loop-hit.invariant.0 in
     let none : first_of (answer_left (seen g.H.HitSource.asked g.H.HitSource.standing c.loop-hit.self)) ≡ None =
-        ap first_of left ∙ sym (returns-in_default-poll_some-clause-gives g c) in
+    ap first_of left ∙ sym (returns-in_default-poll_some-clause-gives g c) in
     let rows = waited_rows g.H.HitSource.asked g.H.HitSource.standing c.args.self.now c.loop-hit.self c.args.meters.now
-        c.loop-hit.meters c.loop-hit.invariant.0 in
+    c.loop-hit.meters c.loop-hit.invariant.0 in
     let end = ends_at_limit (seen g.H.HitSource.asked g.H.HitSource.standing c.loop-hit.self) is
-        (all_lawful g.H.HitSource.asked g.H.HitSource.standing laws.lawful c.loop-hit.self.sources) (rows
-        ∙ near) none in
+    (all_lawful g.H.HitSource.asked g.H.HitSource.standing laws.lawful c.loop-hit.self.sources) (rows
+    ∙ near) none in
     let first : c.loop-hit.self ≡ c.args.self.now =
-        c.loop-hit.invariant.2 (omega (arith, end, c.loop-hit.invariant.0.given, c.loop-hit.invariant.0.limit)) in
+    c.loop-hit.invariant.2 (omega (arith, end, c.loop-hit.invariant.0.given, c.loop-hit.invariant.0.limit)) in
     let all : c.poll_some.new.self ≡ c.args.self.now = c.poll_some.ensures.none (ap is_some c.in_default-poll_some.is)
-        ∙ stayed ∙ first in
+    ∙ stayed ∙ first in
     subst (λ x. BegunWithin g.H.HitSource.standing x.last x.sources) (sym all) was

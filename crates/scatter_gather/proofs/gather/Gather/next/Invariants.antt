@@ -11,8 +11,8 @@ abbrev pub invariant-loop-hit : goal.invariant-loop-hit
 invariant-loop-hit g l =
     Waited g.H.HitSource.asked g.H.HitSource.standing l.fn.self l.self l.fn.meters l.meters
     × BeginsUpTo g.H.HitSource.standing
-        (distance_of (first_of (answer_left (seen g.H.HitSource.asked g.H.HitSource.standing l.fn.self))))
-        l.fn.self.sources l.self.sources
+    (distance_of (first_of (answer_left (seen g.H.HitSource.asked g.H.HitSource.standing l.fn.self))))
+    l.fn.self.sources l.self.sources
     × (l.fn.self.given ≡ l.fn.self.limit → l.self ≡ l.fn.self)
 
 abbrev pub decreases-loop-hit : goal.decreases-loop-hit

@@ -24,7 +24,7 @@ returns-in_default-clause-none_left g c = λ none idle.
     let own = c.self.inside in
     let ready = rw c.deref.ensures.value at c.in_default.ensures in
     none_given g.H.HitSource.asked g.H.HitSource.standing own.sources.items _ _ _ c.args.self.now laws.lawful
-        c.self.invariant c.if-self.false ready c.self.view_is idle
+    c.self.invariant c.if-self.false ready c.self.view_is idle
 
 pub invariant_of-self : goal.invariant_of-self
 invariant_of-self g c =
@@ -32,9 +32,9 @@ invariant_of-self g c =
     let own = c.self.inside in
     let ready = rw c.deref.ensures.value at c.in-Some.ensures in
     (best_given g.H.HitSource.asked g.H.HitSource.standing own.sources.items _ _ own.last c.in-Some.best.0
-        c.in-Some.best.1 c.index_mut.result.now c.pop-head.new.self c.pop-head.result
+    c.in-Some.best.1 c.index_mut.result.now c.pop-head.new.self c.pop-head.result
     laws.lawful c.self.invariant c.if-self.false ready c.index_mut.ensures.value c.pop-head.ensures.asked
-        c.pop-head.ensures.pops).0
+    c.pop-head.ensures.pops).0
 
 pub returns-clause-may_go : goal.returns-clause-may_go
 returns-clause-may_go g c =
@@ -45,7 +45,7 @@ returns-clause-may_go g c =
     let below : own.given < own.limit = omega (arith, c.self.invariant.within, c.if-self.false) in
     subst (λ x. (hit : Hit) → (Some c.in-Some.best.1 ≡ Some hit) ↔ MayGo (seen asks stands x) hit) c.self.view_is
     (may_some (seen asks stands (gathered own.sources.items own.limit own.given own.last))
-        c.in-Some.best.0 c.in-Some.best.1 below ready)
+    c.in-Some.best.0 c.in-Some.best.1 below ready)
 
 pub returns-clause-gives : goal.returns-clause-gives
 returns-clause-gives g c =
@@ -54,9 +54,9 @@ returns-clause-gives g c =
     let ready = rw c.deref.ensures.value at c.in-Some.ensures in
     subst (λ x. next_hit (seen g.H.HitSource.asked g.H.HitSource.standing x) ≡ Some c.in-Some.best.1) c.self.view_is
     (best_given g.H.HitSource.asked g.H.HitSource.standing own.sources.items _ _ own.last c.in-Some.best.0
-        c.in-Some.best.1 c.index_mut.result.now c.pop-head.new.self c.pop-head.result
+    c.in-Some.best.1 c.index_mut.result.now c.pop-head.new.self c.pop-head.result
     laws.lawful c.self.invariant c.if-self.false ready c.index_mut.ensures.value c.pop-head.ensures.asked
-        c.pop-head.ensures.pops).1
+    c.pop-head.ensures.pops).1
 
 pub returns-clause-after : goal.returns-clause-after
 returns-clause-after g c =
@@ -64,13 +64,15 @@ returns-clause-after g c =
     let own = c.self.inside in
     let ready = rw c.deref.ensures.value at c.in-Some.ensures in
     let all = best_given g.H.HitSource.asked g.H.HitSource.standing own.sources.items _ _ own.last c.in-Some.best.0
-        c.in-Some.best.1 c.index_mut.result.now c.pop-head.new.self c.pop-head.result
-        laws.lawful c.self.invariant c.if-self.false ready c.index_mut.ensures.value c.pop-head.ensures.asked
-            c.pop-head.ensures.pops in
-    (c.in-Some.best.0, given_one g.H.HitSource.asked g.H.HitSource.standing own.sources.items _ _ own.last _ _
-        c.index_mut.result.now c.pop-head.new.self c.pop-head.result
-    c.args.self.now _ all.2 c.index_mut.ensures.value c.pop-head.ensures.asked c.pop-head.ensures.pops all.3
-        c.self.view_is refl)
+    c.in-Some.best.1 c.index_mut.result.now c.pop-head.new.self c.pop-head.result
+    laws.lawful c.self.invariant c.if-self.false ready c.index_mut.ensures.value c.pop-head.ensures.asked
+    c.pop-head.ensures.pops in (
+      c.in-Some.best.0,
+      given_one g.H.HitSource.asked g.H.HitSource.standing own.sources.items _ _ own.last _ _
+          c.index_mut.result.now c.pop-head.new.self c.pop-head.result
+          c.args.self.now _ all.2 c.index_mut.ensures.value c.pop-head.ensures.asked c.pop-head.ensures.pops all.3
+          c.self.view_is refl,
+    )
 
 pub returns-clause-holds : goal.returns-clause-holds
 returns-clause-holds g c =
@@ -78,9 +80,9 @@ returns-clause-holds g c =
     let own = c.self.inside in
     let ready = rw c.deref.ensures.value at c.in-Some.ensures in
     (best_given g.H.HitSource.asked g.H.HitSource.standing own.sources.items _ _ own.last c.in-Some.best.0
-        c.in-Some.best.1 c.index_mut.result.now c.pop-head.new.self c.pop-head.result
+    c.in-Some.best.1 c.index_mut.result.now c.pop-head.new.self c.pop-head.result
     laws.lawful c.self.invariant c.if-self.false ready c.index_mut.ensures.value c.pop-head.ensures.asked
-        c.pop-head.ensures.pops).0
+    c.pop-head.ensures.pops).0
 
 pub returns-clause-rises : goal.returns-clause-rises
 returns-clause-rises g c =
@@ -88,9 +90,9 @@ returns-clause-rises g c =
     let own = c.self.inside in
     let ready = rw c.deref.ensures.value at c.in-Some.ensures in
     let all = best_given g.H.HitSource.asked g.H.HitSource.standing own.sources.items _ _ own.last c.in-Some.best.0
-        c.in-Some.best.1 c.index_mut.result.now c.pop-head.new.self c.pop-head.result
-        laws.lawful c.self.invariant c.if-self.false ready c.index_mut.ensures.value c.pop-head.ensures.asked
-            c.pop-head.ensures.pops in
+    c.in-Some.best.1 c.index_mut.result.now c.pop-head.new.self c.pop-head.result
+    laws.lawful c.self.invariant c.if-self.false ready c.index_mut.ensures.value c.pop-head.ensures.asked
+    c.pop-head.ensures.pops in
     subst (λ x. IfSome x.last (λ last. last ≤ c.in-Some.best.1.dist)) c.self.view_is
     (last_at_most (seen g.H.HitSource.asked g.H.HitSource.standing
-        (gathered own.sources.items own.limit own.given own.last)) c.in-Some.best.1 c.self.invariant all.1)
+    (gathered own.sources.items own.limit own.given own.last)) c.in-Some.best.1 c.self.invariant all.1)

@@ -9,4 +9,4 @@ invariant-loop-done g l =
     (l.self.plan ≡ l.fn.self.plan)
     × (l.self.window.room ≡ l.fn.self.window.room)
     × Works None l._done (standing_of l.fn.self.plan l.fn.self.walk l.fn.self.window l.fn.self.reads)
-        (standing_of l.self.plan l.self.walk l.self.window l.self.reads) l.fn.steps l.steps
+    (standing_of l.self.plan l.self.walk l.self.window l.self.reads) l.fn.steps l.steps
