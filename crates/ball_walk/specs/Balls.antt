@@ -20,9 +20,9 @@ unfoldable pub ball : ℕ → ℕ → ℕ → List ℕ
 ball value width units = flat_map (ring value width) (range_with_len 0 units)
 
 -- how many distances lie within a radius: of -1 none
-abbrev pub units_of : ℤ → ℕ
-units_of (pos radius) = radius + 1
-units_of (negsuc below) = 0
+abbrev pub radius_units : ℤ → ℕ
+radius_units (pos radius) = radius + 1
+radius_units (negsuc below) = 0
 
 -- whether a number is nearer to a value than so many units
 unfoldable pub is_near : ℕ → ℕ → ℕ → Bool

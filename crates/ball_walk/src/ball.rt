@@ -1,5 +1,5 @@
 ghost use Rattle.std.specs.Prelude.{◌≡◌, ℕ, ◌+◌, ◌^◌, ◌<◌, ◌≤◌, List, [], ◌∷◌, MatchOption, negsuc, ◌≤ℤ◌, min, All, IfSome};
-ghost use Rattle.ball_walk.specs.Balls.{ball, units_of};
+ghost use Rattle.ball_walk.specs.Balls.{ball, radius_units};
 ghost use Rattle.ball_walk.specs.Walk.{ring_from};
 
 use crate::next::{is_between, next_after};
@@ -40,7 +40,7 @@ impl Ball {
         requires small_width { width ≤ 12 }
         requires in_width { value < 2 ^ width }
         requires radius { negsuc 0 ≤ℤ radius }
-        ensures values { result ≡ ball value width (units_of radius) }
+        ensures values { result ≡ ball value width (radius_units radius) }
         ensures in_width { All (λ other. other < 2 ^ width) result }
     {
         let left = distances_within(width, radius);
@@ -79,7 +79,7 @@ impl Ball {
 fn distances_within(width: u32, radius: i32) -> u32
     requires width { width ≤ 12 }
     requires radius { negsuc 0 ≤ℤ radius }
-    ensures { result ≡ min (units_of radius) (width + 1) }
+    ensures { result ≡ min (radius_units radius) (width + 1) }
 {
     if radius < width as i32 {
         (radius + 1) as u32

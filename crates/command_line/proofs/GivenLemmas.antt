@@ -6,8 +6,8 @@ use Rattle.std.specs.Str.{bytes_eq}
 use Rattle.part_layout.specs.declared.config.Config.{Config}
 use Rattle.command_line.specs.CommandOptions.{name_of, option_named, number, is_value}
 use Rattle.command_line.specs.CommandWords.{or_fault, asked_after}
-use Rattle.command_line.specs.WrittenOptions.{Written, parted, in_one_word, in_two_words, written, given, value_fault, option_fault, fault_of, first_written, others_written}
-use Rattle.command_line.specs.Kept.{entry_of, entry_at, put, kept, kept_after, present, size, IsNumberOf, IsEntryOf, AreEntries, next_in, after_next}
+use Rattle.command_line.specs.WrittenOptions.{Written, parted, in_one_word, in_two_words, written_options, given, value_fault, option_fault, fault_of_option, first_written, others_written}
+use Rattle.command_line.specs.Kept.{given_option, entry_at, put, options_kept, kept_after, present, size, IsNumberOf, IsEntryOf, AreEntries, next_in, after_next}
 use Rattle.command_line.proofs.WordLemmas.{from_first}
 use Rattle.command_line.proofs.OptionLemmas.{named_name, number_range}
 use Rattle.command_line.specs.declared.command_option.CommandOption.{CommandOption}
@@ -18,35 +18,35 @@ use Rattle.command_line.specs.declared.given.Given.{Given}
 -- what is kept with one more option of a name
 put_named : (before : List Written) (one : Written) (option : CommandOption) → bytes_eq one.name (name_of Bits) ≡ bytes_eq (name_of option) (name_of Bits)
     → bytes_eq one.name (name_of Parts) ≡ bytes_eq (name_of option) (name_of Parts) → bytes_eq one.name (name_of Input) ≡ bytes_eq (name_of option) (name_of Input)
-    → put option (entry_of option one) (kept before) ≡ kept (one ∷ before)
+    → put option (given_option option one) (options_kept before) ≡ options_kept (one ∷ before)
 put_named before one Bits bits parts input = rw (bits, parts, input)
 put_named before one Parts bits parts input = rw (bits, parts, input)
 put_named before one Input bits parts input = rw (bits, parts, input)
 
 -- what is kept with one more option
 pub put_one : (before : List Written) (one : Written) (option : CommandOption) → option_named one.name ≡ Some option
-    → put option (entry_of option one) (kept before) ≡ kept (one ∷ before)
+    → put option (given_option option one) (options_kept before) ≡ options_kept (one ∷ before)
 put_one before one option named =
     let same : one.name ≡ name_of option = named_name one.name option named in
     put_named before one option (ap (λ (name : List ℕ). bytes_eq name (name_of Bits)) same) (ap (λ (name : List ℕ). bytes_eq name (name_of Parts)) same)
     (ap (λ (name : List ℕ). bytes_eq name (name_of Input)) same)
 
 -- an option is kept where it was given
-kept_some : (option : CommandOption) (found : Option Written) → is_some (option_map (entry_of option) found) ≡ is_some found
+kept_some : (option : CommandOption) (found : Option Written) → is_some (option_map (given_option option) found) ≡ is_some found
 kept_some option None = refl
 kept_some option (Some one) = refl
 
 -- an option is kept where it was given, by its place in what is kept
-pub at_some : (before : List Written) (option : CommandOption) → is_some (entry_at option (kept before)) ≡ is_some (given option before)
+pub at_some : (before : List Written) (option : CommandOption) → is_some (entry_at option (options_kept before)) ≡ is_some (given option before)
 at_some before Bits = kept_some Bits (given Bits before)
 at_some before Parts = kept_some Parts (given Parts before)
 at_some before Input = kept_some Input (given Input before)
 
 -- a new option with a value that may stand has no fault
 pub no_fault : (before : List Written) (one : Written) (option : CommandOption) (value : List ℕ) → option_named one.name ≡ Some option
-    → is_some (given option before) ≡ false → one.value ≡ Some value → is_value option value ≡ true → fault_of before one ≡ None
+    → is_some (given option before) ≡ false → one.value ≡ Some value → is_value option value ≡ true → fault_of_option before one ≡ None
 no_fault before one option value named new stands good =
-    let found : fault_of before one ≡ option_fault before one (Some option) = ap (option_fault before one) named in
+    let found : fault_of_option before one ≡ option_fault before one (Some option) = ap (option_fault before one) named in
     let fresh : option_fault before one (Some option) ≡ value_fault option one.value_place one.value =
     cond-false (is_some (given option before)) (Some one.place) (value_fault option one.value_place one.value) new in
     let here : value_fault option one.value_place one.value ≡ value_fault option one.value_place (Some value) =
@@ -55,24 +55,24 @@ no_fault before one option value named new stands good =
 
 -- so it is kept
 pub kept_one : (before : List Written) (one : Written) (option : CommandOption) (value : List ℕ) → option_named one.name ≡ Some option
-    → is_some (entry_at option (kept before)) ≡ false → one.value ≡ Some value → is_value option value ≡ true
-    → Ok (put option (entry_of option one) (kept before)) ≡ kept_after before one
+    → is_some (entry_at option (options_kept before)) ≡ false → one.value ≡ Some value → is_value option value ≡ true
+    → Ok (put option (given_option option one) (options_kept before)) ≡ kept_after before one
 kept_one before one option value named new stands good =
-    let none : fault_of before one ≡ None = no_fault before one option value named (sym (at_some before option) ∙ new) stands good in
+    let none : fault_of_option before one ≡ None = no_fault before one option value named (sym (at_some before option) ∙ new) stands good in
     rw none (ap (λ (given : Given). Ok given) (put_one before one option named))
 
 -- so it is kept, as the reader does
 pub kept_with : (before : List Written) (one : Written) (option : CommandOption) (value : List ℕ) (old new : Given) (entry : GivenNumber)
-    → option_named one.name ≡ Some option → old ≡ kept before → is_some (entry_at option old) ≡ false → one.value ≡ Some value
+    → option_named one.name ≡ Some option → old ≡ options_kept before → is_some (entry_at option old) ≡ false → one.value ≡ Some value
     → is_value option value ≡ true → entry ≡ record { number = number option value; place = one.value_place } → new ≡ put option entry old
     → Ok new ≡ kept_after before one
 kept_with before one option value old new entry named same absent stands good is made =
     let IsAbsent : Given → Type 0 = λ (values : Given). is_some (entry_at option values) ≡ false in
     let Done : Given → Result Given ℕ = λ (values : Given). Ok values in
     let number_of : Option (List ℕ) → GivenNumber = λ (value : Option (List ℕ)). record { number = option_and_then (number option) value; place = one.value_place } in
-    let entry_is : entry ≡ entry_of option one = is ∙ sym (ap number_of stands) in
-    let put_is : put option entry old ≡ put option (entry_of option one) (kept before) =
-    ap (λ (e : GivenNumber). put option e old) entry_is ∙ ap (λ (values : Given). put option (entry_of option one) values) same in
+    let entry_is : entry ≡ given_option option one = is ∙ sym (ap number_of stands) in
+    let put_is : put option entry old ≡ put option (given_option option one) (options_kept before) =
+    ap (λ (e : GivenNumber). put option e old) entry_is ∙ ap (λ (values : Given). put option (given_option option one) values) same in
     ap Done (made ∙ put_is) ∙ kept_one before one option value named (subst IsAbsent same absent) stands good
 
 -- a fault is the first one
@@ -89,29 +89,29 @@ stands_alone None given value other is = (cc, refl)
 
 -- the first option that words write, where it has its value in one word
 pub written_one : (place : ℕ) (word : List ℕ) (texts : List (List ℕ)) (parts : List ℕ × List ℕ) → parted word ≡ Some parts
-    → written place (word ∷ texts) ≡ in_one_word place parts ∷ written (place + 1) texts
+    → written_options place (word ∷ texts) ≡ in_one_word place parts ∷ written_options (place + 1) texts
 written_one place word [] parts has =
     ap (λ (found : Option (List ℕ × List ℕ)). first_written place word None found ∷ []) has
 written_one place word (next ∷ texts) parts has =
-    ap (λ (found : Option (List ℕ × List ℕ)). first_written place word (Some next) found ∷ others_written found (written (place + 1) (next ∷ texts)) (written (place + 2) texts)) has
+    ap (λ (found : Option (List ℕ × List ℕ)). first_written place word (Some next) found ∷ others_written found (written_options (place + 1) (next ∷ texts)) (written_options (place + 2) texts)) has
 
 -- the first option that words write, where its name is a word
 pub written_two : (place : ℕ) (word : List ℕ) (texts : List (List ℕ)) → parted word ≡ None
-    → written place (word ∷ texts) ≡ in_two_words place word (next_in texts) ∷ written (place + 2) (after_next texts)
+    → written_options place (word ∷ texts) ≡ in_two_words place word (next_in texts) ∷ written_options (place + 2) (after_next texts)
 written_two place word [] has =
     ap (λ (found : Option (List ℕ × List ℕ)). first_written place word None found ∷ []) has
 written_two place word (next ∷ texts) has =
-    ap (λ (found : Option (List ℕ × List ℕ)). first_written place word (Some next) found ∷ others_written found (written (place + 1) (next ∷ texts)) (written (place + 2) texts)) has
+    ap (λ (found : Option (List ℕ × List ℕ)). first_written place word (Some next) found ∷ others_written found (written_options (place + 1) (next ∷ texts)) (written_options (place + 2) texts)) has
 
 -- the fault of the next option is the first one
 pub step_fault : (before : List Written) (one : Written) (others : List Written) (place : ℕ) → Err place ≡ kept_after before one
     → asked_after before (one ∷ others) ≡ Err place
-step_fault before one others place is = fault_first (fault_of before one) place (kept (one ∷ before)) (asked_after (one ∷ before) others) is
+step_fault before one others place is = fault_first (fault_of_option before one) place (options_kept (one ∷ before)) (asked_after (one ∷ before) others) is
 
 -- the next option without a fault
 pub step_on : (before : List Written) (one : Written) (others : List Written) (given : Given) → Ok given ≡ kept_after before one
-    → (given ≡ kept (one ∷ before)) × (asked_after before (one ∷ others) ≡ asked_after (one ∷ before) others)
-step_on before one others given is = stands_alone (fault_of before one) given (kept (one ∷ before)) (asked_after (one ∷ before) others) is
+    → (given ≡ options_kept (one ∷ before)) × (asked_after before (one ∷ others) ≡ asked_after (one ∷ before) others)
+step_on before one others given is = stands_alone (fault_of_option before one) given (options_kept (one ∷ before)) (asked_after (one ∷ before) others) is
 
 -- the number of a value is one of its option
 value_has : (option : CommandOption) (value : Option (List ℕ)) → IfSome (option_and_then (number option) value) (IsNumberOf option)
@@ -119,12 +119,12 @@ value_has option None = tt
 value_has option (Some value) = number_range option value
 
 -- what is kept of an option is an entry of it
-kept_has : (option : CommandOption) (found : Option Written) → IsEntryOf option (option_map (entry_of option) found)
+kept_has : (option : CommandOption) (found : Option Written) → IsEntryOf option (option_map (given_option option) found)
 kept_has option None = tt
 kept_has option (Some one) = value_has option one.value
 
 -- what is kept are entries of their options
-kept_entries : (before : List Written) → AreEntries (kept before)
+kept_entries : (before : List Written) → AreEntries (options_kept before)
 kept_entries before = record {
   of_bits = kept_has Bits (given Bits before);
   of_parts = kept_has Parts (given Parts before);
@@ -132,7 +132,7 @@ kept_entries before = record {
 }
 
 -- the same of what equals it
-pub are_entries : (before : List Written) (given : Given) → given ≡ kept before → AreEntries given
+pub are_entries : (before : List Written) (given : Given) → given ≡ options_kept before → AreEntries given
 are_entries before given same = subst (λ (given : Given). AreEntries given) (sym same) (kept_entries before)
 
 -- an option counts for one at most
@@ -157,59 +157,59 @@ size_more Input entry given absent = omega (arith, absent_none given.input absen
 
 -- the words from the first one on write the same
 opened : (before : List Written) (place : ℕ) (word : List ℕ) (texts : List (List ℕ)) (whole : Result Config ℕ) → Some word ≡ next_in texts
-    → asked_after before (written place texts) ≡ whole → asked_after before (written place (word ∷ after_next texts)) ≡ whole
+    → asked_after before (written_options place texts) ≡ whole → asked_after before (written_options place (word ∷ after_next texts)) ≡ whole
 opened before place word texts whole first same =
-    subst (λ (words : List (List ℕ)). asked_after before (written place words) ≡ whole) (from_first texts word first) same
+    subst (λ (words : List (List ℕ)). asked_after before (written_options place words) ≡ whole) (from_first texts word first) same
 
 -- where the words stand after an option in one word
 pub after_one : (before : List Written) (given : Given) (place : ℕ) (word : List ℕ) (texts rest : List (List ℕ)) (parts : List ℕ × List ℕ)
     (whole : Result Config ℕ) → Some word ≡ next_in texts → rest ≡ after_next texts → parted word ≡ Some parts
-    → Ok given ≡ kept_after before (in_one_word place parts) → asked_after before (written place texts) ≡ whole
-    → (given ≡ kept (in_one_word place parts ∷ before)) × (asked_after (in_one_word place parts ∷ before) (written (place + 1) rest) ≡ whole)
+    → Ok given ≡ kept_after before (in_one_word place parts) → asked_after before (written_options place texts) ≡ whole
+    → (given ≡ options_kept (in_one_word place parts ∷ before)) × (asked_after (in_one_word place parts ∷ before) (written_options (place + 1) rest) ≡ whole)
 after_one before values place word texts rest parts whole first left has is same =
     let one = in_one_word place parts in
-    let on = step_on before one (written (place + 1) (after_next texts)) values is in
+    let on = step_on before one (written_options (place + 1) (after_next texts)) values is in
     let known = opened before place word texts whole first same in
     let split = ap (λ (settings : List Written). asked_after before settings) (written_one place word (after_next texts) parts has) in
-    (on.0, subst (λ (words : List (List ℕ)). asked_after (one ∷ before) (written (place + 1) words) ≡ whole) (sym left) (sym on.1 ∙ sym split ∙ known))
+    (on.0, subst (λ (words : List (List ℕ)). asked_after (one ∷ before) (written_options (place + 1) words) ≡ whole) (sym left) (sym on.1 ∙ sym split ∙ known))
 
 -- the fault of an option in one word
 pub fault_one : (before : List Written) (fault place : ℕ) (word : List ℕ) (texts : List (List ℕ)) (parts : List ℕ × List ℕ)
     (whole : Result Config ℕ) → Some word ≡ next_in texts → parted word ≡ Some parts
-    → Err fault ≡ kept_after before (in_one_word place parts) → asked_after before (written place texts) ≡ whole → Err fault ≡ whole
+    → Err fault ≡ kept_after before (in_one_word place parts) → asked_after before (written_options place texts) ≡ whole → Err fault ≡ whole
 fault_one before fault place word texts parts whole first has is same =
     let known = opened before place word texts whole first same in
     let split = ap (λ (settings : List Written). asked_after before settings) (written_one place word (after_next texts) parts has) in
-    sym (step_fault before (in_one_word place parts) (written (place + 1) (after_next texts)) fault is) ∙ sym split ∙ known
+    sym (step_fault before (in_one_word place parts) (written_options (place + 1) (after_next texts)) fault is) ∙ sym split ∙ known
 
 -- an option in two words before the others
 two_split : (before : List Written) (place : ℕ) (word : List ℕ) (texts rest later : List (List ℕ)) (value : Option (List ℕ))
     → rest ≡ after_next texts → value ≡ next_in rest → later ≡ after_next rest → parted word ≡ None
-    → asked_after before (written place (word ∷ after_next texts)) ≡ asked_after before (in_two_words place word value ∷ written (place + 2) later)
+    → asked_after before (written_options place (word ∷ after_next texts)) ≡ asked_after before (in_two_words place word value ∷ written_options (place + 2) later)
 two_split before place word texts rest later value left next last has =
-    let Others : List (List ℕ) → List Written = λ (rest : List (List ℕ)). in_two_words place word (next_in rest) ∷ written (place + 2) (after_next rest) in
-    let split : written place (word ∷ after_next texts) ≡ Others rest = written_two place word (after_next texts) has ∙ sym (ap Others left) in
-    let named : Others rest ≡ in_two_words place word value ∷ written (place + 2) later =
-    ap (λ (found : Option (List ℕ)). in_two_words place word found ∷ written (place + 2) (after_next rest)) (sym next)
-    ∙ ap (λ (words : List (List ℕ)). in_two_words place word value ∷ written (place + 2) words) (sym last) in
+    let Others : List (List ℕ) → List Written = λ (rest : List (List ℕ)). in_two_words place word (next_in rest) ∷ written_options (place + 2) (after_next rest) in
+    let split : written_options place (word ∷ after_next texts) ≡ Others rest = written_two place word (after_next texts) has ∙ sym (ap Others left) in
+    let named : Others rest ≡ in_two_words place word value ∷ written_options (place + 2) later =
+    ap (λ (found : Option (List ℕ)). in_two_words place word found ∷ written_options (place + 2) (after_next rest)) (sym next)
+    ∙ ap (λ (words : List (List ℕ)). in_two_words place word value ∷ written_options (place + 2) words) (sym last) in
     ap (λ (settings : List Written). asked_after before settings) (split ∙ named)
 
 -- where the words stand after an option in two words
 pub after_two : (before : List Written) (given : Given) (place : ℕ) (word : List ℕ) (texts rest later : List (List ℕ)) (value : Option (List ℕ))
     (whole : Result Config ℕ) → Some word ≡ next_in texts → rest ≡ after_next texts → value ≡ next_in rest → later ≡ after_next rest
-    → parted word ≡ None → Ok given ≡ kept_after before (in_two_words place word value) → asked_after before (written place texts) ≡ whole
-    → (given ≡ kept (in_two_words place word value ∷ before)) × (asked_after (in_two_words place word value ∷ before) (written (place + 2) later) ≡ whole)
+    → parted word ≡ None → Ok given ≡ kept_after before (in_two_words place word value) → asked_after before (written_options place texts) ≡ whole
+    → (given ≡ options_kept (in_two_words place word value ∷ before)) × (asked_after (in_two_words place word value ∷ before) (written_options (place + 2) later) ≡ whole)
 after_two before values place word texts rest later value whole first left next last has is same =
     let one = in_two_words place word value in
-    let on = step_on before one (written (place + 2) later) values is in
+    let on = step_on before one (written_options (place + 2) later) values is in
     let known = opened before place word texts whole first same in
     (on.0, sym on.1 ∙ sym (two_split before place word texts rest later value left next last has) ∙ known)
 
 -- the fault of an option in two words
 pub fault_two : (before : List Written) (fault place : ℕ) (word : List ℕ) (texts rest : List (List ℕ)) (value : Option (List ℕ))
     (whole : Result Config ℕ) → Some word ≡ next_in texts → rest ≡ after_next texts → value ≡ next_in rest
-    → parted word ≡ None → Err fault ≡ kept_after before (in_two_words place word value) → asked_after before (written place texts) ≡ whole → Err fault ≡ whole
+    → parted word ≡ None → Err fault ≡ kept_after before (in_two_words place word value) → asked_after before (written_options place texts) ≡ whole → Err fault ≡ whole
 fault_two before fault place word texts rest value whole first left next has is same =
     let known = opened before place word texts whole first same in
-    sym (step_fault before (in_two_words place word value) (written (place + 2) (after_next rest)) fault is)
+    sym (step_fault before (in_two_words place word value) (written_options (place + 2) (after_next rest)) fault is)
     ∙ sym (two_split before place word texts rest (after_next rest) value left next refl has) ∙ known

@@ -10,7 +10,7 @@ use Rattle.part_layout.specs.declared.config.Config.{Config}
 use Rattle.command_line.specs.CommandOptions.{name_of, option_named, number, is_value}
 use Rattle.part_layout.specs.Contiguous.{can_be_cut}
 use Rattle.command_line.specs.CommandWords.{number_given, number_or, config, parts_for, or_fault, asked_after}
-use Rattle.command_line.specs.WrittenOptions.{Written, parted, has_no_equals, in_one_word, in_two_words, written, first_written, others_written, given, value_fault, option_fault, fault_of}
+use Rattle.command_line.specs.WrittenOptions.{Written, parted, has_no_equals, in_one_word, in_two_words, written_options, first_written, others_written, given, value_fault, option_fault, fault_of_option}
 use Rattle.command_line.proofs.OptionLemmas.{named_name}
 use Rattle.command_line.proofs.GivenLemmas.{written_one, written_two}
 use Rattle.command_line.specs.declared.command_option.CommandOption.{CommandOption}
@@ -171,7 +171,7 @@ asked_bare before [] =
     ∙ ap (λ (bits : ℕ). bare_config bits (number_or Input 4294967296 before) (bare_given Parts (map bare before))) (number_or_bare Bits 64 before)
     ∙ ap (λ (input : ℕ). bare_config (bare_number Bits 64 (bare_given Bits (map bare before))) input (bare_given Parts (map bare before))) (number_or_bare Input 4294967296 before)
 asked_bare before (one ∷ others) =
-    stood (fault_of before one) (asked_after (one ∷ before) others)
+    stood (fault_of_option before one) (asked_after (one ∷ before) others)
     ∙ ap (λ (passed : Bool). cond passed (result_ok (asked_after (one ∷ before) others)) None) (named_passes before one (option_named one.name))
     ∙ ap (λ (asked : Option Config). cond (passes (map bare before) (bare one)) asked None) (asked_bare (one ∷ before) others)
 
@@ -304,24 +304,24 @@ bare_others None next later next_too later_too same same_later = same_later
 bare_others (Some parts) next later next_too later_too same same_later = same
 
 -- words write the same from another place on, but for the places
-bare_written : (texts : List (List ℕ)) (place other : ℕ) → map bare (written place texts) ≡ map bare (written other texts)
+bare_written : (texts : List (List ℕ)) (place other : ℕ) → map bare (written_options place texts) ≡ map bare (written_options other texts)
 bare_written [] place other = refl
 bare_written (word ∷ []) place other = ap (λ (one : Bare). one ∷ []) (bare_first place other word None (parted word))
 bare_written (word ∷ next ∷ texts) place other =
-    let rest = bare_others (parted word) (written (place + 1) (next ∷ texts)) (written (place + 2) texts) (written (other + 1) (next ∷ texts)) (written (other + 2) texts)
+    let rest = bare_others (parted word) (written_options (place + 1) (next ∷ texts)) (written_options (place + 2) texts) (written_options (other + 1) (next ∷ texts)) (written_options (other + 2) texts)
     (bare_written (next ∷ texts) (place + 1) (other + 1)) (bare_written texts (place + 2) (other + 2)) in
-    ap (λ (one : Bare). one ∷ map bare (others_written (parted word) (written (place + 1) (next ∷ texts)) (written (place + 2) texts))) (bare_first place other word (Some next) (parted word))
+    ap (λ (one : Bare). one ∷ map bare (others_written (parted word) (written_options (place + 1) (next ∷ texts)) (written_options (place + 2) texts))) (bare_first place other word (Some next) (parted word))
     ∙ ap (λ (others : List Bare). bare (first_written other word (Some next) (parted word)) ∷ others) rest
 
 -- an option in either form
 pub either_form : (name value : List ℕ) (words : List (List ℕ)) → has_no_equals name ≡ true
-    → result_ok (asked_after [] (written 2 ((name ++ 61 ∷ value) ∷ words))) ≡ result_ok (asked_after [] (written 2 (name ∷ value ∷ words)))
+    → result_ok (asked_after [] (written_options 2 ((name ++ 61 ∷ value) ∷ words))) ≡ result_ok (asked_after [] (written_options 2 (name ∷ value ∷ words)))
 either_form name value words plain =
     let Asked : List Written → Option Config = λ (settings : List Written). result_ok (asked_after [] settings) in
     let one = in_one_word 2 (name, value) in
     let two = in_two_words 2 name (Some value) in
     ap Asked (written_one 2 (name ++ 61 ∷ value) words (name, value) (parted_joined name value plain))
-    ∙ asked_bare [] (one ∷ written 3 words)
+    ∙ asked_bare [] (one ∷ written_options 3 words)
     ∙ ap (λ (others : List Bare). bare_asked [] (bare one ∷ others)) (bare_written words 3 4)
-    ∙ sym (asked_bare [] (two ∷ written 4 words))
+    ∙ sym (asked_bare [] (two ∷ written_options 4 words))
     ∙ sym (ap Asked (written_two 2 name (value ∷ words) (parted_none name plain)))

@@ -7,7 +7,7 @@ use Rattle.part_layout.specs.Contiguous.{can_be_cut}
 use Rattle.part_layout.specs.declared.config.Config.{Config}
 use Rattle.part_layout.specs.declared.config.TheConstants.{INPUT_MOST}
 use Rattle.command_line.specs.CommandOptions.{number}
-use Rattle.command_line.specs.WrittenOptions.{Written, written, given, fault_of}
+use Rattle.command_line.specs.WrittenOptions.{Written, written_options, given, fault_of_option}
 use Rattle.command_line.specs.declared.command_option.TheConstants.{BITS, ROOM}
 use Rattle.command_line.specs.declared.command_option.CommandOption.{CommandOption}
 use Rattle.command_line.specs.declared.command_option.CommandOption.TheVariants.{Bits, Parts, Input}
@@ -53,9 +53,9 @@ or_fault None result = result
 -- what options ask for that are written after others, or the first fault
 abbrev pub asked_after : List Written → List Written → Result Config ℕ
 asked_after before [] = config_of before
-asked_after before (one ∷ others) = or_fault (fault_of before one) (asked_after (one ∷ before) others)
+asked_after before (one ∷ others) = or_fault (fault_of_option before one) (asked_after (one ∷ before) others)
 
 -- what the words ask for, or the place of the first one at fault
 abbrev pub asked : List (List ℕ) → Result Config ℕ
 asked [] = Err 1
-asked (command ∷ words) = if bytes_eq command (codes "run") then asked_after [] (written 2 words) else Err 1
+asked (command ∷ words) = if bytes_eq command (codes "run") then asked_after [] (written_options 2 words) else Err 1

@@ -5,19 +5,19 @@ use Rattle.hamming_model.specs.declared.limits.TheConstants.{BITS_MOST}
 use Rattle.part_layout.specs.Contiguous.{can_be_cut}
 use Rattle.command_line.specs.CommandOptions.{least, greatest}
 use Rattle.command_line.specs.CommandWords.{number_given, or_fault}
-use Rattle.command_line.specs.WrittenOptions.{Written, given, fault_of}
+use Rattle.command_line.specs.WrittenOptions.{Written, given, fault_of_option}
 use Rattle.command_line.specs.declared.command_option.CommandOption.{CommandOption}
 use Rattle.command_line.specs.declared.command_option.CommandOption.TheVariants.{Bits, Parts, Input}
 use Rattle.command_line.specs.declared.given.GivenNumber.{GivenNumber}
 use Rattle.command_line.specs.declared.given.Given.{Given}
 
 -- what is kept of one option
-abbrev pub entry_of : CommandOption → Written → GivenNumber
-entry_of option one = record { number = number_given option one; place = one.value_place }
+abbrev pub given_option : CommandOption → Written → GivenNumber
+given_option option one = record { number = number_given option one; place = one.value_place }
 
 -- what is kept of an option, if it was given
 abbrev pub entry_in : CommandOption → List Written → Option GivenNumber
-entry_in option settings = option_map (entry_of option) (given option settings)
+entry_in option settings = option_map (given_option option) (given option settings)
 
 -- what is kept of an option
 abbrev pub entry_at : CommandOption → Given → Option GivenNumber
@@ -33,7 +33,7 @@ put Input entry given = record given { input = Some entry }
 
 -- the number of an entry, or else a default
 abbrev pub entry_number_or : ℕ → Option GivenNumber → ℕ
-entry_number_or default entry = unwrap_or (option_and_then (λ kept. kept.number) entry) default
+entry_number_or default entry = unwrap_or (option_and_then (λ options_kept. options_kept.number) entry) default
 
 -- the parts of an entry, judged against the bits, and eight bits each where there is none
 abbrev pub entry_parts_or : ℕ → Option GivenNumber → Result ℕ ℕ
@@ -51,12 +51,12 @@ abbrev pub size : Given → ℕ
 size given = present given.bits + present given.parts + present given.input
 
 -- what is kept of the options
-abbrev pub kept : List Written → Given
-kept settings = record { bits = entry_in Bits settings; parts = entry_in Parts settings; input = entry_in Input settings }
+abbrev pub options_kept : List Written → Given
+options_kept settings = record { bits = entry_in Bits settings; parts = entry_in Parts settings; input = entry_in Input settings }
 
 -- what is kept after one more option, or its fault
 abbrev pub kept_after : List Written → Written → Result Given ℕ
-kept_after before one = or_fault (fault_of before one) (Ok (kept (one ∷ before)))
+kept_after before one = or_fault (fault_of_option before one) (Ok (options_kept (one ∷ before)))
 
 -- a number that an option may be given
 abbrev pub IsNumberOf : CommandOption → ℕ → Type 0
@@ -65,7 +65,7 @@ IsNumberOf option number = (least option ≤ number) × (number ≤ greatest opt
 
 -- the number of an entry, if there is one, is such a number
 abbrev pub IsEntryOf : CommandOption → Option GivenNumber → Type 0
-IsEntryOf option entry = IfSome entry (λ kept. IfSome kept.number (IsNumberOf option))
+IsEntryOf option entry = IfSome entry (λ options_kept. IfSome options_kept.number (IsNumberOf option))
 
 -- each entry is one of its option
 pub record AreEntries (given : Given) : Type 0 where

@@ -44,11 +44,11 @@ others_written None next later = later
 others_written (Some parts) next later = next
 
 -- the options that words write, the first of them at a place
-abbrev pub written : ℕ → List (List ℕ) → List Written
-written place [] = []
-written place (word ∷ []) = first_written place word None (parted word) ∷ []
-written place (word ∷ next ∷ words) =
-    first_written place word (Some next) (parted word) ∷ others_written (parted word) (written (place + 1) (next ∷ words)) (written (place + 2) words)
+abbrev pub written_options : ℕ → List (List ℕ) → List Written
+written_options place [] = []
+written_options place (word ∷ []) = first_written place word None (parted word) ∷ []
+written_options place (word ∷ next ∷ words) =
+    first_written place word (Some next) (parted word) ∷ others_written (parted word) (written_options (place + 1) (next ∷ words)) (written_options (place + 2) words)
 
 -- where an option is among those written
 abbrev pub given : CommandOption → List Written → Option Written
@@ -67,22 +67,22 @@ option_fault before one (Some option) =
     if is_some (given option before) then Some one.place else value_fault option one.value_place one.value
 
 -- the fault of an option after others, by its place: it is unknown or was given before, or its value is bad or missing
-abbrev pub fault_of : List Written → Written → Option ℕ
-fault_of before one = option_fault before one (option_named one.name)
+abbrev pub fault_of_option : List Written → Written → Option ℕ
+fault_of_option before one = option_fault before one (option_named one.name)
 
 -- a fault, or where there is none another one
-abbrev pub first_of : Option ℕ → Option ℕ → Option ℕ
-first_of (Some place) later = Some place
-first_of None later = later
+abbrev pub fault_or : Option ℕ → Option ℕ → Option ℕ
+fault_or (Some place) later = Some place
+fault_or None later = later
 
 -- the place of the first option at fault, of those written after others
 abbrev pub first_fault : List Written → List Written → Option ℕ
 first_fault before [] = None
-first_fault before (one ∷ others) = first_of (fault_of before one) (first_fault (one ∷ before) others)
+first_fault before (one ∷ others) = fault_or (fault_of_option before one) (first_fault (one ∷ before) others)
 
 -- the place at which words after the command, read from left to right, are first at fault
 abbrev pub fault_in : List (List ℕ) → Option ℕ
-fault_in words = first_fault [] (written 2 words)
+fault_in words = first_fault [] (written_options 2 words)
 
 -- no fault, or just the one at this place
 abbrev pub IsNoneBut : ℕ → Option ℕ → Type 0

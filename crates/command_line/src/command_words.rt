@@ -4,7 +4,7 @@ ghost use Rattle.std.specs.Prelude.{◌≡◌, ◌==◌, ◌<◌, ◌-◌, [], l
 ghost use Rattle.std.specs.Option.{option_map};
 ghost use Rattle.part_layout.specs.Ranges.{IsConfig};
 ghost use Rattle.command_line.specs.CommandWords.{asked, asked_after, IsPinned};
-ghost use Rattle.command_line.specs.WrittenOptions.{written, parted};
+ghost use Rattle.command_line.specs.WrittenOptions.{written_options, parted};
 ghost use Rattle.command_line.specs.Kept.{next_in, after_next};
 
 use crate::given::Given;
@@ -41,7 +41,7 @@ pub fn read_words(words: &[String]) -> Result<Config, usize>
 
 // What the words after the command ask for, the first of them being word 2.
 fn read_options(options: &[String]) -> Result<Config, usize>
-    ensures value { result ≡ asked_after [] (written 2 (map string_bytes options.now)) }
+    ensures value { result ≡ asked_after [] (written_options 2 (map string_bytes options.now)) }
     ensures within { IfOk result IsConfig }
     ensures pinned { IfOk result IsPinned }
 {

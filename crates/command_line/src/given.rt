@@ -5,7 +5,7 @@ ghost use Rattle.part_layout.specs.Contiguous.{CanBeCut};
 ghost use Rattle.part_layout.specs.Ranges.{IsConfig};
 ghost use Rattle.command_line.specs.CommandWords.{config_of, IsPinned};
 ghost use Rattle.command_line.specs.WrittenOptions.{Written, setting};
-ghost use Rattle.command_line.specs.Kept.{entry_at, entry_number_or, entry_parts_or, put, size, kept, kept_after, IsNumberOf, IsEntryOf, AreEntries};
+ghost use Rattle.command_line.specs.Kept.{entry_at, entry_number_or, entry_parts_or, put, size, options_kept, kept_after, IsNumberOf, IsEntryOf, AreEntries};
 ghost use Rattle.command_line.specs.declared.command_option.CommandOption.TheVariants.{Bits, Parts};
 
 use crate::CommandOption;
@@ -39,7 +39,7 @@ impl Given {
         value: Option<&[u8]>,
         value_place: usize,
     ) -> Result<Given, usize>
-        ensures value { (before : List Written) → self ≡ kept before →
+        ensures value { (before : List Written) → self ≡ options_kept before →
             result ≡ kept_after before (setting name.now place (option_copied value.entry) value_place) }
         ensures more { IfOk result (λ given. size given ≡ size self + 1) }
         ensures few { IfOk result (λ given. size given ≤ 3) }
@@ -102,7 +102,7 @@ impl Given {
     // What the options ask for, where none has a fault of its own.
     pub(crate) fn config(self) -> Result<Config, usize>
         requires { AreEntries self }
-        ensures value { (settings : List Written) → self ≡ kept settings → result ≡ config_of settings }
+        ensures value { (settings : List Written) → self ≡ options_kept settings → result ≡ config_of settings }
         ensures within { IfOk result IsConfig }
         ensures pinned { IfOk result IsPinned }
     {

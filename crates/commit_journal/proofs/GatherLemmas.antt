@@ -3,7 +3,7 @@ use Rattle.std.proofs.Common.{◌≡◌, ◌⊎◌, inl, inr, ℕ, ◌<◌, ◌�
 use Rattle.std.specs.List.{AllByRecursion}
 use Rattle.slab.specs.Slab.{Slab, entries, get}
 use Rattle.slab.proofs.SlabLemmas.{Contains-cons, Contains-cons_cases, Contains-entries}
-use Rattle.commit_journal.specs.Fronts.{AreOlder, Ascends, StandsAt, has_position, positions_of}
+use Rattle.commit_journal.specs.Fronts.{AreOlder, ArePositionsInOrder, StandsAt, has_position, positions_of}
 use Rattle.commit_journal.specs.Kept.{AddsPosition, live_of}
 use Rattle.commit_journal.proofs.LiveLemmas.{second, slab_at}
 
@@ -13,7 +13,7 @@ Left = List (ℕ × (ℕ × ℕ))
 
 -- the positions below a position, but for those of the fronts that are left
 pub record Gathered (slab : Slab (ℕ × ℕ)) (position : ℕ) (older : List ℕ) (left : Left) : Type 0 where
-  pub ascending : Ascends older
+  pub ascending : ArePositionsInOrder older
   pub below : AllByRecursion (λ other. other < position) older
   pub only : (other : ℕ) → has_position older other ≡ true → StandsAt (positions_of (live_of slab)) other
   pub all : (id who other : ℕ) → get slab id ≡ Some (who, other) → other < position → (has_position older other ≡ true) ⊎ Contains left (id, (who, other))
@@ -22,7 +22,7 @@ pub record Gathered (slab : Slab (ℕ × ℕ)) (position : ℕ) (older : List �
 -- none is gathered
 pub gathered_first : (slab : Slab (ℕ × ℕ)) (position : ℕ) (older : List ℕ) (left : Left) → older ≡ [] → left ≡ entries slab → Gathered slab position older left
 gathered_first slab position older left none whole = record {
-  ascending = subst Ascends (sym none) tt;
+  ascending = subst ArePositionsInOrder (sym none) tt;
   below = subst (AllByRecursion (λ other. other < position)) (sym none) tt;
   only = λ other has. absurd (let not : has_position older other ≡ false = ap (λ (xs : List ℕ). has_position xs other) none in cc);
   all = λ id who other stands low.

@@ -14,7 +14,7 @@ use Rattle.hamming_model.specs.History.{JournalEntry, IsLegal, changed, code_at,
 use Rattle.hamming_model.specs.declared.limits.TheConstants.{ENTRIES_MOST, WORDS_MOST}
 use Rattle.commit_journal.specs.Fronts.{AreOlder, FrontState, Live, StandsAt, front_of, live_at, position_of, positions_of}
 use Rattle.commit_journal.specs.Journals.{IsLive, JournalState, KeepsFronts, KnowsFront, Opens, empty_journal, with_entry, without_front}
-use Rattle.commit_journal.specs.Kept.{IsKept, journal_of, live_of}
+use Rattle.commit_journal.specs.Kept.{IsKeptJournal, journal_of, live_of}
 use Rattle.commit_journal.proofs.LiveLemmas.{second, slab_at, slab_inserted, slab_removed, stands_closed, stands_opened}
 
 -- ---- rows
@@ -45,9 +45,9 @@ module _ (state : JournalState) (entry : JournalEntry) where
   longer = length-append state.history (entry ∷ [])
 
   -- the journal stays sound and its rows those of the history
-  pub kept_more : (words : ℕ) (rows left : List (ℕ × List ℕ)) → IsKept words state rows → IsLegal (state.history ++ entry ∷ []) → length state.history < state.limit
+  pub kept_more : (words : ℕ) (rows left : List (ℕ × List ℕ)) → IsKeptJournal words state rows → IsLegal (state.history ++ entry ∷ []) → length state.history < state.limit
       → left ≡ changed rows entry.operation → rows_of (state.history ++ entry ∷ []) ≡ changed (rows_of state.history) entry.operation
-      → IsKept words (with_entry state entry) left
+      → IsKeptJournal words (with_entry state entry) left
   kept_more words rows left kept legal room new more = record {
     few_words = kept.few_words;
     sound = record {
@@ -82,7 +82,7 @@ module _ (state : JournalState) (id who : ℕ) where
   opened = record state { live = map.insert state.live id (who, length state.history) }
 
   -- the journal stays sound
-  pub kept_opened : (words : ℕ) (rows : List (ℕ × List ℕ)) → IsKept words state rows → IsKept words opened rows
+  pub kept_opened : (words : ℕ) (rows : List (ℕ × List ℕ)) → IsKeptJournal words state rows → IsKeptJournal words opened rows
   kept_opened words rows kept = record {
     few_words = kept.few_words;
     sound = record {
@@ -127,7 +127,7 @@ module _ (history entries : List JournalEntry) (old new : Slab (ℕ × ℕ)) (ne
   is_opened = ap (λ (live : Live). record before { live = live })
       (slab_inserted old new id (who, position) updates ∙ ap (λ (n : ℕ). map.insert (live_of old) id (who, n)) number)
 
-  pub slab_kept : (words : ℕ) (rows : List (ℕ × List ℕ)) → IsKept words before rows → IsKept words after rows
+  pub slab_kept : (words : ℕ) (rows : List (ℕ × List ℕ)) → IsKeptJournal words before rows → IsKeptJournal words after rows
   slab_kept words rows kept = rw is_opened (kept_opened before id who words rows kept)
 
   pub slab_keeps : KeepsFronts before after
@@ -148,7 +148,7 @@ module _ (history entries : List JournalEntry) (old new : Slab (ℕ × ℕ)) (ne
     slab_opens are vacant = record { fresh = slab_at old id ∙ vacant; who = refl; entries = same; older = rw (← number) are; after = is_opened }
 
 -- ---- one front less
-pub kept_closed : (words : ℕ) (state : JournalState) (id : ℕ) (rows : List (ℕ × List ℕ)) → IsKept words state rows → IsKept words (without_front state id) rows
+pub kept_closed : (words : ℕ) (state : JournalState) (id : ℕ) (rows : List (ℕ × List ℕ)) → IsKeptJournal words state rows → IsKeptJournal words (without_front state id) rows
 kept_closed words state id rows kept = record {
   few_words = kept.few_words;
   sound = record {
@@ -174,7 +174,7 @@ pub slab_closed : (history : List JournalEntry) (old new : Slab (ℕ × ℕ)) (n
 slab_closed history old new next limit id updates = ap (λ (live : Live). record (journal_of history old next limit) { live = live }) (slab_removed old new id updates)
 
 -- ---- no entries
-pub kept_empty : (words limit : ℕ) → words ≤ WORDS_MOST → limit ≤ ENTRIES_MOST → IsLegal [] → IsKept words (empty_journal limit) []
+pub kept_empty : (words limit : ℕ) → words ≤ WORDS_MOST → limit ≤ ENTRIES_MOST → IsLegal [] → IsKeptJournal words (empty_journal limit) []
 kept_empty words limit few limited legal = record {
   few_words = few;
   sound = record {

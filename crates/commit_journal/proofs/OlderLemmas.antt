@@ -3,7 +3,7 @@ use Rattle.std.proofs.Common.{◌≡◌, ℕ, zero, suc, ◌+◌, ◌<◌, ◌�
 use Rattle.std.specs.List.{AllByRecursion, insert}
 use Rattle.std.proofs.lemmas.List.Folds.{list_any-append}
 use Rattle.std.proofs.lemmas.List.{append-nil, take-append-drop, drop_more, take_all}
-use Rattle.commit_journal.specs.Fronts.{Ascends, has_position}
+use Rattle.commit_journal.specs.Fronts.{ArePositionsInOrder, has_position}
 use Rattle.commit_journal.specs.Kept.{AddsPosition}
 
 all_append : (P : ℕ → Type 0) (xs ys : List ℕ) → AllByRecursion P xs → AllByRecursion P ys → AllByRecursion P (xs ++ ys)
@@ -22,13 +22,13 @@ all_above : (low high : ℕ) (xs : List ℕ) → low < high → AllByRecursion (
 all_above low high [] less all = tt
 all_above low high (x ∷ xs) less all = (omega (arith, all.0), all_above low high xs less all.1)
 
-ascends_back : (xs ys : List ℕ) → Ascends (xs ++ ys) → Ascends ys
+ascends_back : (xs ys : List ℕ) → ArePositionsInOrder (xs ++ ys) → ArePositionsInOrder ys
 ascends_back [] ys up = up
 ascends_back (x ∷ xs) ys up = ascends_back xs ys up.1
 
 -- a position between those below it and those above it
-ascends_between : (front back : List ℕ) (position : ℕ) → Ascends (front ++ back) → AllByRecursion (λ other. other < position) front → AllByRecursion (λ other. position < other) back
-    → Ascends (front ++ position ∷ back)
+ascends_between : (front back : List ℕ) (position : ℕ) → ArePositionsInOrder (front ++ back) → AllByRecursion (λ other. other < position) front → AllByRecursion (λ other. position < other) back
+    → ArePositionsInOrder (front ++ position ∷ back)
 ascends_between [] back position up low high = (high, up)
 ascends_between (x ∷ front) back position up low high = (
   all_append (λ y. x < y) front (position ∷ back) (all_front (λ y. x < y) front back up.0) (low.0, all_back (λ y. x < y) front back up.0),
@@ -52,7 +52,7 @@ below_between front back position bound all one =
     all_append (λ other. other < bound) front (position ∷ back) (all_front (λ other. other < bound) front back all) (one, all_back (λ other. other < bound) front back all)
 
 -- a position put among those below it and those above it
-between : (front back : List ℕ) (position : ℕ) → Ascends (front ++ back) → AllByRecursion (λ other. other < position) front → AllByRecursion (λ other. position < other) back
+between : (front back : List ℕ) (position : ℕ) → ArePositionsInOrder (front ++ back) → AllByRecursion (λ other. other < position) front → AllByRecursion (λ other. position < other) back
     → AddsPosition (front ++ back) position (front ++ position ∷ back)
 between front back position up low high = record {
   ascending = ascends_between front back position up low high;
@@ -61,25 +61,25 @@ between front back position up low high = record {
 }
 
 -- put before the first that is above it
-pub put_before : (positions : List ℕ) (place position d : ℕ) → Ascends positions → place < length positions → AllByRecursion (λ other. other < position) (take place positions)
+pub put_before : (positions : List ℕ) (place position d : ℕ) → ArePositionsInOrder positions → place < length positions → AllByRecursion (λ other. other < position) (take place positions)
     → position < get_or positions place d → AddsPosition positions position (insert positions place position)
 put_before positions place position d up inside low above =
     let whole = take-append-drop place positions in
     let here : drop place positions ≡ get_or positions place d ∷ drop (place + 1) positions = drop_more positions place d inside in
-    let cut : Ascends (take place positions ++ drop place positions) = subst Ascends (sym whole) up in
-    let tail : Ascends (get_or positions place d ∷ drop (place + 1) positions) = subst Ascends here (ascends_back (take place positions) (drop place positions) cut) in
+    let cut : ArePositionsInOrder (take place positions ++ drop place positions) = subst ArePositionsInOrder (sym whole) up in
+    let tail : ArePositionsInOrder (get_or positions place d ∷ drop (place + 1) positions) = subst ArePositionsInOrder here (ascends_back (take place positions) (drop place positions) cut) in
     let high : AllByRecursion (λ other. position < other) (drop place positions) =
     subst (AllByRecursion (λ other. position < other)) (sym here) (above, all_above position (get_or positions place d) (drop (place + 1) positions) above tail.0) in
     subst (λ (old : List ℕ). AddsPosition old position (insert positions place position)) whole (between (take place positions) (drop place positions) position cut low high)
 
 -- put at the end
-pub put_last : (positions : List ℕ) (place position : ℕ) → Ascends positions → length positions ≤ place → AllByRecursion (λ other. other < position) (take place positions)
+pub put_last : (positions : List ℕ) (place position : ℕ) → ArePositionsInOrder positions → length positions ≤ place → AllByRecursion (λ other. other < position) (take place positions)
     → AddsPosition positions position (positions ++ position ∷ [])
 put_last positions place position up end low =
     let all : take place positions ≡ positions = take_all place positions end in
     let none : positions ++ [] ≡ positions = append-nil positions in
     subst (λ (old : List ℕ). AddsPosition old position (positions ++ position ∷ [])) none
-    (between positions [] position (subst Ascends (sym none) up) (subst (AllByRecursion (λ other. other < position)) all low) tt)
+    (between positions [] position (subst ArePositionsInOrder (sym none) up) (subst (AllByRecursion (λ other. other < position)) all low) tt)
 
 -- it is there
 has_here : (positions : List ℕ) (place position d : ℕ) → place < length positions → get_or positions place d ≡ position → has_position positions position ≡ true
@@ -100,7 +100,7 @@ or_false : (b : Bool) → (b || false) ≡ b
 or_false true = refl
 or_false false = refl
 
-pub already_there : (positions : List ℕ) (place position d : ℕ) → Ascends positions → place < length positions → get_or positions place d ≡ position → AddsPosition positions position positions
+pub already_there : (positions : List ℕ) (place position d : ℕ) → ArePositionsInOrder positions → place < length positions → get_or positions place d ≡ position → AddsPosition positions position positions
 already_there positions place position d up inside at = record {
   ascending = up;
   has = λ other. go other (position == other) refl;

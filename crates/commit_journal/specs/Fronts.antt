@@ -29,9 +29,9 @@ front_code =
     (λ f. (f.id, (f.who, (f.older, f.entries)))) (λ t. record { id = t.0; who = t.1.0; older = t.1.1.0; entries = t.1.1.1 }) (λ _. refl)
 
 -- numbers that ascend, each once
-abbrev pub Ascends : List ℕ → Type 0
-Ascends [] = Unit {0}
-Ascends (first ∷ rest) = AllByRecursion (λ other. first < other) rest × Ascends rest
+abbrev pub ArePositionsInOrder : List ℕ → Type 0
+ArePositionsInOrder [] = Unit {0}
+ArePositionsInOrder (first ∷ rest) = AllByRecursion (λ other. first < other) rest × ArePositionsInOrder rest
 
 -- whether a position is among these
 abbrev pub has_position : List ℕ → ℕ → Bool
@@ -39,7 +39,7 @@ has_position positions position = list_any (λ other. other == position) positio
 
 -- what is true of every front: the positions of its list ascend, and are below its own; its entries are a legal history
 pub record IsFront (front : FrontState) : Type 0 where
-  pub ascending : Ascends front.older
+  pub ascending : ArePositionsInOrder front.older
   pub below : AllByRecursion (λ position. position < position_of front) front.older
   pub legal : IsLegal front.entries
 
@@ -62,7 +62,7 @@ pub record StandsAt (live : ℕ → Option ℕ) (position : ℕ) : Type 0 where
 
 -- exactly the positions of the live fronts strictly below a position, ascending, each once
 pub record AreOlder (live : Live) (position : ℕ) (older : List ℕ) : Type 0 where
-  pub ascending : Ascends older
+  pub ascending : ArePositionsInOrder older
   pub below : AllByRecursion (λ other. other < position) older
   pub only : (other : ℕ) → has_position older other ≡ true → StandsAt (positions_of live) other
   pub all : (other : ℕ) → StandsAt (positions_of live) other → other < position → has_position older other ≡ true

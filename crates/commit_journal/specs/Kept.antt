@@ -5,7 +5,7 @@ use Rattle.std.specs.List.{AllByRecursion}
 use Rattle.slab.specs.Slab.{Slab, entries}
 use Rattle.hamming_model.specs.History.{JournalEntry, rows_of}
 use Rattle.hamming_model.specs.declared.limits.TheConstants.{WORDS_MOST}
-use Rattle.commit_journal.specs.Fronts.{Ascends, Live, has_position}
+use Rattle.commit_journal.specs.Fronts.{ArePositionsInOrder, Live, has_position}
 use Rattle.commit_journal.specs.Journals.{IsJournal, JournalState}
 
 -- the live fronts of a slab
@@ -17,13 +17,13 @@ abbrev pub journal_of : List JournalEntry → Slab (ℕ × ℕ) → ℕ → ℕ 
 journal_of history live next limit = record { history = history; live = live_of live; next = next; limit = limit }
 
 -- the rows by key are those of the history
-pub record IsKept (words : ℕ) (state : JournalState) (rows : List (ℕ × List ℕ)) : Type 0 where
+pub record IsKeptJournal (words : ℕ) (state : JournalState) (rows : List (ℕ × List ℕ)) : Type 0 where
   pub few_words : words ≤ WORDS_MOST
   pub sound : IsJournal state
   pub same_rows : rows ≡ rows_of state.history
 
 -- the positions with one more, at its place
 pub record AddsPosition (old : List ℕ) (position : ℕ) (new : List ℕ) : Type 0 where
-  pub ascending : Ascends new
+  pub ascending : ArePositionsInOrder new
   pub has : (other : ℕ) → has_position new other ≡ (has_position old other || (position == other))
   pub below : (bound : ℕ) → AllByRecursion (λ other. other < bound) old → position < bound → AllByRecursion (λ other. other < bound) new

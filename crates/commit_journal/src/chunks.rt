@@ -27,13 +27,13 @@ impl<const W: usize> Model for Chunks<W> {
     ghost use Rattle.hamming_model.specs.History.{JournalEntry};
     ghost use Rattle.hamming_model.specs.Coding.{history_code};
     ghost use Rattle.entry_log.specs.Entries.{kept_entry};
-    ghost use Rattle.commit_journal.specs.Chunks.{AreChunks, joined};
+    ghost use Rattle.commit_journal.specs.Chunks.{AreChunks, joined_chunks};
 
     ghost Value = { List JournalEntry };
 
     ghost coded = { history_code };
 
-    ghost view = { λ chunks. map kept_entry (joined chunks.all.items) };
+    ghost view = { λ chunks. map kept_entry (joined_chunks chunks.all.items) };
 
     ghost invariant = { λ chunks. AreChunks chunks.all.items };
 }

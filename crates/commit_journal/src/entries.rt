@@ -27,13 +27,13 @@ impl<const W: usize> Model for Entries<W> {
     ghost use Rattle.std.specs.Arc.{arc_value};
     ghost use Rattle.hamming_model.specs.History.{JournalEntry};
     ghost use Rattle.hamming_model.specs.Coding.{history_code};
-    ghost use Rattle.commit_journal.specs.Chunks.{IsCut, entries_of};
+    ghost use Rattle.commit_journal.specs.Chunks.{IsCut, cut_entries};
 
     ghost Value = { List JournalEntry };
 
     ghost coded = { history_code };
 
-    ghost view = { λ entries. entries_of (arc_value entries.whole) entries.last.items };
+    ghost view = { λ entries. cut_entries (arc_value entries.whole) entries.last.items };
 
     ghost invariant = { λ entries. IsCut (arc_value entries.whole) entries.last.items };
 }

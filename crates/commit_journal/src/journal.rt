@@ -35,7 +35,7 @@ pub struct Journal<const W: usize> {
 
 impl<const W: usize> Model for Journal<W> {
     ghost use Rattle.commit_journal.specs.Journals.{JournalState, journal_code};
-    ghost use Rattle.commit_journal.specs.Kept.{IsKept, journal_of};
+    ghost use Rattle.commit_journal.specs.Kept.{IsKeptJournal, journal_of};
 
     ghost Value = { JournalState };
 
@@ -43,7 +43,7 @@ impl<const W: usize> Model for Journal<W> {
 
     ghost view = { λ kept. journal_of kept.entries kept.live kept.next kept.limit };
 
-    ghost invariant = { λ kept. IsKept W (journal_of kept.entries kept.live kept.next kept.limit) kept.rows.entries };
+    ghost invariant = { λ kept. IsKeptJournal W (journal_of kept.entries kept.live kept.next kept.limit) kept.rows.entries };
 }
 
 impl<const W: usize> Journal<W> {

@@ -1,7 +1,7 @@
 //! The positions of live fronts below a position.
 
 ghost use Rattle.std.specs.Prelude.{◌≡◌, ◌<◌, ◌||◌, ◌==◌, IfOk, OnOk};
-ghost use Rattle.commit_journal.specs.Fronts.{AreOlder, Ascends, has_position};
+ghost use Rattle.commit_journal.specs.Fronts.{AreOlder, ArePositionsInOrder, has_position};
 ghost use Rattle.commit_journal.specs.Kept.{AddsPosition, live_of};
 
 use read_meter::NoMemory;
@@ -27,7 +27,7 @@ pub fn older_positions(
 
 // Adds a position at its place, where it isn't there.
 fn add_position(positions: &mut Vec<u64>, position: u64) -> Result<(), NoMemory>
-    requires { Ascends positions.old.items }
+    requires { ArePositionsInOrder positions.old.items }
     ensures { OnOk result (AddsPosition positions.old.items position positions.new.items) }
 {
     for place in 0..positions.len() {

@@ -6,7 +6,7 @@ use Rattle.ball_walk.specs.Balls.{value_distance}
 use Rattle.hamming_model.specs.declared.limits.TheConstants.{ENTRIES_MOST, PART_WIDTH_MOST}
 
 -- there is a number for each value, and the total is their sum
-pub record IsKept (width total : ℕ) (copies : List ℕ) : Type 0 where
+pub record IsCountTable (width total : ℕ) (copies : List ℕ) : Type 0 where
   pub some_width : 0 < width
   pub small_width : width ≤ PART_WIDTH_MOST
   pub each_value : length copies ≡ 2 ^ width

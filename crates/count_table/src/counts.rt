@@ -1,5 +1,5 @@
 ghost use Rattle.std.specs.Prelude.{◌≡◌, ℕ, ◌+◌, ◌^◌, ◌<◌, ◌≤◌, true, is_ok, IfOk, negsuc, ◌≤ℤ◌, replicate};
-ghost use Rattle.ball_walk.specs.Balls.{units_of};
+ghost use Rattle.ball_walk.specs.Balls.{radius_units};
 ghost use Rattle.hamming_model.specs.declared.limits.TheConstants.{ENTRIES_MOST, PART_WIDTH_MOST};
 ghost use Rattle.count_table.specs.Copies.{empty_table, copies_at, total_of, with_one, without_one, count_near, AreLevels};
 
@@ -22,13 +22,13 @@ pub struct Counts {
 
 impl Model for Counts {
     ghost use Rattle.count_table.specs.Copies.{CopyTable};
-    ghost use Rattle.count_table.specs.Kept.{IsKept};
+    ghost use Rattle.count_table.specs.Kept.{IsCountTable};
 
     ghost Value = { CopyTable };
 
     ghost view = { λ c. record { width = c.width; copies = c.copies.items } };
 
-    ghost invariant = { λ c. IsKept c.width c.total c.copies.items };
+    ghost invariant = { λ c. IsCountTable c.width c.total c.copies.items };
 }
 
 impl Counts {
@@ -115,7 +115,7 @@ impl Counts {
     pub fn within(&self, value: u16, radius: i32) -> u32
         requires in_width { value < 2 ^ self.now.width }
         requires radius { negsuc 0 ≤ℤ radius }
-        ensures { result ≡ count_near self.now value (units_of radius) }
+        ensures { result ≡ count_near self.now value (radius_units radius) }
     {
         ball_sums_add_up();
         add_over(&self.copies, Ball::new(value, self.width, radius))

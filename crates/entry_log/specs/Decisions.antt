@@ -12,9 +12,9 @@ is_add (Add key code) = true
 is_add (Delete key) = false
 
 -- an added key has no row, a deleted one has one
-abbrev pub Fits : {W : ℕ} → Op W → Bool → Type 0
-Fits (Add key code) present = present ≡ false
-Fits (Delete key) present = present ≡ true
+abbrev pub FitsRows : {W : ℕ} → Op W → Bool → Type 0
+FitsRows (Add key code) present = present ≡ false
+FitsRows (Delete key) present = present ≡ true
 
 -- the decision in the definitions' words
 abbrev pub decision_of : Decision → history.Decision

@@ -22,18 +22,18 @@ pub record MeansEntry {W : ℕ} (bits : ℕ) (entry : Entry W) (meant : history.
   pub operation : MeansOperation bits entry.op meant.operation
 
 -- the key of an operation
-abbrev pub key_of : history.Operation → ℕ
-key_of (history.Add key code) = key
-key_of (history.Delete key) = key
+abbrev pub operation_key : history.Operation → ℕ
+operation_key (history.Add key code) = key
+operation_key (history.Delete key) = key
 
 -- the decision is that of the definitions, on any rows that have the operation's key where it is present
 abbrev pub DecidesAs : {W : ℕ} → Op W → Bool → ℕ → ℕ → Decision → Type 0
 DecidesAs op present entries limit decision =
     (bits : ℕ) (rows : List (ℕ × List ℕ)) (operation : history.Operation) → MeansOperation bits op operation
-    → present ≡ is_some (history.code_at rows (key_of operation)) → decision_of decision ≡ history.decide rows entries limit operation
+    → present ≡ is_some (history.code_at rows (operation_key operation)) → decision_of decision ≡ history.decide rows entries limit operation
 
 -- and so it is of the operation with all bits that its words keep
 abbrev pub DecidesStored : {W : ℕ} → Op W → Bool → ℕ → ℕ → Decision → Type 0
 DecidesStored op present entries limit decision =
-    (rows : List (ℕ × List ℕ)) → present ≡ is_some (history.code_at rows (key_of (kept_operation op)))
+    (rows : List (ℕ × List ℕ)) → present ≡ is_some (history.code_at rows (operation_key (kept_operation op)))
     → decision_of decision ≡ history.decide rows entries limit (kept_operation op)

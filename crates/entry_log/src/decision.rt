@@ -1,7 +1,7 @@
 //! What becomes of an operation.
 
 ghost use Rattle.std.specs.Prelude.{◌≡◌, ℕ, ◌<◌, ◌≤◌, ◌↔◌, true, false};
-ghost use Rattle.entry_log.specs.Decisions.{Fits, is_add};
+ghost use Rattle.entry_log.specs.Decisions.{FitsRows, is_add};
 ghost use Rattle.entry_log.specs.Meaning.{DecidesAs, DecidesStored};
 ghost use Rattle.entry_log.specs.declared.decision.Decision.TheVariants.{Added, Taken, Deleted, Absent, Full};
 
@@ -29,7 +29,7 @@ pub fn decide<const W: usize>(op: &Op<W>, present: bool, entries: u64, limit: u6
     ensures taken { (result ≡ Taken) ↔ (is_add op.now ≡ true × present ≡ true) }
     ensures absent { (result ≡ Absent) ↔ (is_add op.now ≡ false × present ≡ false) }
     // It fits them.
-    ensures full { (result ≡ Full) ↔ (Fits op.now present × limit ≤ entries) }
+    ensures full { (result ≡ Full) ↔ (FitsRows op.now present × limit ≤ entries) }
     ensures added { (result ≡ Added) ↔ (is_add op.now ≡ true × present ≡ false × entries < limit) }
     ensures deleted { (result ≡ Deleted) ↔ (is_add op.now ≡ false × present ≡ true × entries < limit) }
     // The decision of the definitions, on rows that have the key where `present` says so.

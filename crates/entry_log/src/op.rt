@@ -2,7 +2,7 @@
 
 ghost use Rattle.std.specs.Prelude.{◌≡◌};
 ghost use Rattle.entry_log.specs.Entries.{kept_operation};
-ghost use Rattle.entry_log.specs.Meaning.{key_of};
+ghost use Rattle.entry_log.specs.Meaning.{operation_key};
 
 use gph_codes::Code;
 
@@ -18,7 +18,7 @@ pub enum Op<const W: usize> {
 impl<const W: usize> Op<W> {
     /// The key of the row.
     pub fn key(&self) -> u64
-        ensures { result ≡ key_of (kept_operation self.now) }
+        ensures { result ≡ operation_key (kept_operation self.now) }
     {
         match self {
             Op::Add { key, .. } | Op::Delete { key } => *key,

@@ -28,7 +28,7 @@ use Rattle.gph_session.specs.declared.adding.Adding.TheVariants as adding
 use Rattle.gph_session.specs.declared.session.Turn.{Turn}
 use Rattle.gph_session.specs.declared.session.Turn.TheVariants.{Goes}
 use Rattle.gph_session.specs.Changing.{AddsAs, added_entry, reply_to_add}
-use Rattle.gph_session.specs.Meaning.{MeansBy, IsReadyBy, IsSettled, contents_of}
+use Rattle.gph_session.specs.Meaning.{MeansBy, IsReadyBy, IsSettled, shard_after}
 use Rattle.gph_session.specs.Writing.{Writes}
 use Rattle.gph_session.proofs.BoundLemmas.{all_settled_later}
 use Rattle.gph_session.proofs.QueryLemmas.{keep_later}
@@ -116,7 +116,7 @@ module _ {W : ℕ} (p : Here W) (after : Option (List ℕ)) (result : Result Tur
       longer : p.history ++ commit_of 0 p.config exchange ≡ p.history ++ entry ∷ []
       longer = ap (λ l. p.history ++ l) (commit 0)
 
-      next : version ≡ contents_of p.config (p.history ++ entry ∷ [])
+      next : version ≡ shard_after p.config (p.history ++ entry ∷ [])
       next =
           adds.2 ∙ ap (λ (v : Contents). after_entry v (added_entry v.layout.bits key stored)) p.means.version_is
           ∙ after_added p.config p.history key code

@@ -11,16 +11,16 @@ use Rattle.query_protocol.specs.Replies.{text, reply_line}
 use Rattle.query_protocol.specs.Replies.{LineReply}
 use Rattle.query_protocol.specs.Replies as reply
 use Rattle.session_model.specs.State.{query_of, open_queries}
-use Rattle.session_model.specs.Ledger.{total, layout_at, last_given, IsPlan}
-use Rattle.session_model.specs.QuerySteps.{IfOpen, Costs, Plans}
+use Rattle.session_model.specs.Ledger.{sum_of, layout_at, last_given, IsPlanOfQuery}
+use Rattle.session_model.specs.QuerySteps.{IfOpen, Costs, TellsPlan}
 use Rattle.session_model.specs.Step.{Answers}
 use Rattle.session_model.specs.Run.{accepted, asks_quit}
 use Rattle.gph_session.specs.declared.open_query.OpenQuery.{OpenQuery}
 use Rattle.gph_session.specs.declared.session.Turn.{Turn}
 use Rattle.gph_session.specs.declared.session.Turn.TheVariants.{Goes, Quits}
-use Rattle.gph_session.specs.Cursors.{asked_of, standing_of, Changes, IsSame}
+use Rattle.gph_session.specs.Cursors.{asked_in, standing_in, Changes, IsSame}
 use Rattle.gph_session.specs.Asking.{CostsAs, PlansAs}
-use Rattle.gph_session.specs.Meaning.{AllKeep, MeansBy, layout_of}
+use Rattle.gph_session.specs.Meaning.{AllKeep, MeansBy, starting_parts}
 use Rattle.gph_session.specs.Writing.{Writes}
 use Rattle.gph_session.proofs.BoundLemmas.{bound_over, plan_at, reads_within}
 use Rattle.gph_session.proofs.ShardLemmas.{plan_shard, layout_shard}
@@ -72,23 +72,23 @@ module _ {W : ℕ} (p : Here W) (after : Option (List ℕ)) (result : Result Tur
 
     -- what was read, and what it may be
     abbrev reads : ℕ
-    reads = (standing_of was).reads
+    reads = (standing_in was).reads
 
-    read_in_all : total it.query.reads ≡ reads
-    read_in_all = omega (arith, ap total it.keeps.reads)
+    read_in_all : sum_of it.query.reads ≡ reads
+    read_in_all = omega (arith, ap sum_of it.keeps.reads)
 
     costed : (later : List JournalEntry) (this : LineReply)
-        → this ≡ reply.Cost tag reads ((asked_of was).bound None)
+        → this ≡ reply.Cost tag reads ((asked_in was).bound None)
         → Costs p.config (p.history ++ later) tag it.query p.s
         (exchange_here p (this ∷ []) p.s.position) p.s
     costed later this told =
         let query = it.query in
         let keeps = keeps_later p.config p.history later was query it.keeps in
-        let bound = (asked_of was).bound None in
+        let bound = (asked_in was).bound None in
         let given : query.given ≤ reads =
         omega (arith, it.keeps.lawful.each_read, it.keeps.counted, it.keeps.given) in
         let within : reads ≤ bound =
-        reads_within p.config p.history was query it.keeps p.ready.alone reads (standing_of was).begun
+        reads_within p.config p.history was query it.keeps p.ready.alone reads (standing_in was).begun
         it.keeps.lawful.bounded in
         record {
           bound = bound;
@@ -103,18 +103,18 @@ module _ {W : ℕ} (p : Here W) (after : Option (List ℕ)) (result : Result Tur
         }
 
     planned : (later : List JournalEntry) (shard : ℕ) (this : LineReply) → shard ≡ 0
-        → this ≡ reply.Plan tag shard ((asked_of was).plan None).1
-        (take PARTS_MOST ((asked_of was).plan None).0)
-        → Plans p.config (p.history ++ later) tag shard it.query p.s
+        → this ≡ reply.Plan tag shard ((asked_in was).plan None).1
+        (take PARTS_MOST ((asked_in was).plan None).0)
+        → TellsPlan p.config (p.history ++ later) tag shard it.query p.s
         (exchange_here p (this ∷ []) p.s.position) p.s
     planned later shard this first told =
         let query = it.query in
         let keeps = keeps_later p.config p.history later was query it.keeps in
-        let plan = (asked_of was).plan None in
+        let plan = (asked_in was).plan None in
         record {
           thresholds = take PARTS_MOST plan.0;
           cost = plan.1;
-          is_plan = subst (λ n. IsPlan p.config (p.history ++ later) query n (take PARTS_MOST plan.0) plan.1)
+          is_plan = subst (λ n. IsPlanOfQuery p.config (p.history ++ later) query n (take PARTS_MOST plan.0) plan.1)
               (sym first)
               (plan_at p.config (p.history ++ later) was query keeps p.ready.alone p.ready.layout.few_parts);
           said_is = ap (λ (r : LineReply). r ∷ []) told;
@@ -151,7 +151,7 @@ module _ {W : ℕ} (p : Here W) (after : Option (List ℕ)) (result : Result Tur
       → TurnTo p after result now now p.version cursors
   plan_turn tag shard this cursors reads (inl unknown) goes wrote =
       turn_to p after result now now p.version cursors goes
-      (unknown_step p after result now (Plan tag shard) tag (λ h. Plans p.config h tag shard) cursors reads refl
+      (unknown_step p after result now (Plan tag shard) tag (λ h. TellsPlan p.config h tag shard) cursors reads refl
       (λ h e t answers. answers) unknown.0 unknown.1
       (subst (λ r. Writes p.before after result (text (r ∷ []))) unknown.2
       (writes_one p.before after result this wrote)))
@@ -159,7 +159,7 @@ module _ {W : ℕ} (p : Here W) (after : Option (List ℕ)) (result : Result Tur
       let first = plan_shard p.config p.line tag shard p.ready.alone reads in
       turn_to p after result now now p.version cursors goes
       (asked_step tag cursors told.0 told.1 told.2 told.3 (Plan tag shard) this reads refl
-      (λ later. subst (λ o. IfOpen o (Plans p.config (p.history ++ later) tag shard) p.s
+      (λ later. subst (λ o. IfOpen o (TellsPlan p.config (p.history ++ later) tag shard) p.s
       (exchange_here p (this ∷ []) p.s.position) p.s)
       (sym (found tag cursors told.0 told.1 told.2 told.3))
       (planned tag cursors told.0 told.1 told.2 told.3 later shard this first told.4))
@@ -169,15 +169,15 @@ module _ {W : ℕ} (p : Here W) (after : Option (List ℕ)) (result : Result Tur
 
   pub layout_turn : (shard : ℕ) → asked_here p ≡ Ok (Some (Layout shard))
       → IfOk result (λ turn. turn ≡ Goes)
-      → Writes p.before after result (reply_line (reply.Layout shard (layout_text (layout_of p.config))))
+      → Writes p.before after result (reply_line (reply.Layout shard (layout_text (starting_parts p.config))))
       → TurnTo p after result now now p.version p.cursors
   layout_turn shard reads goes wrote =
-      let this : LineReply = reply.Layout shard (layout_text (layout_of p.config)) in
+      let this : LineReply = reply.Layout shard (layout_text (starting_parts p.config)) in
       let first = layout_shard p.config p.line shard p.ready.alone reads in
       turn_to p after result now now p.version p.cursors goes
       (quiet p after result now (Ok (Some (Layout shard))) (this ∷ []) reads refl
       (λ later. record {
-        said_is = ap (λ (n : ℕ). reply.Layout shard (layout_text (layout_at (layout_of p.config ∷ []) n)) ∷ [])
+        said_is = ap (λ (n : ℕ). reply.Layout shard (layout_text (layout_at (starting_parts p.config ∷ []) n)) ∷ [])
             (sym first);
         position = refl;
         same = refl;

@@ -12,11 +12,11 @@ use Rattle.threshold_model.specs.Vectors.{IsLeast}
 use Rattle.threshold_model.specs.Bounds.{IsBoundOf, IsPlanOf, last_distance}
 use Rattle.part_layout.specs.declared.config.Config.{Config}
 use Rattle.session_model.specs.State.{Query}
-use Rattle.session_model.specs.Ledger.{IsBoundAt, IsBound, IsPlan, IsWithinBound, IsBounded, layout_at}
-use Rattle.session_model.specs.Ledger.{answer_of, last_given}
+use Rattle.session_model.specs.Ledger.{IsBoundAt, IsBound, IsPlanOfQuery, IsWithinBound, IsBounded, layout_at}
+use Rattle.session_model.specs.Ledger.{answer_to, last_given}
 use Rattle.gph_session.specs.declared.open_query.OpenQuery.{OpenQuery}
-use Rattle.gph_session.specs.Cursors.{asked_of}
-use Rattle.gph_session.specs.Meaning.{AsksOn, Keeps, IsSettled, layout_of}
+use Rattle.gph_session.specs.Cursors.{asked_in}
+use Rattle.gph_session.specs.Meaning.{AsksOn, Keeps, IsSettled, starting_parts}
 use Rattle.gph_session.proofs.ShardLemmas.{rows_of_one}
 
 -- ---- what a source is asked
@@ -33,7 +33,7 @@ least_is_one count tau parts a b one other =
 
 module _ (config : Config) (history : List JournalEntry) (a : Asked) where
   asked_bound : (asked : Ask) → AsksOn asked config history a → (last given : Option ℕ)
-      → IsBoundOf asked (rows_of history) (layout_of config) last (a.bound given)
+      → IsBoundOf asked (rows_of history) (starting_parts config) last (a.bound given)
   asked_bound (Range tau code) asks last given = asks.bound given
   asked_bound (Near number code) asks last given = absurd asks
 
@@ -45,15 +45,15 @@ module _ (config : Config) (history : List JournalEntry) (a : Asked) where
 
   -- the threshold vector has a threshold a part, so that the first 64 are all
   asked_plan : (asked : Ask) → AsksOn asked config history a → (last : Option ℕ)
-      → length (layout_of config) ≤ PARTS_MOST
-      → IsPlanOf asked (rows_of history) (layout_of config) last
+      → length (starting_parts config) ≤ PARTS_MOST
+      → IsPlanOf asked (rows_of history) (starting_parts config) last
       (take PARTS_MOST (a.plan None).0) (a.plan None).1
   asked_plan (Range tau code) asks last few =
       let vector = (a.plan None).0 in
-      let size : length vector ≡ length (layout_of config) = (asks.vector None).vector.size in
+      let size : length vector ≡ length (starting_parts config) = (asks.vector None).vector.size in
       let all : take PARTS_MOST vector ≡ vector =
       take_all PARTS_MOST vector (omega (arith, size, few)) in
-      subst (λ ts. IsPlanOf (Range tau code) (rows_of history) (layout_of config) last ts (a.plan None).1)
+      subst (λ ts. IsPlanOf (Range tau code) (rows_of history) (starting_parts config) last ts (a.plan None).1)
       (sym all) (record { vector = asks.vector None; least = asks.cost None })
   asked_plan (Near number code) asks last few = absurd asks
 
@@ -75,72 +75,72 @@ module _ {W : ℕ} (config : Config) (history : List JournalEntry) (cursor : Ope
   rows_under = rows_of (take query.position history)
 
   -- what holds of all rows and the one layout holds of the one shard
-  on_shard : (P : List (ℕ × List ℕ) → List (List ℕ) → Type 0) → P rows_under (layout_of config)
+  on_shard : (P : List (ℕ × List ℕ) → List (List ℕ) → Type 0) → P rows_under (starting_parts config)
       → P (shard_rows 0 config.shards rows_under) (layout_at query.pinned 0)
   on_shard P h =
       subst (λ (layouts : List (List (List ℕ))). P (shard_rows 0 config.shards rows_under) (layout_at layouts 0))
       (sym keeps.pinned)
-      (subst (λ rows. P rows (layout_of config)) (sym (rows_of_one config.shards rows_under one)) h)
+      (subst (λ rows. P rows (starting_parts config)) (sym (rows_of_one config.shards rows_under one)) h)
 
   bound_at : (last : Option ℕ)
-      → IsBoundAt config history query last 0 ((asked_of cursor).bound None)
+      → IsBoundAt config history query last 0 ((asked_in cursor).bound None)
   bound_at last =
-      on_shard (λ rows layout. IsBoundOf query.ask rows layout last ((asked_of cursor).bound None))
-      (asked_bound config (take query.position history) (asked_of cursor) query.ask keeps.asks last None)
+      on_shard (λ rows layout. IsBoundOf query.ask rows layout last ((asked_in cursor).bound None))
+      (asked_bound config (take query.position history) (asked_in cursor) query.ask keeps.asks last None)
 
   each_bound : (last : Option ℕ) (shard : ℕ) → shard < config.shards
-      → IsBoundAt config history query last shard (slice_index ((asked_of cursor).bound None ∷ []) shard)
+      → IsBoundAt config history query last shard (slice_index ((asked_in cursor).bound None ∷ []) shard)
   each_bound last zero lt = bound_at last
   each_bound last (suc shard) lt = absurd (omega (arith, lt, one))
 
-  pub bound_over : (last : Option ℕ) → IsBound config history query last ((asked_of cursor).bound None)
+  pub bound_over : (last : Option ℕ) → IsBound config history query last ((asked_in cursor).bound None)
   bound_over last = record {
-    bounds = (asked_of cursor).bound None ∷ [];
+    bounds = (asked_in cursor).bound None ∷ [];
     number = sym one;
     each = each_bound last;
     all = omega arith;
   }
 
-  pub plan_at : length (layout_of config) ≤ PARTS_MOST
-      → IsPlan config history query 0 (take PARTS_MOST ((asked_of cursor).plan None).0)
-      ((asked_of cursor).plan None).1
+  pub plan_at : length (starting_parts config) ≤ PARTS_MOST
+      → IsPlanOfQuery config history query 0 (take PARTS_MOST ((asked_in cursor).plan None).0)
+      ((asked_in cursor).plan None).1
   plan_at few =
       let last = last_given config history query in
-      let plan = (asked_of cursor).plan None in
+      let plan = (asked_in cursor).plan None in
       on_shard (λ rows layout. IsPlanOf query.ask rows layout last (take PARTS_MOST plan.0) plan.1)
-      (asked_plan config (take query.position history) (asked_of cursor) query.ask keeps.asks last few)
+      (asked_plan config (take query.position history) (asked_in cursor) query.ask keeps.asks last few)
 
   -- a source that is asked the same, and lawful, has read at most its bound
-  pub reads_within : (reads : ℕ) (begun : Option ℕ) → reads ≤ (asked_of cursor).bound begun
-      → reads ≤ (asked_of cursor).bound None
+  pub reads_within : (reads : ℕ) (begun : Option ℕ) → reads ≤ (asked_in cursor).bound begun
+      → reads ≤ (asked_in cursor).bound None
   reads_within reads begun within =
       subst (λ n. reads ≤ n)
-      (one_bound config (take query.position history) (asked_of cursor) query.ask keeps.asks begun) within
+      (one_bound config (take query.position history) (asked_in cursor) query.ask keeps.asks begun) within
 
   -- a query of the same question that has read so much is within its bounds
   module _ (this : Query) (reads : ℕ) (position : this.position ≡ query.position)
       (ask : this.ask ≡ query.ask) (pinned : this.pinned ≡ query.pinned)
-      (reads_is : this.reads ≡ reads ∷ []) (within : reads ≤ (asked_of cursor).bound None) where
+      (reads_is : this.reads ≡ reads ∷ []) (within : reads ≤ (asked_in cursor).bound None) where
     -- the bound of the same question
-    same_bound : IsBoundAt config history this (last_distance (answer_of config history this)) 0
-        ((asked_of cursor).bound None)
+    same_bound : IsBoundAt config history this (last_distance (answer_to config history this)) 0
+        ((asked_in cursor).bound None)
     same_bound =
-        let bound = (asked_of cursor).bound None in
+        let bound = (asked_in cursor).bound None in
         let P : ℕ → Ask → List (List (List ℕ)) → Type 0 =
         λ (at : ℕ) (asked : Ask) (layouts : List (List (List ℕ))).
         IsBoundOf asked (shard_rows 0 config.shards (rows_of (take at history))) (layout_at layouts 0)
         (last_distance (answer config.bits (rows_of (take at history)) asked)) bound in
         let first : P query.position query.ask query.pinned =
-        bound_at (last_distance (answer_of config history query)) in
+        bound_at (last_distance (answer_to config history query)) in
         subst (λ n. P n this.ask this.pinned) (sym position)
         (subst (λ a. P query.position a this.pinned) (sym ask)
         (subst (λ l. P query.position query.ask l) (sym pinned) first))
 
     each_within : (shard : ℕ) → shard < config.shards → IsWithinBound config history this shard
     each_within zero lt = record {
-      bound = (asked_of cursor).bound None;
+      bound = (asked_in cursor).bound None;
       is_bound = same_bound;
-      within = subst (λ (row : List ℕ). slice_index row 0 ≤ (asked_of cursor).bound None) (sym reads_is) within;
+      within = subst (λ (row : List ℕ). slice_index row 0 ≤ (asked_in cursor).bound None) (sym reads_is) within;
     }
     each_within (suc shard) lt = absurd (omega (arith, lt, one))
 

@@ -18,7 +18,7 @@ use Rattle.query_protocol.specs.Replies as reply
 use Rattle.gph_session.specs.declared.open_query.OpenQuery.{OpenQuery}
 use Rattle.gph_session.specs.declared.session.Turn.{Turn}
 use Rattle.session_model.specs.QuerySteps.{hit_replies, next_replies}
-use Rattle.gph_session.specs.Cursors.{asked_of, standing_of}
+use Rattle.gph_session.specs.Cursors.{asked_in, standing_in}
 use Rattle.gph_session.specs.GivenHits.{PollsOn, IsFilled, GivesHits, IsCounted, GivesQuery}
 use Rattle.gph_session.specs.Writing.{Writes}
 use Rattle.gph_session.proofs.Here.{on_ok}
@@ -219,18 +219,18 @@ module _ (a : Asked) (tag : List ℕ) (count : ℕ) (start now : Standing)
 
 module _ {W : ℕ} (tag : List ℕ) (count : ℕ) (before after : OpenQuery W)
     (sink0 sink1 : Option (List ℕ)) (from to : ℕ) (tag_same : after.tag ≡ before.tag)
-    (asked : asked_of after ≡ asked_of before) where
+    (asked : asked_in after ≡ asked_in before) where
   -- a hit's line was refused
   pub query_part : (failed failed' : Failed)
-      → GivesHits (asked_of before) tag count (standing_of before)
-      (standing_of after) sink0 sink1 from to (Err failed)
+      → GivesHits (asked_in before) tag count (standing_in before)
+      (standing_in after) sink0 sink1 from to (Err failed)
       → GivesQuery tag count before after sink0 sink1 from to (Err failed')
   query_part failed failed' gives = record {
     tag_same = tag_same;
     asked = asked;
     reads = gives.reads;
     wrote = λ counted.
-        let hits = (asked_of before).hits in
+        let hits = (asked_in before).hits in
         let first = hit_replies tag (take count (drop before.given hits)) in
         let last : LineReply = cond (nat_lt (before.given + count) (length hits)) (reply.More tag)
         (reply.Done tag (length hits)) in
@@ -243,17 +243,17 @@ module _ {W : ℕ} (tag : List ℕ) (count : ℕ) (before after : OpenQuery W)
   }
 
   module _ (number : ℕ) (sink2 : Option (List ℕ)) (result : Result Turn Failed)
-      (gives : GivesHits (asked_of before) tag count (standing_of before)
-      (standing_of after) sink0 sink1 from to (Ok number)) where
+      (gives : GivesHits (asked_in before) tag count (standing_in before)
+      (standing_in after) sink0 sink1 from to (Ok number)) where
     -- the hits and then the last line
     query_wrote : (last : LineReply) → Writes sink1 sink2 result (reply_line last)
         → (counted : IsCounted before)
-        → last ≡ cond (nat_lt (before.given + count) (length (asked_of before).hits))
-        (reply.More tag) (reply.Done tag (length (asked_of before).hits))
+        → last ≡ cond (nat_lt (before.given + count) (length (asked_in before).hits))
+        (reply.More tag) (reply.Done tag (length (asked_in before).hits))
         → Writes sink0 sink2 result (text
-        (next_replies tag count before.given (asked_of before).hits))
+        (next_replies tag count before.given (asked_in before).hits))
     query_wrote last wrote counted is =
-        let hits = (asked_of before).hits in
+        let hits = (asked_in before).hits in
         let first = hit_replies tag (take count (drop before.given hits)) in
         let all = subst (λ n. Appends sink0 sink1
         (text (hit_replies tag (take count (drop n hits))))) (sym counted.given)
@@ -267,42 +267,42 @@ module _ {W : ℕ} (tag : List ℕ) (count : ℕ) (before after : OpenQuery W)
     -- the number that was given, which is within what is counted
     number_given : (counted : IsCounted before)
         → after.given ≡ min (before.given + number) (2 ^ 64 - 1)
-        → after.given ≡ (standing_of after).given
+        → after.given ≡ (standing_in after).given
     number_given counted is =
-        let within : (standing_of after).given + length (standing_of after).waiting ≤ length
-        (asked_of before).hits = gives.reads.lawful.within in
-        let sum : (standing_of after).given ≡ (standing_of before).given + number = gives.number in
+        let within : (standing_in after).given + length (standing_in after).waiting ≤ length
+        (asked_in before).hits = gives.reads.lawful.within in
+        let sum : (standing_in after).given ≡ (standing_in before).given + number = gives.number in
         omega (arith, is, within, sum, counted.given, counted.few)
 
     pub query_more : after.given ≡ min (before.given + number) (2 ^ 64 - 1)
-        → after.done ≡ before.done → is_some (first_of (standing_of after).waiting) ≡ true
+        → after.done ≡ before.done → is_some (first_of (standing_in after).waiting) ≡ true
         → Writes sink1 sink2 result (reply_line (reply.More tag))
         → GivesQuery tag count before after sink0 sink2 from to result
     query_more given done some wrote =
         let more : IsCounted before → before.given + count < length
-        (asked_of before).hits = λ counted.
+        (asked_in before).hits = λ counted.
         omega (
           arith,
           gives.given counted.room,
           gives.reads.lawful.within,
           one_waits
-              (standing_of after).waiting some,
+              (standing_in after).waiting some,
           counted.given,
         ) in
         let test : (counted : IsCounted before)
         → nat_lt (before.given + count)
-        (length (asked_of before).hits) ≡ true = λ counted. lt-ltb (before.given + count)
-        (length (asked_of before).hits) (more counted) in
+        (length (asked_in before).hits) ≡ true = λ counted. lt-ltb (before.given + count)
+        (length (asked_in before).hits) (more counted) in
         record {
           tag_same = tag_same;
           asked = asked;
           reads = gives.reads;
           wrote = λ counted. query_wrote (reply.More tag) wrote counted
-              (ap (λ b. cond b (reply.More tag) (reply.Done tag (length (asked_of before).hits)))
+              (ap (λ b. cond b (reply.More tag) (reply.Done tag (length (asked_in before).hits)))
               (sym (test counted)));
           given = λ counted. on_ok result _ (record {
             given = number_given counted given ∙ gives.given counted.room
-                ∙ ap (λ n. min (n + count) (length (asked_of before).hits)) (sym counted.given);
+                ∙ ap (λ n. min (n + count) (length (asked_in before).hits)) (sym counted.given);
             counted = number_given counted given;
             done = done ∙ ap (λ b. cond b before.done true) (sym (test counted));
             ended = λ e. inl (sym done ∙ e);
@@ -310,20 +310,20 @@ module _ {W : ℕ} (tag : List ℕ) (count : ℕ) (before after : OpenQuery W)
         }
 
     pub query_all : after.given ≡ min (before.given + number) (2 ^ 64 - 1) → after.done ≡ true
-        → is_some (first_of (standing_of after).waiting) ≡ false
+        → is_some (first_of (standing_in after).waiting) ≡ false
         → Writes sink1 sink2 result (reply_line (reply.Done tag after.given))
         → GivesQuery tag count before after sink0 sink2 from to result
     query_all given done none wrote =
-        let nothing : (standing_of after).waiting ≡ [] = none_waits
-        (standing_of after).waiting none in
-        let ended : IsCounted before → (standing_of after).ended ≡ true = λ counted. ended_by
-        (standing_of after) (gives.filled counted.room) nothing in
-        let all : IsCounted before → (standing_of after).given ≡ length
-        (asked_of before).hits = λ counted. omega
+        let nothing : (standing_in after).waiting ≡ [] = none_waits
+        (standing_in after).waiting none in
+        let ended : IsCounted before → (standing_in after).ended ≡ true = λ counted. ended_by
+        (standing_in after) (gives.filled counted.room) nothing in
+        let all : IsCounted before → (standing_in after).given ≡ length
+        (asked_in before).hits = λ counted. omega
         (arith, gives.reads.lawful.end.all_reached (ended counted), ap length nothing) in
         let test : (counted : IsCounted before)
-        → nat_lt (before.given + count) (length (asked_of before).hits) ≡ false = λ counted.
-        le-ltb (before.given + count) (length (asked_of before).hits)
+        → nat_lt (before.given + count) (length (asked_in before).hits) ≡ false = λ counted.
+        le-ltb (before.given + count) (length (asked_in before).hits)
         (omega (arith, gives.given counted.room, all counted, counted.given)) in
         record {
           tag_same = tag_same;
@@ -332,10 +332,10 @@ module _ {W : ℕ} (tag : List ℕ) (count : ℕ) (before after : OpenQuery W)
           wrote = λ counted. query_wrote (reply.Done tag after.given) wrote counted
               (ap (reply.Done tag) (number_given counted given ∙ all counted)
               ∙ ap (λ b. cond b (reply.More tag)
-              (reply.Done tag (length (asked_of before).hits))) (sym (test counted)));
+              (reply.Done tag (length (asked_in before).hits))) (sym (test counted)));
           given = λ counted. on_ok result _ (record {
             given = number_given counted given ∙ gives.given counted.room
-                ∙ ap (λ n. min (n + count) (length (asked_of before).hits)) (sym counted.given);
+                ∙ ap (λ n. min (n + count) (length (asked_in before).hits)) (sym counted.given);
             counted = number_given counted given;
             done = done ∙ ap (λ b. cond b before.done true) (sym (test counted));
             ended = λ e. inr (ended counted);

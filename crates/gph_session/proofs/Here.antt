@@ -22,7 +22,7 @@ use Rattle.gph_session.specs.declared.open_query.OpenQuery.{OpenQuery}
 use Rattle.gph_session.specs.declared.session.Session.{Session}
 use Rattle.gph_session.specs.declared.session.Turn.{Turn}
 use Rattle.gph_session.specs.declared.session.Turn.TheVariants.{Goes, Quits}
-use Rattle.gph_session.specs.Meaning.{MeansBy, Means, IsReadyBy, IsReady, IsSettled, contents_in, layout_of}
+use Rattle.gph_session.specs.Meaning.{MeansBy, Means, IsReadyBy, IsReady, IsSettled, contents_in, starting_parts}
 use Rattle.gph_session.specs.Writing.{Writes}
 use Rattle.gph_session.specs.Flow.{OneStep, TurnIs}
 
@@ -89,7 +89,7 @@ exchange_here p replies at = record {
   line = p.line;
   replies = replies;
   position = at;
-  layouts = layout_of p.config ∷ [];
+  layouts = starting_parts p.config ∷ [];
   seen = p.s.position;
 }
 
@@ -98,7 +98,7 @@ pub prefix_here : {W : ℕ} (p : Here W) (later : List JournalEntry)
     → take p.s.position (p.history ++ later) ≡ p.history
 prefix_here p later = take_at p.history later p.s.position (sym p.means.position)
 
-pub layouts_here : {W : ℕ} (p : Here W) → AreLayouts p.config (layout_of p.config ∷ [])
+pub layouts_here : {W : ℕ} (p : Here W) → AreLayouts p.config (starting_parts p.config ∷ [])
 layouts_here p = record { number = sym p.ready.alone; each = (p.ready.layout, tt) }
 
 module _ {W : ℕ} (p : Here W) (after : Option (List ℕ)) (result : Result Turn Failed) (from to : ℕ)

@@ -22,7 +22,7 @@ use Rattle.session_model.specs.Run.{accepted}
 use Rattle.gph_session.specs.declared.open_query.OpenQuery.{OpenQuery}
 use Rattle.gph_session.specs.declared.session.Turn.{Turn}
 use Rattle.gph_session.specs.declared.session.Turn.TheVariants.{Goes}
-use Rattle.gph_session.specs.Cursors.{asked_of, standing_of, IsFree, Changes}
+use Rattle.gph_session.specs.Cursors.{asked_in, standing_in, IsFree, Changes}
 use Rattle.gph_session.specs.GivenHits.{IsCounted, IsGiven, GivesQuery, GivesAs}
 use Rattle.gph_session.specs.Meaning.{AsksOn, Keeps, AllKeep, MeansBy, IsSettled}
 use Rattle.gph_session.specs.Writing.{Writes}
@@ -81,10 +81,10 @@ module _ {W : ℕ} (p : Here W) (after : Option (List ℕ)) (result : Result Tur
 
     -- the whole answer, and the query with its hits given
     abbrev hits : List Hit
-    hits = (asked_of was).hits
+    hits = (asked_in was).hits
 
     abbrev reads : List ℕ
-    reads = (standing_of now).reads ∷ []
+    reads = (standing_in now).reads ∷ []
 
     abbrev this : Query
     this = given_more query count hits reads
@@ -95,7 +95,7 @@ module _ {W : ℕ} (p : Here W) (after : Option (List ℕ)) (result : Result Tur
     counted : IsCounted was
     counted = record {
       room =
-          let same = asked_room p.config (take query.position p.history) (asked_of was) query.ask it.keeps.asks in
+          let same = asked_room p.config (take query.position p.history) (asked_in was) query.ask it.keeps.asks in
           subst (λ n. 1 ≤ n) (sym same) p.ready.some_room;
       given = it.keeps.counted;
       few = it.keeps.few;
@@ -106,7 +106,7 @@ module _ {W : ℕ} (p : Here W) (after : Option (List ℕ)) (result : Result Tur
       number = ap length (sym it.keeps.reads);
       no_less = λ shard.
           subst (λ (row : List ℕ). slice_index row shard ≤ slice_index reads shard) (sym it.keeps.reads)
-          (one_no_less (standing_of was).reads (standing_of now).reads gives.reads.rises shard);
+          (one_no_less (standing_in was).reads (standing_in now).reads gives.reads.rises shard);
       stays = λ done.
           ap (λ (n : ℕ). n ∷ []) (gives.reads.stays_ended (it.keeps.ended done)).1 ∙ sym it.keeps.reads;
     }
@@ -126,7 +126,7 @@ module _ {W : ℕ} (p : Here W) (after : Option (List ℕ)) (result : Result Tur
           given = given.given ∙ ap (λ (n : ℕ). min (n + count) (length hits)) keeps.given;
           counted = given.counted;
           done = done;
-          lawful = subst (λ a. IsLawful a (standing_of now)) (sym gives.asked) gives.reads.lawful;
+          lawful = subst (λ a. IsLawful a (standing_in now)) (sym gives.asked) gives.reads.lawful;
           ended = λ e. elim (given.ended (done ∙ e)) [
             | inl before ↦ (gives.reads.stays_ended (keeps.ended (sym keeps.done ∙ before))).0
             | inr ended ↦ ended
@@ -140,9 +140,9 @@ module _ {W : ℕ} (p : Here W) (after : Option (List ℕ)) (result : Result Tur
         all_replaced (IsSettled p.config p.history) tag this p.s.queries p.means.settled (record {
           within = it.keeps.within;
           bounded = bounded_still p.config p.history was query it.keeps p.ready.alone this
-              (standing_of now).reads refl refl refl refl
-              (reads_within p.config p.history was query it.keeps p.ready.alone (standing_of now).reads
-              (standing_of now).begun gives.reads.lawful.bounded);
+              (standing_in now).reads refl refl refl refl
+              (reads_within p.config p.history was query it.keeps p.ready.alone (standing_in now).reads
+              (standing_in now).begun gives.reads.lawful.bounded);
         })
 
     means_given : IsGiven count was now → MeansBy W p.config p.version cursors p.history t
@@ -179,7 +179,7 @@ module _ {W : ℕ} (p : Here W) (after : Option (List ℕ)) (result : Result Tur
         (record {
           hits = hits;
           hits_are =
-              asked_hits p.config (take query.position p.history) (asked_of was) query.ask it.keeps.asks
+              asked_hits p.config (take query.position p.history) (asked_in was) query.ask it.keeps.asks
               ∙ ap (λ h. answer p.config.bits (rows_of h) query.ask)
               (sym (take-append-le query.position p.history later within));
           reads = reads;

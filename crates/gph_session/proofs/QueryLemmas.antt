@@ -15,7 +15,7 @@ use Rattle.part_layout.specs.declared.config.Config.{Config}
 use Rattle.session_model.specs.State.{Query, is_open, has_tag, query_of, replaced, open_queries}
 use Rattle.session_model.specs.Ledger.{column, readings_of}
 use Rattle.gph_session.specs.declared.open_query.OpenQuery.{OpenQuery}
-use Rattle.gph_session.specs.Cursors.{asked_of, standing_of, IsFree, IsFirstAt, Changes, IsSame}
+use Rattle.gph_session.specs.Cursors.{asked_in, standing_in, IsFree, IsFirstAt, Changes, IsSame}
 use Rattle.gph_session.specs.Meaning.{AsksOn, Keeps, AllKeep}
 use Rattle.gph_session.proofs.CursorLemmas.{parted_at}
 
@@ -152,7 +152,7 @@ keeps_later config history later cursor query keeps =
     record {
       tag = keeps.tag;
       within = omega (arith, within, length-append history later);
-      asks = subst (λ h. AsksOn query.ask config h (asked_of cursor))
+      asks = subst (λ h. AsksOn query.ask config h (asked_in cursor))
           (sym (take-append-le query.position history later within)) keeps.asks;
       few = keeps.few;
       pinned = keeps.pinned;
@@ -301,8 +301,8 @@ keeps_same config history before after query keeps same = record {
   given = same.given ∙ keeps.given;
   counted = same.given ∙ keeps.counted ∙ ap (λ s. s.given) (sym same.standing);
   done = same.done ∙ keeps.done;
-  lawful = subst (λ a. IsLawful a (standing_of after)) (sym same.asked)
-      (subst (IsLawful (asked_of before)) (sym same.standing) keeps.lawful);
+  lawful = subst (λ a. IsLawful a (standing_in after)) (sym same.asked)
+      (subst (IsLawful (asked_in before)) (sym same.standing) keeps.lawful);
   ended = λ e. ap (λ s. s.ended) same.standing ∙ keeps.ended e;
   reads = keeps.reads ∙ ap (λ s. s.reads ∷ []) (sym same.standing);
   opened = keeps.opened;

@@ -21,7 +21,7 @@ use Rattle.gph_session.specs.declared.opening.Opening.TheVariants as opening
 use Rattle.gph_session.specs.declared.open_query.OpenQuery.{OpenQuery}
 use Rattle.gph_session.specs.declared.session.Turn.{Turn}
 use Rattle.gph_session.specs.declared.session.Turn.TheVariants.{Goes}
-use Rattle.gph_session.specs.Cursors.{asked_of, IsFree}
+use Rattle.gph_session.specs.Cursors.{asked_in, IsFree}
 use Rattle.gph_session.specs.Changing.{OpensAs, BeginsQuery, reply_to_open}
 use Rattle.gph_session.specs.Meaning.{AsksOn, Keeps, MeansBy, IsSettled, AllKeep}
 use Rattle.gph_session.specs.Writing.{Writes}
@@ -98,9 +98,9 @@ module _ {W : ℕ} (p : Here W) (after : Option (List ℕ)) (result : Result Tur
       keeps = record {
         tag = begun.tag_is;
         within = omega (arith, p.means.position);
-        asks = subst (λ h. AsksOn asked p.config h (asked_of cursor)) (sym all)
+        asks = subst (λ h. AsksOn asked p.config h (asked_in cursor)) (sym all)
             (subst (λ (v : Contents). AsksRange v (take v.layout.bits stored) tau p.config.room
-            (asked_of cursor)) p.means.version_is begun.asks);
+            (asked_in cursor)) p.means.version_is begun.asks);
         few = begun.few;
         pinned = refl;
         given = begun.none_given;

@@ -6,9 +6,9 @@ use Rattle.std.proofs.lemmas.Bool.{eq-eqb, ltb-true}
 use Rattle.hamming_model.specs.History.{shard_rows}
 use Rattle.part_layout.specs.declared.config.Config.{Config}
 use Rattle.line_forms.specs.Words.{words, is_printable}
-use Rattle.line_forms.specs.Forms.{key_of, radius_of, count_of, shard_of, code_of, tag_of}
+use Rattle.line_forms.specs.Forms.{key_form, radius_of, count_of, shard_form, code_form, tag_of}
 use Rattle.query_protocol.specs.Requests.{LineReading, Plan, Layout, bad}
-use Rattle.query_protocol.specs.Requests.{add_of, range_of, next_of, cost_of, plan_of, layout_of}
+use Rattle.query_protocol.specs.Requests.{add_of, range_of, next_of, cost_of, plan_of, layout_reading}
 use Rattle.query_protocol.specs.Requests.{with_words, of_words, reading}
 use Rattle.query_protocol.specs.Requests.{request_word}
 use Rattle.query_protocol.specs.declared.bad.Bad.{Bad}
@@ -78,7 +78,7 @@ module _ (shards : ℕ) where
   names_plan (Some tag) None = tt
   names_plan (Some tag) (Some shard) = plan_if shards tag shard (nat_lt shard shards) refl
 
-  names_layout : (shard : Option ℕ) → NamesShard shards (layout_of shards shard)
+  names_layout : (shard : Option ℕ) → NamesShard shards (layout_reading shards shard)
   names_layout None = tt
   names_layout (Some shard) = layout_if shards shard (nat_lt shard shards) refl
 
@@ -89,13 +89,13 @@ module _ (config : Config) where
   names_after (Some AddWord) [] = tt
   names_after (Some AddWord) (key ∷ []) = tt
   names_after (Some AddWord) (key ∷ code ∷ []) =
-      names_add config.shards (key_of key) (code_of config.bits code)
+      names_add config.shards (key_form key) (code_form config.bits code)
   names_after (Some AddWord) (key ∷ code ∷ more ∷ rest) = tt
   names_after (Some RangeWord) [] = tt
   names_after (Some RangeWord) (tag ∷ []) = tt
   names_after (Some RangeWord) (tag ∷ tau ∷ []) = tt
   names_after (Some RangeWord) (tag ∷ tau ∷ code ∷ []) =
-      names_range config.shards (tag_of tag) (radius_of config.bits tau) (code_of config.bits code)
+      names_range config.shards (tag_of tag) (radius_of config.bits tau) (code_form config.bits code)
   names_after (Some RangeWord) (tag ∷ tau ∷ code ∷ more ∷ rest) = tt
   names_after (Some NextWord) [] = tt
   names_after (Some NextWord) (tag ∷ []) = tt
@@ -107,10 +107,10 @@ module _ (config : Config) where
   names_after (Some PlanWord) [] = tt
   names_after (Some PlanWord) (tag ∷ []) = tt
   names_after (Some PlanWord) (tag ∷ shard ∷ []) =
-      names_plan config.shards (tag_of tag) (shard_of shard)
+      names_plan config.shards (tag_of tag) (shard_form shard)
   names_after (Some PlanWord) (tag ∷ shard ∷ more ∷ rest) = tt
   names_after (Some LayoutWord) [] = tt
-  names_after (Some LayoutWord) (shard ∷ []) = names_layout config.shards (shard_of shard)
+  names_after (Some LayoutWord) (shard ∷ []) = names_layout config.shards (shard_form shard)
   names_after (Some LayoutWord) (shard ∷ more ∷ rest) = tt
   names_after (Some QuitWord) [] = tt
   names_after (Some QuitWord) (more ∷ rest) = tt

@@ -23,13 +23,13 @@ use Rattle.session_model.specs.Run.{IsRunAlone, first_session, has_quit}
 use Rattle.session_model.specs.Outcomes.{Ends, ends, Untouched, IsWithin, IsDoneOrNoMemory, IsUnread}
 use Rattle.session_model.specs.Outcomes.{IsInputLimit, ForConfig, IsComplete}
 use Rattle.gph_session.specs.declared.open_query.OpenQuery.{OpenQuery}
-use Rattle.gph_session.specs.Meaning.{AllKeep, IsReadyBy, contents_of, laid_of, layout_of}
+use Rattle.gph_session.specs.Meaning.{AllKeep, IsReadyBy, shard_after, starting_laid, starting_parts}
 use Rattle.gph_session.specs.Flow.{GoesOn, Raises}
 use Rattle.gph_session.specs.Serving.{EndsBy, EndsAs, ServedBy, ServedAs}
 
 -- a session before its first byte
 pub goes_new : (W : ℕ) (config : Config) (now : ℕ) (version : Contents) (cursors : List (OpenQuery W))
-    (begun : Option (List ℕ)) → config.shards ≡ 1 → version ≡ contents_of config [] → cursors ≡ []
+    (begun : Option (List ℕ)) → config.shards ≡ 1 → version ≡ shard_after config [] → cursors ≡ []
     → begun ≡ held_of [] → GoesOn W config now now [] [] version cursors begun
 goes_new W config now version cursors begun one first no_cursors nothing = record {
   exchanges = [];
@@ -45,14 +45,14 @@ goes_new W config now version cursors begun one first no_cursors nothing = recor
     settled = tt;
     position = refl;
     who = refl;
-    layouts = ap (λ n. replicate n (layout_of config)) one;
+    layouts = ap (λ n. replicate n (starting_parts config)) one;
     no_build = refl;
   };
   begun_is = nothing;
 }
 
 pub is_ready : (W : ℕ) (config : Config) (version : Contents) → IsAllowed W config.bits
-    → IsConfig config → IsPinned config → IsLaid (laid_of config) → version ≡ contents_of config []
+    → IsConfig config → IsPinned config → IsLaid (starting_laid config) → version ≡ shard_after config []
     → IsReadyBy W config version
 is_ready W config version allowed is pinned laid first = record {
   allowed = allowed;

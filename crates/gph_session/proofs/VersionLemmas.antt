@@ -13,20 +13,20 @@ use Rattle.hamming_model.specs.declared.hit.Hit.{Hit}
 use Rattle.hamming_model.proofs.RowLemmas.{rows_of_append}
 use Rattle.part_layout.specs.declared.config.Config.{Config}
 use Rattle.shard_version.specs.Contents.{Contents, after_entry}
-use Rattle.gph_session.specs.Meaning.{contents_of}
+use Rattle.gph_session.specs.Meaning.{shard_after}
 use Rattle.gph_session.proofs.ShardLemmas.{one_shard}
 
 -- ---- one more entry
 
 pub after_added : (config : Config) (history : List JournalEntry) (key : ℕ) (code : List ℕ)
-    → after_entry (contents_of config history)
-    (record { who = 0; operation = journal.Add key code }) ≡ contents_of config
+    → after_entry (shard_after config history)
+    (record { who = 0; operation = journal.Add key code }) ≡ shard_after config
     (history ++ record { who = 0; operation = journal.Add key code } ∷ [])
 after_added config history key code =
     let entry : JournalEntry = record { who = 0; operation = journal.Add key code } in
     let Version : ℕ → List (ℕ × List ℕ)
     → Contents = λ (at : ℕ) (rows : List (ℕ × List ℕ)). record
-    (contents_of config history) { at = at; rows = rows } in
+    (shard_after config history) { at = at; rows = rows } in
     let number : length history + 1 ≡ length (history ++ entry ∷ []) = sym
     (length-append history (entry ∷ [])) in
     ap (λ b. Version (length history + 1)

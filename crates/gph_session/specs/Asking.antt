@@ -6,7 +6,7 @@ use Rattle.query_protocol.specs.Requests.{bad}
 use Rattle.query_protocol.specs.Replies.{LineReply, reply_line}
 use Rattle.query_protocol.specs.Replies as reply
 use Rattle.gph_session.specs.declared.open_query.OpenQuery.{OpenQuery}
-use Rattle.gph_session.specs.Cursors.{asked_of, standing_of, IsFree, Changes, IsSame}
+use Rattle.gph_session.specs.Cursors.{asked_in, standing_in, IsFree, Changes, IsSame}
 
 -- an answer on the cursor of a tag, which leaves it as it was, or that there is none
 abbrev pub TellsOfCursor : {W : ℕ} → List (OpenQuery W) → List ℕ → (OpenQuery W → LineReply)
@@ -20,15 +20,15 @@ TellsOfCursor {W} old tag told this new =
 abbrev pub CostsAs : {W : ℕ} → List (OpenQuery W) → List ℕ → LineReply → List (OpenQuery W) → Type 0
 CostsAs old tag this new =
     TellsOfCursor old tag
-    (λ cursor. reply.Cost tag (standing_of cursor).reads ((asked_of cursor).bound None)) this new
+    (λ cursor. reply.Cost tag (standing_in cursor).reads ((asked_in cursor).bound None)) this new
 
 -- the cursor's threshold vector and its cost
 abbrev pub PlansAs : {W : ℕ} → List (OpenQuery W) → List ℕ → ℕ → LineReply → List (OpenQuery W)
     → Type 0
 PlansAs old tag shard this new =
     TellsOfCursor old tag
-    (λ cursor. reply.Plan tag shard ((asked_of cursor).plan None).1
-    (take PARTS_MOST ((asked_of cursor).plan None).0)) this new
+    (λ cursor. reply.Plan tag shard ((asked_in cursor).plan None).1
+    (take PARTS_MOST ((asked_in cursor).plan None).0)) this new
 
 -- a line that answers so
 abbrev pub WritesPlan : {W : ℕ} → List (OpenQuery W) → List ℕ → ℕ → List ℕ → List (OpenQuery W)

@@ -18,7 +18,7 @@ use Rattle.gph_session.specs.declared.adding.Adding.TheVariants as adding
 use Rattle.gph_session.specs.declared.opening.Opening.{Opening}
 use Rattle.gph_session.specs.declared.opening.Opening.TheVariants as opening
 use Rattle.gph_session.specs.declared.open_query.OpenQuery.{OpenQuery}
-use Rattle.gph_session.specs.Cursors.{asked_of, standing_of, IsFree, IsFirstAt}
+use Rattle.gph_session.specs.Cursors.{asked_in, standing_in, IsFree, IsFirstAt}
 
 -- this session's entry that adds a row
 abbrev pub added_entry : ℕ → ℕ → List ℕ → JournalEntry
@@ -34,13 +34,13 @@ abbrev pub HasFewRows : Contents → Type 0
 HasFewRows version = length version.rows ≤ version.at
 
 -- a version with one row more
-abbrev pub with_row : Contents → ℕ → List ℕ → Contents
-with_row version key stored = after_entry version (added_entry version.layout.bits key stored)
+abbrev pub with_key_added : Contents → ℕ → List ℕ → Contents
+with_key_added version key stored = after_entry version (added_entry version.layout.bits key stored)
 
 -- what becomes of an add where at most so many entries may stand, and the version that it leaves
 abbrev pub AddsAs : Contents → ℕ → ℕ → List ℕ → Adding → Contents → Type 0
 AddsAs old limit key stored (adding.Added at) new =
-    (code_at old.rows key ≡ None) × (old.at < limit) × (new ≡ with_row old key stored)
+    (code_at old.rows key ≡ None) × (old.at < limit) × (new ≡ with_key_added old key stored)
     × (at ≡ new.at)
 AddsAs old limit key stored (adding.Taken at) new =
     (is_some (code_at old.rows key) ≡ true) × (new ≡ old) × (at ≡ old.at)
@@ -62,10 +62,10 @@ pub record BeginsQuery {W : ℕ} (version : Contents) (room : ℕ) (tag : List �
   pub tag_is : cursor.tag ≡ tag
   pub none_given : cursor.given ≡ 0
   pub undone : cursor.done ≡ false
-  pub asks : AsksRange version (take version.layout.bits stored) tau room (asked_of cursor)
-  pub begins : BeginsRange version (asked_of cursor) (standing_of cursor)
-  pub lawful : IsLawful (asked_of cursor) (standing_of cursor)
-  pub few : length (asked_of cursor).hits ≤ ENTRIES_MOST
+  pub asks : AsksRange version (take version.layout.bits stored) tau room (asked_in cursor)
+  pub begins : BeginsRange version (asked_in cursor) (standing_in cursor)
+  pub lawful : IsLawful (asked_in cursor) (standing_in cursor)
+  pub few : length (asked_in cursor).hits ≤ ENTRIES_MOST
 
 -- what becomes of an opening, and the cursors that it leaves
 abbrev pub OpensAs : {W : ℕ} → Contents → ℕ → List (OpenQuery W) → List ℕ → ℕ → List ℕ → Opening

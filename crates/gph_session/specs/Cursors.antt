@@ -10,12 +10,12 @@ use Rattle.shard_query.specs.contracts.range_task.RangeTaskHitSource.TheImpl.{gh
 use Rattle.gph_session.specs.declared.open_query.OpenQuery.{OpenQuery}
 
 -- what a cursor's source is asked
-abbrev pub asked_of : {W : ℕ} → OpenQuery W → Asked
-asked_of {W} cursor = (ghosts (number W)).asked cursor.task
+abbrev pub asked_in : {W : ℕ} → OpenQuery W → Asked
+asked_in {W} cursor = (ghosts (number W)).asked cursor.task
 
 -- where a cursor's source stands
-abbrev pub standing_of : {W : ℕ} → OpenQuery W → Standing
-standing_of {W} cursor = (ghosts (number W)).standing cursor.task
+abbrev pub standing_in : {W : ℕ} → OpenQuery W → Standing
+standing_in {W} cursor = (ghosts (number W)).standing cursor.task
 
 -- no cursor has the tag
 abbrev pub IsFree : {W : ℕ} → List (OpenQuery W) → List ℕ → Type 0
@@ -43,5 +43,5 @@ pub record IsSame {W : ℕ} (before after : OpenQuery W) : Type 0 where
   pub tag : after.tag ≡ before.tag
   pub given : after.given ≡ before.given
   pub done : after.done ≡ before.done
-  pub asked : asked_of after ≡ asked_of before
-  pub standing : standing_of after ≡ standing_of before
+  pub asked : asked_in after ≡ asked_in before
+  pub standing : standing_in after ≡ standing_in before

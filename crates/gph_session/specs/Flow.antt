@@ -18,7 +18,7 @@ use Rattle.session_model.specs.Step.{Step}
 use Rattle.session_model.specs.Ledger.{Rise, column, readings_of}
 use Rattle.session_model.specs.Run.{Run, IsAlone, IsRunAlone, AnswersLines, IsRefused}
 use Rattle.session_model.specs.Run.{first_session}
-use Rattle.session_model.specs.Run.{commit_of, commits, written, lines_of}
+use Rattle.session_model.specs.Run.{commit_of, commits, written_text, lines_of}
 use Rattle.session_model.specs.Run.{asks_quit, before_quit, has_quit}
 use Rattle.gph_session.specs.declared.open_query.OpenQuery.{OpenQuery}
 use Rattle.gph_session.specs.declared.session.Session.{Session}
@@ -71,7 +71,7 @@ pub record GoesOn (W : ℕ) (config : Config) (from to : ℕ) (bytes output : Li
   pub run : (later : List JournalEntry) → Run (IsAlone config) config
       (commits 0 config exchanges ++ later) (first_session config) exchanges state
   pub lines_are : lines_of exchanges ≡ ended_lines [] bytes
-  pub output_is : output ≡ written exchanges
+  pub output_is : output ≡ written_text exchanges
   pub ledger : to ≡ from + column 0 (readings_of state.queries)
   pub means : MeansBy W config version cursors (commits 0 config exchanges) state
   pub begun_is : begun ≡ held_of (unended [] bytes)

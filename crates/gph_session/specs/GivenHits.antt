@@ -11,7 +11,7 @@ use Rattle.query_protocol.specs.Replies as reply
 use Rattle.gph_session.specs.declared.open_query.OpenQuery.{OpenQuery}
 use Rattle.gph_session.specs.declared.session.Turn.{Turn}
 use Rattle.session_model.specs.QuerySteps.{next_replies, hit_replies}
-use Rattle.gph_session.specs.Cursors.{asked_of, standing_of, IsFree, Changes}
+use Rattle.gph_session.specs.Cursors.{asked_in, standing_in, IsFree, Changes}
 use Rattle.gph_session.specs.Writing.{Writes}
 
 -- a source reads on, a step of the ledger a posting, and reads no more once it has ended
@@ -44,26 +44,26 @@ pub record GivesHits (a : Asked) (tag : List ℕ) (count : ℕ) (old new : Stand
 -- the number given of a cursor is that of its source, which has room, and no answer has more hits
 -- than a shard may have rows
 pub record IsCounted {W : ℕ} (cursor : OpenQuery W) : Type 0 where
-  pub room : 1 ≤ (asked_of cursor).room
-  pub given : cursor.given ≡ (standing_of cursor).given
-  pub few : length (asked_of cursor).hits ≤ ENTRIES_MOST
+  pub room : 1 ≤ (asked_in cursor).room
+  pub given : cursor.given ≡ (standing_in cursor).given
+  pub few : length (asked_in cursor).hits ≤ ENTRIES_MOST
 
 -- a cursor after so many more hits were asked
 pub record IsGiven {W : ℕ} (count : ℕ) (before after : OpenQuery W) : Type 0 where
-  pub given : after.given ≡ min (before.given + count) (length (asked_of before).hits)
-  pub counted : after.given ≡ (standing_of after).given
+  pub given : after.given ≡ min (before.given + count) (length (asked_in before).hits)
+  pub counted : after.given ≡ (standing_in after).given
   pub done : after.done ≡
-      (if nat_lt (before.given + count) (length (asked_of before).hits) then before.done else true)
-  pub ended : after.done ≡ true → before.done ≡ true ⊎ ((standing_of after).ended ≡ true)
+      (if nat_lt (before.given + count) (length (asked_in before).hits) then before.done else true)
+  pub ended : after.done ≡ true → before.done ≡ true ⊎ ((standing_in after).ended ≡ true)
 
 -- the next hits of a cursor are given and written, with its end or that there are more
 pub record GivesQuery {W : ℕ} (tag : List ℕ) (count : ℕ) (before after : OpenQuery W)
     (sink sink' : Option (List ℕ)) (from to : ℕ) (result : Result Turn Failed) : Type 0 where
   pub tag_same : after.tag ≡ before.tag
-  pub asked : asked_of after ≡ asked_of before
-  pub reads : PollsOn (asked_of before) (standing_of before) (standing_of after) from to
+  pub asked : asked_in after ≡ asked_in before
+  pub reads : PollsOn (asked_in before) (standing_in before) (standing_in after) from to
   pub wrote : IsCounted before → Writes sink sink' result
-      (text (next_replies tag count before.given (asked_of before).hits))
+      (text (next_replies tag count before.given (asked_in before).hits))
   pub given : IsCounted before → OnOk result (IsGiven count before after)
 
 -- what a request for hits gives: those of the tag's cursor, or that there is none

@@ -19,24 +19,24 @@ use Rattle.session_model.specs.State.{Query, State, open_queries}
 use Rattle.session_model.specs.Ledger.{IsBounded}
 use Rattle.gph_session.specs.declared.open_query.OpenQuery.{OpenQuery}
 use Rattle.gph_session.specs.declared.session.Session.{Session}
-use Rattle.gph_session.specs.Cursors.{asked_of, standing_of}
+use Rattle.gph_session.specs.Cursors.{asked_in, standing_in}
 use Rattle.gph_session.specs.Changing.{HasFewRows}
 
 -- the layout of a session's one shard
-abbrev pub layout_of : Config → List (List ℕ)
-layout_of config = contiguous config.bits config.parts
+abbrev pub starting_parts : Config → List (List ℕ)
+starting_parts config = contiguous config.bits config.parts
 
 -- the same with its number of bits
-abbrev pub laid_of : Config → Laid
-laid_of config = record { bits = config.bits; parts = layout_of config }
+abbrev pub starting_laid : Config → Laid
+starting_laid config = record { bits = config.bits; parts = starting_parts config }
 
 -- the one shard of a session after a history
-abbrev pub contents_of : Config → List JournalEntry → Contents
-contents_of config history = record {
+abbrev pub shard_after : Config → List JournalEntry → Contents
+shard_after config history = record {
   shard = 0;
   shards = 1;
   at = length history;
-  layout = laid_of config;
+  layout = starting_laid config;
   rows = rows_of history;
 }
 
@@ -47,7 +47,7 @@ contents_in session = (arc_value session.version).contents
 -- what a source is asked is this question on the rows of a history
 abbrev pub AsksOn : Ask → Config → List JournalEntry → Asked → Type 0
 AsksOn (ask.Range tau code) config history asked =
-    AsksRange (contents_of config history) code tau config.room asked
+    AsksRange (shard_after config history) code tau config.room asked
 AsksOn (ask.Near number code) config history asked = ⊥
 
 -- a cursor is this open query of the state, in a history
@@ -55,15 +55,15 @@ pub record Keeps {W : ℕ} (config : Config) (history : List JournalEntry) (curs
     (query : Query) : Type 0 where
   pub tag : cursor.tag ≡ query.tag
   pub within : query.position ≤ length history
-  pub asks : AsksOn query.ask config (take query.position history) (asked_of cursor)
-  pub few : length (asked_of cursor).hits ≤ ENTRIES_MOST
-  pub pinned : query.pinned ≡ layout_of config ∷ []
+  pub asks : AsksOn query.ask config (take query.position history) (asked_in cursor)
+  pub few : length (asked_in cursor).hits ≤ ENTRIES_MOST
+  pub pinned : query.pinned ≡ starting_parts config ∷ []
   pub given : cursor.given ≡ query.given
-  pub counted : cursor.given ≡ (standing_of cursor).given
+  pub counted : cursor.given ≡ (standing_in cursor).given
   pub done : cursor.done ≡ query.done
-  pub lawful : IsLawful (asked_of cursor) (standing_of cursor)
-  pub ended : query.done ≡ true → (standing_of cursor).ended ≡ true
-  pub reads : query.reads ≡ (standing_of cursor).reads ∷ []
+  pub lawful : IsLawful (asked_in cursor) (standing_in cursor)
+  pub ended : query.done ≡ true → (standing_in cursor).ended ≡ true
+  pub reads : query.reads ≡ (standing_in cursor).reads ∷ []
   pub opened : query.closed ≡ false
 
 -- the cursors are these queries, in their order
@@ -82,13 +82,13 @@ pub record IsSettled (config : Config) (history : List JournalEntry) (query : Qu
 -- the version and the cursors mean a state of a session that is alone, in the history so far
 pub record MeansBy (W : ℕ) (config : Config) (version : Contents) (cursors : List (OpenQuery W))
     (history : List JournalEntry) (s : State) : Type 0 where
-  pub version_is : version ≡ contents_of config history
+  pub version_is : version ≡ shard_after config history
   pub codes : AreCodes config.bits history
   pub keep : AllKeep config history cursors (open_queries s.queries)
   pub settled : AllByRecursion (IsSettled config history) s.queries
   pub position : s.position ≡ length history
   pub who : s.who ≡ 0
-  pub layouts : s.layouts ≡ layout_of config ∷ []
+  pub layouts : s.layouts ≡ starting_parts config ∷ []
   pub no_build : s.build ≡ None
 
 -- a session means a state in a history
@@ -105,8 +105,8 @@ pub record IsReadyBy (W : ℕ) (config : Config) (version : Contents) : Type 0 w
   pub alone : config.shards ≡ 1
   pub one_shard : version.shards ≡ 1
   pub few_rows : HasFewRows version
-  pub laid : version.layout ≡ laid_of config
-  pub layout : IsLayout config.bits (layout_of config)
+  pub laid : version.layout ≡ starting_laid config
+  pub layout : IsLayout config.bits (starting_parts config)
 
 -- a session is so
 abbrev pub IsReady : {W : ℕ} → Session W → Type 0

@@ -5,7 +5,7 @@ ghost use Rattle.std.specs.Arc.{arc_value};
 ghost use Rattle.hamming_model.specs.History.{code_at};
 ghost use Rattle.hamming_model.specs.declared.limits.TheConstants.{ENTRIES_MOST};
 ghost use Rattle.query_protocol.specs.Replies.{line_of};
-ghost use Rattle.gph_session.specs.Changing.{AddsAs, HasFewRows, IsCodeFor, with_row, reply_to_add};
+ghost use Rattle.gph_session.specs.Changing.{AddsAs, HasFewRows, IsCodeFor, with_key_added, reply_to_add};
 
 use entry_log::{Decision, Entry, Op, decide};
 use gph_codes::Code;
@@ -85,7 +85,7 @@ fn added_to<const W: usize>(
     requires code { IsCodeFor W version.now.contents code }
     requires absent { code_at version.now.contents.rows key ≡ None }
     ensures { IfOk result (λ next. (arc_value next).contents
-        ≡ with_row version.now.contents key code.entry) }
+        ≡ with_key_added version.now.contents key code.entry) }
 {
     let entry = Entry {
         who: 0,

@@ -7,7 +7,7 @@ ghost use Rattle.line_io.specs.Cut.{held_of, TellsOf};
 ghost use Rattle.gph_codes.specs.Allowed.{IsAllowed};
 ghost use Rattle.part_layout.specs.Ranges.{IsConfig};
 ghost use Rattle.part_layout.specs.Laid.{IsLaid};
-ghost use Rattle.gph_session.specs.Meaning.{IsReady, contents_in, contents_of, laid_of};
+ghost use Rattle.gph_session.specs.Meaning.{IsReady, contents_in, shard_after, starting_laid};
 ghost use Rattle.gph_session.specs.Writing.{IsCaused};
 ghost use Rattle.gph_session.specs.Flow.{AnswersAs};
 
@@ -53,8 +53,8 @@ pub(crate) fn new_session<const W: usize>(
     requires room { config.now.bits ≤ 64 * W }
     requires config { IsConfig config.now }
     ensures config { IfOk result (λ session. session.config ≡ config.now) }
-    ensures version { IfOk result (λ session. contents_in session ≡ contents_of config.now []) }
-    ensures laid { IfOk result (λ _. IsLaid (laid_of config.now)) }
+    ensures version { IfOk result (λ session. contents_in session ≡ shard_after config.now []) }
+    ensures laid { IfOk result (λ _. IsLaid (starting_laid config.now)) }
     ensures queries { IfOk result (λ session. session.queries.items ≡ []) }
     ensures cutter { IfOk result (λ session. session.cutter.held ≡ held_of []) }
 {
@@ -89,8 +89,8 @@ fn first_version<const W: usize>(
     requires room { config.now.bits ≤ 64 * W }
     requires config { IsConfig config.now }
     ensures first { IfOk result
-        (λ version. (arc_value version).contents ≡ contents_of config.now []) }
-    ensures laid { IfOk result (λ _. IsLaid (laid_of config.now)) }
+        (λ version. (arc_value version).contents ≡ shard_after config.now []) }
+    ensures laid { IfOk result (λ _. IsLaid (starting_laid config.now)) }
 {
     let Ok(layout) = starting_layout(alloc, config) else {
         return Err(NoMemory);
@@ -110,8 +110,8 @@ fn first_version<const W: usize>(
 // The contiguous layout. What a session may be asked can be cut so, and only memory may be wanting.
 fn starting_layout(alloc: Global, config: &Config) -> Result<Layout, NoMemory>
     requires { IsConfig config.now }
-    ensures value { IfOk result (λ layout. layout ≡ laid_of config.now) }
-    ensures laid { IfOk result (λ _. IsLaid (laid_of config.now)) }
+    ensures value { IfOk result (λ layout. layout ≡ starting_laid config.now) }
+    ensures laid { IfOk result (λ _. IsLaid (starting_laid config.now)) }
 {
     match Layout::contiguous(alloc, config.bits, config.parts) {
         Ok(layout) => {

@@ -7,10 +7,10 @@ use Rattle.hit_source.specs.declared.polled.Polled.{Polled}
 use Rattle.hit_source.specs.declared.polled.Polled.TheVariants.{Moved, Full, Ended}
 use Rattle.hit_source.specs.Sources.{Asked, Standing, IsLawful}
 use Rattle.hit_source.specs.Moves.{Polls, Pops, first_of}
-use Rattle.hit_source.specs.Drains.{Takes, Drains, OnlyGives}
+use Rattle.hit_source.specs.Drains.{TakesHits, Drains, OnlyGives}
 
 -- no hit is taken at first
-pub takes_none : (a : Asked) (s : Standing) (hits : List Hit) → Takes a s s hits hits
+pub takes_none : (a : Asked) (s : Standing) (hits : List Hit) → TakesHits a s s hits hits
 takes_none a s hits =
     let none : s.given - s.given ≡ 0 = omega arith in
     record {
@@ -19,8 +19,8 @@ takes_none a s hits =
     }
 
 -- hits taken after others are all of them
-pub takes_again : (a : Asked) (old mid new : Standing) (before at after : List Hit) → Takes a old mid before at
-    → Takes a mid new at after → Takes a old new before after
+pub takes_again : (a : Asked) (old mid new : Standing) (before at after : List Hit) → TakesHits a old mid before at
+    → TakesHits a mid new at after → TakesHits a old new before after
 takes_again a old mid new before at after first then =
     let both : new.given - old.given ≡ (mid.given - old.given) + (new.given - mid.given) =
     omega (arith, first.rises, then.rises) in
@@ -42,8 +42,8 @@ takes_again a old mid new before at after first then =
     }
 
 -- a call that gives no hit takes none
-pub takes_same : (a : Asked) (old mid new : Standing) (before after : List Hit) → Takes a old mid before after
-    → new.given ≡ mid.given → Takes a old new before after
+pub takes_same : (a : Asked) (old mid new : Standing) (before after : List Hit) → TakesHits a old mid before after
+    → new.given ≡ mid.given → TakesHits a old new before after
 takes_same a old mid new before after first same = record {
   rises = omega (arith, first.rises, same);
   next = subst (λ n. after ≡ before ++ take (n - old.given) (drop old.given a.hits)) (sym same) first.next;
@@ -62,7 +62,7 @@ one_waits (head ∷ rest) (other ∷ hits) hit window first =
 -- the first hit that waits is the next
 pub takes_first : (a : Asked) (old new : Standing) (result : Option Hit) (hit : Hit) (before : List Hit)
     → IsLawful a old → Some hit ≡ first_of old.waiting → Pops old new result
-    → Takes a old new before (before ++ hit ∷ [])
+    → TakesHits a old new before (before ++ hit ∷ [])
 takes_first a old new result hit before law first pops =
     let waits = one_waits old.waiting (drop old.given a.hits) hit law.window first in
     let one : new.given - old.given ≡ 1 = omega (arith, pops.given, waits.0) in
@@ -72,7 +72,7 @@ takes_first a old new result hit before law first pops =
     }
 
 -- a source that has ended and of which no hit waits was drained
-pub drained : (a : Asked) (old new : Standing) (before after : List Hit) → Takes a old new before after
+pub drained : (a : Asked) (old new : Standing) (before after : List Hit) → TakesHits a old new before after
     → IsLawful a new → new.waiting ≡ [] → new.ended ≡ true → Drains a old new before after
 drained a old new before after takes law none ended =
     let empty : length new.waiting ≡ 0 = ap length none in
@@ -88,20 +88,20 @@ drained a old new before after takes law none ended =
 
 -- a hit that waited was taken and put behind those before it
 pub takes_more : (a b : Asked) (old mid new : Standing) (result : Option Hit) (hit : Hit) (before at after : List Hit)
-    → b ≡ a → Takes a old mid before at → IsLawful b mid → Some hit ≡ first_of mid.waiting → Pops mid new result
-    → after ≡ at ++ hit ∷ [] → Takes a old new before after
+    → b ≡ a → TakesHits a old mid before at → IsLawful b mid → Some hit ≡ first_of mid.waiting → Pops mid new result
+    → after ≡ at ++ hit ∷ [] → TakesHits a old new before after
 takes_more a b old mid new result hit before at after same takes law first pops pushed =
     takes_again a old mid new before at after takes (
-    subst (λ hits. Takes a mid new at hits) (sym pushed)
+    subst (λ hits. TakesHits a mid new at hits) (sym pushed)
     (takes_first a mid new result hit at (subst (λ x. IsLawful x mid) same law) first pops)
     )
 
 -- hits taken after a call that gave none
 pub takes_further : (a b : Asked) (old mid waited new : Standing) (before at after : List Hit) → b ≡ a
-    → Takes a old mid before at → waited.given ≡ mid.given → Takes b waited new at after → Takes a old new before after
+    → TakesHits a old mid before at → waited.given ≡ mid.given → TakesHits b waited new at after → TakesHits a old new before after
 takes_further a b old mid waited new before at after same takes none more =
     takes_again a old waited new before at after (takes_same a old mid waited before at takes none)
-    (subst (λ x. Takes x waited new at after) same more)
+    (subst (λ x. TakesHits x waited new at after) same more)
 
 one_less : (hits : List Hit) → length (take 1 hits) + length (drop 1 hits) ≡ length hits
 one_less [] = refl
@@ -154,7 +154,7 @@ nearer_end budget a b c old waited new from to Full goes some same again none po
 
 -- hits taken after a poll that ended the source are all that were left
 pub drained_then : (a b : Asked) (old waited new : Standing) (before after : List Hit) → b ≡ a
-    → Takes a old new before after → OnlyGives waited new → IsLawful b new → new.waiting ≡ [] → waited.ended ≡ true
+    → TakesHits a old new before after → OnlyGives waited new → IsLawful b new → new.waiting ≡ [] → waited.ended ≡ true
     → Drains a old new before after
 drained_then a b old waited new before after same takes gives law none ended =
     drained a old new before after takes (subst (λ x. IsLawful x new) same law) none (gives.ended ∙ ended)

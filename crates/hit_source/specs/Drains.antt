@@ -4,7 +4,7 @@ use Rattle.hamming_model.specs.declared.hit.Hit.{Hit}
 use Rattle.hit_source.specs.Sources.{Asked, Standing, reached}
 
 -- the next hits were taken from a source, and put behind others
-pub record Takes (a : Asked) (old new : Standing) (before after : List Hit) : Type 0 where
+pub record TakesHits (a : Asked) (old new : Standing) (before after : List Hit) : Type 0 where
   pub rises : old.given ≤ new.given
   pub next : after ≡ before ++ take (new.given - old.given) (drop old.given a.hits)
 

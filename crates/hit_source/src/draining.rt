@@ -2,7 +2,7 @@
 
 ghost use Rattle.std.specs.Prelude.{◌≡◌, ◌+◌, ◌≤◌, [], OnOk};
 ghost use Rattle.hit_source.specs.Sources.{IsLawful};
-ghost use Rattle.hit_source.specs.Drains.{Takes, Drains, OnlyGives};
+ghost use Rattle.hit_source.specs.Drains.{TakesHits, Drains, OnlyGives};
 
 use crate::{HitSource, Polled};
 use hamming_model::Hit;
@@ -25,7 +25,7 @@ pub fn drain<H: HitSource, L>(
     ensures ends { OnOk result (Drains (H.asked source.old)
         (H.standing source.old) (H.standing source.new) out.old.items out.new.items) }
     // In any case what was taken are the next hits, and what was read stands on the ledger.
-    ensures takes { Takes (H.asked source.old)
+    ensures takes { TakesHits (H.asked source.old)
         (H.standing source.old) (H.standing source.new) out.old.items out.new.items }
     ensures ledger { steps.new + (H.standing source.old).reads
         ≡ steps.old + (H.standing source.new).reads }
@@ -49,7 +49,7 @@ pub fn drain<H: HitSource, L>(
 /// `NoMemory` where there is no memory for one hit more in `out`: that hit still waits.
 pub fn take_waiting<H: HitSource>(source: &mut H, out: &mut Vec<Hit>) -> Result<(), NoMemory>
     ensures empties { OnOk result ((H.standing source.new).waiting ≡ []) }
-    ensures takes { Takes (H.asked source.old)
+    ensures takes { TakesHits (H.asked source.old)
         (H.standing source.old) (H.standing source.new) out.old.items out.new.items }
     ensures gives { OnlyGives (H.standing source.old) (H.standing source.new) }
     ensures asked { H.asked source.new ≡ H.asked source.old }

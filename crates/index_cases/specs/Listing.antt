@@ -3,7 +3,7 @@ use Rattle.std.specs.Prelude.{◌≡◌, ℕ, ◌≤◌, ◌<◌, nat_lt, List, 
 use Rattle.count_table.specs.Copies.{CopyTable, table_of}
 
 -- the table is that of the items, whose width is a width of values
-pub record IsListed (width : ℕ) (table : CopyTable) (items : List ℕ) : Type 0 where
+pub record IsTableOf (width : ℕ) (table : CopyTable) (items : List ℕ) : Type 0 where
   pub some_width : 0 < width
   pub small_width : width ≤ 12
   pub wide : table.width ≡ width

@@ -29,13 +29,13 @@ struct Listed {
 
 impl Model for Listed {
     ghost use Rattle.std.specs.Prelude.{ℕ, List};
-    ghost use Rattle.index_cases.specs.Listing.{IsListed};
+    ghost use Rattle.index_cases.specs.Listing.{IsTableOf};
 
     ghost Value = { List ℕ };
 
     ghost view = { λ listed. listed.items.items };
 
-    ghost invariant = { λ listed. IsListed listed.width listed.counts listed.items.items };
+    ghost invariant = { λ listed. IsTableOf listed.width listed.counts listed.items.items };
 }
 
 impl Listed {

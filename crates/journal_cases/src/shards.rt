@@ -4,7 +4,7 @@ ghost use Rattle.hamming_model.specs.Recoded.{AreStoredEntries};
 ghost use Rattle.hamming_model.specs.declared.limits.TheConstants.{WORDS_MOST};
 ghost use Rattle.versioned_shard.specs.Along.{version_at};
 ghost use Rattle.versioned_shard.specs.Rule.{KeepsJournalRule, KeepsRule};
-ghost use Rattle.versioned_shard.specs.Shards.{contents_at, shard_of};
+ghost use Rattle.versioned_shard.specs.Shards.{contents_at, shard_with};
 
 use commit_journal::{Journal, live_fronts_come_and_go};
 use entry_log::{Decision, Op};
@@ -26,7 +26,7 @@ struct Reads;
 // The version of the odd keys of 8 bits in two parts, before any entry.
 fn no_rows<R: Abort>(rt: &R, alloc: Global) -> Version<1>
     ensures rule { (live : ℕ → Option ℕ) (history : List JournalEntry) →
-        KeepsRule live history (shard_of result.contents []) }
+        KeepsRule live history (shard_with result.contents []) }
     ensures bits { result.contents.layout.bits ≡ 8 }
 {
     shards_keep_the_rule();

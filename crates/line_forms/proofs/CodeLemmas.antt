@@ -7,7 +7,7 @@ use Rattle.std.specs.Char.{digit_value}
 use Rattle.std.specs.List.{list_all}
 use Rattle.gph_codes.specs.Digits.{IsSpelled, IsHexDigit}
 use Rattle.hamming_model.specs.Codes.{hex_code, StandsFor}
-use Rattle.line_forms.specs.Forms.{code_of}
+use Rattle.line_forms.specs.Forms.{code_form}
 
 -- the test of the form
 abbrev spells : ℕ → List ℕ → Bool
@@ -39,13 +39,13 @@ stands_for_own words bits kept code stands = subst (StandsFor words bits kept) (
 
 -- a word that spells a code, with the code as words keep it
 pub kept_code : (words bits : ℕ) (word kept : List ℕ) → IsSpelled bits word → StandsFor words bits kept (hex_code word)
-    → Some (take bits kept) ≡ code_of bits word
+    → Some (take bits kept) ≡ code_form bits word
 kept_code words bits word kept spelled stands =
     let passed : spells bits word ≡ true = (spells_tells bits word).1 spelled in
     rw passed (ap (λ code. Some code) (first_bits words bits kept (hex_code word) stands))
 
 -- a word that spells none
-pub no_code : (bits : ℕ) (word : List ℕ) → (IsSpelled bits word → ⊥) → None ≡ code_of bits word
+pub no_code : (bits : ℕ) (word : List ℕ) → (IsSpelled bits word → ⊥) → None ≡ code_form bits word
 no_code bits word never =
     let failed : spells bits word ≡ false = is_false (spells bits word) (λ passed. never ((spells_tells bits word).0 passed)) in
     rw failed

@@ -18,8 +18,8 @@ number_of digits least greatest word =
     if is_decimal digits word && nat_le least value && nat_le value greatest then Some value else None
 
 -- a key
-abbrev pub key_of : List ℕ → Option ℕ
-key_of word = number_of 20 0 (2 ^ 64 - 1) word
+abbrev pub key_form : List ℕ → Option ℕ
+key_form word = number_of 20 0 (2 ^ 64 - 1) word
 
 -- a radius of codes of so many bits
 abbrev pub radius_of : ℕ → List ℕ → Option ℕ
@@ -30,12 +30,12 @@ abbrev pub count_of : List ℕ → Option ℕ
 count_of word = number_of 5 1 65536 word
 
 -- a shard's number
-abbrev pub shard_of : List ℕ → Option ℕ
-shard_of word = number_of 2 0 99 word
+abbrev pub shard_form : List ℕ → Option ℕ
+shard_form word = number_of 2 0 99 word
 
 -- a code of so many bits
-abbrev pub code_of : ℕ → List ℕ → Option (List ℕ)
-code_of bits word =
+abbrev pub code_form : ℕ → List ℕ → Option (List ℕ)
+code_form bits word =
     if (length word == bits / 4) && list_all (λ byte. nat_lt (digit_value byte) 16) word then Some (hex_code word) else None
 
 -- a letter or a digit of ASCII

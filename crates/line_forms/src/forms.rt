@@ -4,7 +4,7 @@ ghost use Rattle.std.specs.Prelude.{◌≡◌, ℕ, ◌≤◌, length, take, opt
 ghost use Rattle.std.specs.List.{list_all};
 ghost use Rattle.hamming_model.specs.Codes.{StandsFor};
 ghost use Rattle.gph_codes.specs.Allowed.{IsAllowed};
-ghost use Rattle.line_forms.specs.Forms.{key_of, radius_of, count_of, code_of, shard_of, is_letter_or_digit, is_tag};
+ghost use Rattle.line_forms.specs.Forms.{key_form, radius_of, count_of, code_form, shard_form, is_letter_or_digit, is_tag};
 ghost use Rattle.line_forms.specs.declared.tag.TheConstants.{TAG_MOST};
 
 use crate::decimals::number_of;
@@ -13,7 +13,7 @@ use gph_codes::Code;
 
 /// A key.
 pub fn key_of(word: &[u8]) -> Option<u64>
-    ensures { result ≡ key_of word.now }
+    ensures { result ≡ key_form word.now }
 {
     number_of(20, 0, u64::MAX, word)
 }
@@ -41,7 +41,7 @@ pub fn count_of(word: &[u8]) -> Option<u32>
 
 /// A shard's number.
 pub fn shard_of(word: &[u8]) -> Option<u32>
-    ensures { result ≡ shard_of word.now }
+    ensures { result ≡ shard_form word.now }
 {
     match number_of(2, 0, 99, word) {
         None => None,
@@ -73,7 +73,7 @@ fn are_letters_or_digits(word: &[u8]) -> bool
 pub fn code_of<const W: usize>(bits: u32, word: &[u8]) -> Option<Code<W>>
     requires few_words { W ≤ 8 }
     requires allowed { IsAllowed W bits }
-    ensures value { option_map (take bits) result ≡ code_of bits word.now }
+    ensures value { option_map (take bits) result ≡ code_form bits word.now }
     ensures fit { IfSome result (λ code. StandsFor W bits code (take bits code)) }
 {
     match Code::from_hex(bits, word) {

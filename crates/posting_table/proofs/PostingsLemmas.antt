@@ -12,9 +12,9 @@ use Rattle.std.proofs.lemmas.List.Folds.{list_any-append}
 use Rattle.std.proofs.lemmas.List.FromFn.{fill_by_all, get_or-map-range_with_len, length-map-range_with_len}
 use Rattle.std.proofs.lemmas.List.Sorted.{IsPermutation-swap_remove, length_permutation}
 use Rattle.std.proofs.Math.Seq.{map-set_same}
-use Rattle.posting_table.specs.Kept.{IsKept, buckets_of, list_in, lists_of, table_of, with_list_in}
+use Rattle.posting_table.specs.Kept.{AreBuckets, buckets_of, list_in, all_lists, kept_table, with_list_in}
 use Rattle.posting_table.specs.Shared.{LosesAt}
-use Rattle.posting_table.specs.Tables.{Loses, Table, empty_table, has_key, key_at, posting_list, with_entry, with_list}
+use Rattle.posting_table.specs.Tables.{Loses, Table, no_postings, has_key, key_at, posting_list, with_posting, with_list}
 
 -- ---- a key among entries
 
@@ -60,7 +60,7 @@ loses_one key old new lost =
 
 -- ---- lists in buckets
 
-module _ (width value : ℕ) (buckets : List (List (List (ℕ × List ℕ)))) (kept : IsKept width buckets) (below : value < 2 ^ width) where
+module _ (width value : ℕ) (buckets : List (List (List (ℕ × List ℕ)))) (kept : AreBuckets width buckets) (below : value < 2 ^ width) where
   -- the bucket of a value is there
   pub bucket_there : value % 256 < length buckets
   bucket_there = let number = kept.number in omega arith
@@ -73,7 +73,7 @@ module _ (width value : ℕ) (buckets : List (List (List (ℕ × List ℕ)))) (k
       omega arith
 
   -- the list of a value is that of the table
-  pub list_of_value : get_or (lists_of buckets (2 ^ width)) value [] ≡ list_in buckets value
+  pub list_of_value : get_or (all_lists buckets (2 ^ width)) value [] ≡ list_in buckets value
   list_of_value = get_or-map-range_with_len (list_in buckets) 0 (2 ^ width) value value [] below (omega arith)
 
   module _ (list : List (ℕ × List ℕ)) where
@@ -98,26 +98,26 @@ module _ (width value : ℕ) (buckets : List (List (List (ℕ × List ℕ)))) (k
           ∙ ap (λ (place : ℕ). get_or (get_or buckets place []) (other / 256) []) (sym here)
     ]
 
-    each_changed : (other : ℕ) → other < 2 ^ width → get_or (set (lists_of buckets (2 ^ width)) value list) other [] ≡ list_in (with_list_in buckets value list) other
+    each_changed : (other : ℕ) → other < 2 ^ width → get_or (set (all_lists buckets (2 ^ width)) value list) other [] ≡ list_in (with_list_in buckets value list) other
     each_changed other low = elim (cases_eq other value) [
       | inl same ↦
-          let inside : value < length (lists_of buckets (2 ^ width)) = omega (arith, below, length-map-range_with_len (list_in buckets) 0 (2 ^ width)) in
-          ap (λ (place : ℕ). get_or (set (lists_of buckets (2 ^ width)) value list) place []) same
-          ∙ get_or-set_same (lists_of buckets (2 ^ width)) value list [] inside
+          let inside : value < length (all_lists buckets (2 ^ width)) = omega (arith, below, length-map-range_with_len (list_in buckets) 0 (2 ^ width)) in
+          ap (λ (place : ℕ). get_or (set (all_lists buckets (2 ^ width)) value list) place []) same
+          ∙ get_or-set_same (all_lists buckets (2 ^ width)) value list [] inside
           ∙ sym (ap (list_in (with_list_in buckets value list)) same ∙ own_changed)
       | inr apart ↦
-          get_or-set_other (lists_of buckets (2 ^ width)) value other list [] apart
+          get_or-set_other (all_lists buckets (2 ^ width)) value other list [] apart
           ∙ get_or-map-range_with_len (list_in buckets) 0 (2 ^ width) other other [] low (omega arith) ∙ sym (other_same other apart)
     ]
 
     -- the list of one value changes the lists there
-    pub lists_changed : lists_of (with_list_in buckets value list) (2 ^ width) ≡ set (lists_of buckets (2 ^ width)) value list
+    pub lists_changed : all_lists (with_list_in buckets value list) (2 ^ width) ≡ set (all_lists buckets (2 ^ width)) value list
     lists_changed =
-        let long = length-set (lists_of buckets (2 ^ width)) value list ∙ length-map-range_with_len (list_in buckets) 0 (2 ^ width) in
-        sym (fill_by_all (list_in (with_list_in buckets value list)) (set (lists_of buckets (2 ^ width)) value list) (2 ^ width) [] long each_changed)
+        let long = length-set (all_lists buckets (2 ^ width)) value list ∙ length-map-range_with_len (list_in buckets) 0 (2 ^ width) in
+        sym (fill_by_all (list_in (with_list_in buckets value list)) (set (all_lists buckets (2 ^ width)) value list) (2 ^ width) [] long each_changed)
 
     -- and the buckets are kept
-    pub kept_with_list : length list ≤ 1048576 → IsKept width (with_list_in buckets value list)
+    pub kept_with_list : length list ≤ 1048576 → AreBuckets width (with_list_in buckets value list)
     kept_with_list short = record {
       some = kept.some;
       narrow = kept.narrow;
@@ -129,7 +129,7 @@ module _ (width value : ℕ) (buckets : List (List (List (ℕ × List ℕ)))) (k
           (length-set (get_or buckets (value % 256) []) (value / 256) list ∙ kept.sized (value % 256) [] bucket_there) kept.sized;
       short =
           subst (λ (lists : List (List (ℕ × List ℕ))). All (λ each. length each ≤ 1048576) lists) (sym lists_changed)
-          (All-set (λ each. length each ≤ 1048576) (lists_of buckets (2 ^ width)) value list short kept.short);
+          (All-set (λ each. length each ≤ 1048576) (all_lists buckets (2 ^ width)) value list short kept.short);
     }
 
 -- ---- empty buckets
@@ -152,19 +152,19 @@ module _ (width number values : ℕ) (all : values ≡ 2 ^ width) (is : number �
   rest_below : (value : ℕ) → value < 2 ^ width → value % 256 < number
   rest_below value below = omega arith
 
-  none_in_buckets : lists_of (replicate number (replicate each [])) (2 ^ width) ≡ replicate (2 ^ width) []
+  none_in_buckets : all_lists (replicate number (replicate each [])) (2 ^ width) ≡ replicate (2 ^ width) []
   none_in_buckets = sym (fill_by_all (list_in (replicate number (replicate each []))) (replicate (2 ^ width) []) (2 ^ width) []
       (length-replicate (2 ^ width) []) (λ value below. none_listed (2 ^ width) value ∙ sym (none_in number each value (rest_below value below))))
 
   module _ (shared : List (Arc (List (List (ℕ × List ℕ))) Global)) (made : buckets_of shared ≡ replicate number (replicate ((values + 256 - 1) / 256) [])) where
     -- empty buckets have empty lists
-    pub none_of : table_of width shared ≡ empty_table width
+    pub none_of : kept_table width shared ≡ no_postings width
     none_of = ap (λ (lists : List (List (ℕ × List ℕ))). let t : Table = record { width = width; lists = lists } in t)
-        (ap (λ (buckets : List (List (List (ℕ × List ℕ)))). lists_of buckets (2 ^ width)) made ∙ none_in_buckets)
+        (ap (λ (buckets : List (List (List (ℕ × List ℕ)))). all_lists buckets (2 ^ width)) made ∙ none_in_buckets)
 
     -- and are kept
-    pub kept_none : 1 ≤ width → width ≤ 12 → IsKept width (buckets_of shared)
-    kept_none some narrow = subst (λ (buckets : List (List (List (ℕ × List ℕ)))). IsKept width buckets) (sym made) (record {
+    pub kept_none : 1 ≤ width → width ≤ 12 → AreBuckets width (buckets_of shared)
+    kept_none some narrow = subst (λ (buckets : List (List (List (ℕ × List ℕ)))). AreBuckets width buckets) (sym made) (record {
       some = some;
       narrow = narrow;
       number = length-replicate number (replicate each []) ∙ omega arith;
@@ -181,8 +181,8 @@ module _ (width number values : ℕ) (all : values ≡ 2 ^ width) (is : number �
 -- the bucket of a value of a table
 pub record IsBucketOf (width : ℕ) (shared : List (Arc (List (List (ℕ × List ℕ))) Global)) (table : Table) (value : ℕ)
     (own : Arc (List (List (ℕ × List ℕ))) Global) : Type 0 where
-  pub kept : IsKept width (buckets_of shared)
-  pub seen : table_of width shared ≡ table
+  pub kept : AreBuckets width (buckets_of shared)
+  pub seen : kept_table width shared ≡ table
   pub below : value < 2 ^ table.width
   pub stands : own ≡ get_or shared (value % 256) own
 
@@ -194,7 +194,7 @@ module _ {width : ℕ} {shared : List (Arc (List (List (ℕ × List ℕ))) Globa
       let below = is.below in
       omega arith
 
-  in_lists : value < length (lists_of (buckets_of shared) (2 ^ width))
+  in_lists : value < length (all_lists (buckets_of shared) (2 ^ width))
   in_lists = omega (arith, within, length-map-range_with_len (list_in (buckets_of shared)) 0 (2 ^ width))
 
   in_shared : value % 256 < length shared
@@ -233,33 +233,33 @@ module _ {width : ℕ} {shared : List (Arc (List (List (ℕ × List ℕ))) Globa
         ∙ ap (set (buckets_of shared) (value % 256)) (changed ∙ ap (λ (bucket : List (List (ℕ × List ℕ))). set bucket (value / 256) list) (sym own_bucket))
 
     -- a bucket with another list of the value changes the table there
-    pub table_changed : table_of width (set shared (value % 256) new) ≡ with_list table value list
+    pub table_changed : kept_table width (set shared (value % 256) new) ≡ with_list table value list
     table_changed =
         ap (λ (lists : List (List (ℕ × List ℕ))). let t : Table = record { width = width; lists = lists } in t)
-        (ap (λ (buckets : List (List (List (ℕ × List ℕ)))). lists_of buckets (2 ^ width)) new_buckets
+        (ap (λ (buckets : List (List (List (ℕ × List ℕ)))). all_lists buckets (2 ^ width)) new_buckets
         ∙ lists_changed width value (buckets_of shared) is.kept within list)
         ∙ ap (λ (t : Table). with_list t value list) is.seen
 
     -- where the list is short it is kept
-    pub kept_changed : length list ≤ 1048576 → IsKept width (buckets_of (set shared (value % 256) new))
+    pub kept_changed : length list ≤ 1048576 → AreBuckets width (buckets_of (set shared (value % 256) new))
     kept_changed short =
-        subst (λ (buckets : List (List (List (ℕ × List ℕ)))). IsKept width buckets) (sym new_buckets)
+        subst (λ (buckets : List (List (List (ℕ × List ℕ)))). AreBuckets width buckets) (sym new_buckets)
         (kept_with_list width value (buckets_of shared) is.kept within list short)
 
     -- and the list is the value's
-    pub list_changed : posting_list (table_of width (set shared (value % 256) new)) value ≡ list
+    pub list_changed : posting_list (kept_table width (set shared (value % 256) new)) value ≡ list
     list_changed =
         ap (λ (t : Table). posting_list t value) table_changed
         ∙ ap (λ (t : Table). posting_list (with_list t value list) value) (sym is.seen)
-        ∙ get_or-set_same (lists_of (buckets_of shared) (2 ^ width)) value list [] in_lists
+        ∙ get_or-set_same (all_lists (buckets_of shared) (2 ^ width)) value list [] in_lists
 
     -- the table is the old one with what is now the value's list
-    pub only_list_changed : table_of width (set shared (value % 256) new) ≡ with_list table value (posting_list (table_of width (set shared (value % 256) new)) value)
+    pub only_list_changed : kept_table width (set shared (value % 256) new) ≡ with_list table value (posting_list (kept_table width (set shared (value % 256) new)) value)
     only_list_changed = table_changed ∙ ap (with_list table value) (sym list_changed)
 
     -- what is told of the list in the bucket is so of the value's
     pub list_told : (relation : List (ℕ × List ℕ) → List (ℕ × List ℕ) → Type 0) → relation (get_or (arc_value own) (value / 256) []) list
-        → relation (posting_list table value) (posting_list (table_of width (set shared (value % 256) new)) value)
+        → relation (posting_list table value) (posting_list (kept_table width (set shared (value % 256) new)) value)
     list_told relation told = rw (← own_list, list_changed) told
 
   module _ (new : Arc (List (List (ℕ × List ℕ))) Global) (same : arc_value new ≡ arc_value own) where
@@ -267,14 +267,14 @@ module _ {width : ℕ} {shared : List (Arc (List (List (ℕ × List ℕ))) Globa
     same_buckets = map-set_same (λ bucket. arc_value bucket) shared (value % 256) new own (same ∙ ap (λ bucket. arc_value bucket) is.stands)
 
     -- a bucket that is as it was changes nothing
-    pub table_same : table_of width (set shared (value % 256) new) ≡ table
+    pub table_same : kept_table width (set shared (value % 256) new) ≡ table
     table_same =
-        ap (λ (buckets : List (List (List (ℕ × List ℕ)))). let t : Table = record { width = width; lists = lists_of buckets (2 ^ width) } in t) same_buckets
+        ap (λ (buckets : List (List (List (ℕ × List ℕ)))). let t : Table = record { width = width; lists = all_lists buckets (2 ^ width) } in t) same_buckets
         ∙ is.seen
 
     -- and is kept
-    pub kept_same : IsKept width (buckets_of (set shared (value % 256) new))
-    kept_same = subst (λ (buckets : List (List (List (ℕ × List ℕ)))). IsKept width buckets) (sym same_buckets) is.kept
+    pub kept_same : AreBuckets width (buckets_of (set shared (value % 256) new))
+    kept_same = subst (λ (buckets : List (List (List (ℕ × List ℕ)))). AreBuckets width buckets) (sym same_buckets) is.kept
 
   -- a bucket in which an entry was added, or which is as it was
   module _ (new : Arc (List (List (ℕ × List ℕ))) Global) (entry : ℕ × List ℕ) where
@@ -282,13 +282,13 @@ module _ {width : ℕ} {shared : List (Arc (List (List (ℕ × List ℕ))) Globa
     pushed = get_or (arc_value own) (value / 256) [] ++ entry ∷ []
 
     -- adds it to the table
-    pub entry_added : arc_value new ≡ set (arc_value own) (value / 256) pushed → table_of width (set shared (value % 256) new) ≡ with_entry table value entry
+    pub entry_added : arc_value new ≡ set (arc_value own) (value / 256) pushed → kept_table width (set shared (value % 256) new) ≡ with_posting table value entry
     entry_added changed = table_changed new pushed changed ∙ ap (λ (list : List (ℕ × List ℕ)). with_list table value (list ++ entry ∷ [])) own_list
 
     -- and is kept
     pub pushed_kept : {E : Type 0} (result : Result (Unit {0}) E) → length (posting_list table value) < 1048576
         → OnOk result (arc_value new ≡ set (arc_value own) (value / 256) pushed) → OnErr result (arc_value new ≡ arc_value own)
-        → IsKept width (buckets_of (set shared (value % 256) new))
+        → AreBuckets width (buckets_of (set shared (value % 256) new))
     pushed_kept (Ok done) room added same =
         kept_changed new pushed added (omega (arith, length-append (get_or (arc_value own) (value / 256) []) (entry ∷ []), ap length own_list, room))
     pushed_kept (Err refused) room added same = kept_same new same

@@ -18,23 +18,23 @@ with_list_in buckets value list =
     slice_set buckets (value % BUCKETS) (slice_set (slice_index_or buckets (value % BUCKETS) []) (value / BUCKETS) list)
 
 -- the lists of so many values
-abbrev pub lists_of : List (List (List (ℕ × List ℕ))) → ℕ → List (List (ℕ × List ℕ))
-lists_of buckets number = map (list_in buckets) (range_with_len 0 number)
+abbrev pub all_lists : List (List (List (ℕ × List ℕ))) → ℕ → List (List (ℕ × List ℕ))
+all_lists buckets number = map (list_in buckets) (range_with_len 0 number)
 
 -- the lists of shared buckets
 abbrev pub buckets_of : List (Arc (List (List (ℕ × List ℕ))) Global) → List (List (List (ℕ × List ℕ)))
 buckets_of shared = map (λ bucket. arc_value bucket) shared
 
 -- the table that callers see: the lists of all values of the width
-abbrev pub table_of : ℕ → List (Arc (List (List (ℕ × List ℕ))) Global) → Table
-table_of width shared = record { width = width; lists = lists_of (buckets_of shared) (2 ^ width) }
+abbrev pub kept_table : ℕ → List (Arc (List (List (ℕ × List ℕ))) Global) → Table
+kept_table width shared = record { width = width; lists = all_lists (buckets_of shared) (2 ^ width) }
 
 -- a bucket for each rest, with as many lists in each as all values need, all short enough to be counted
-pub record IsKept (width : ℕ) (buckets : List (List (List (ℕ × List ℕ)))) : Type 0 where
+pub record AreBuckets (width : ℕ) (buckets : List (List (List (ℕ × List ℕ)))) : Type 0 where
   pub some : 1 ≤ width
   pub narrow : width ≤ PART_WIDTH_MOST
   pub number : length buckets ≡ min BUCKETS (2 ^ width)
   pub each : ℕ
   pub enough : 2 ^ width ≤ BUCKETS * each
   pub sized : All (λ bucket. length bucket ≡ each) buckets
-  pub short : All (λ list. length list ≤ ENTRIES_MOST) (lists_of buckets (2 ^ width))
+  pub short : All (λ list. length list ≤ ENTRIES_MOST) (all_lists buckets (2 ^ width))

@@ -16,8 +16,8 @@ table_code =
     (λ table. (table.width, table.lists)) (λ parts. record { width = parts.0; lists = parts.1 }) (λ _. refl)
 
 -- the table with no entries
-abbrev pub empty_table : ℕ → Table
-empty_table width = record { width = width; lists = replicate (2 ^ width) [] }
+abbrev pub no_postings : ℕ → Table
+no_postings width = record { width = width; lists = replicate (2 ^ width) [] }
 
 -- the entries of a value
 abbrev pub posting_list : Table → ℕ → List (ℕ × List ℕ)
@@ -28,8 +28,8 @@ abbrev pub with_list : Table → ℕ → List (ℕ × List ℕ) → Table
 with_list table value entries = record { width = table.width; lists = slice_set table.lists value entries }
 
 -- the table with one entry more, at the end of the list of a value
-abbrev pub with_entry : Table → ℕ → ℕ × List ℕ → Table
-with_entry table value entry = with_list table value (posting_list table value ++ entry ∷ [])
+abbrev pub with_posting : Table → ℕ → ℕ × List ℕ → Table
+with_posting table value entry = with_list table value (posting_list table value ++ entry ∷ [])
 
 -- whether a key has an entry
 abbrev pub has_key : List (ℕ × List ℕ) → ℕ → Bool

@@ -2,7 +2,7 @@
 
 ghost use Rattle.std.specs.Prelude.{◌≡◌, ◌+◌, ◌^◌, ◌<◌, ◌≤◌, true, false, length, slice_index_or, IfOk, OnOk, OnErr, Ok};
 ghost use Rattle.hamming_model.specs.declared.limits.TheConstants.{ENTRIES_MOST, PART_WIDTH_MOST};
-ghost use Rattle.posting_table.specs.Tables.{LosesEntry, empty_table, has_key, posting_list, with_entry, with_list};
+ghost use Rattle.posting_table.specs.Tables.{LosesEntry, no_postings, has_key, posting_list, with_posting, with_list};
 
 use crate::bucket::Bucket;
 use crate::changes::{push_in, remove_from};
@@ -29,15 +29,15 @@ pub struct Postings<const W: usize> {
 
 impl<const W: usize> Model for Postings<W> {
     ghost use Rattle.posting_table.specs.Tables.{Table, table_code};
-    ghost use Rattle.posting_table.specs.Kept.{IsKept, buckets_of, table_of};
+    ghost use Rattle.posting_table.specs.Kept.{AreBuckets, buckets_of, kept_table};
 
     ghost Value = { Table };
 
     ghost coded = { table_code };
 
-    ghost view = { λ kept. table_of kept.width kept.buckets.items };
+    ghost view = { λ kept. kept_table kept.width kept.buckets.items };
 
-    ghost invariant = { λ kept. IsKept kept.width (buckets_of kept.buckets.items) };
+    ghost invariant = { λ kept. AreBuckets kept.width (buckets_of kept.buckets.items) };
 }
 
 impl<const W: usize> Postings<W> {
@@ -49,7 +49,7 @@ impl<const W: usize> Postings<W> {
     pub fn new(alloc: Global, width: u32) -> Result<Postings<W>, NoMemory>
         requires some { 1 ≤ width }
         requires narrow { width ≤ PART_WIDTH_MOST }
-        ensures { IfOk result (λ table. table ≡ empty_table width) }
+        ensures { IfOk result (λ table. table ≡ no_postings width) }
     {
         let values = 1usize << width;
         let number = values.min(BUCKETS);
@@ -108,7 +108,7 @@ impl<const W: usize> Postings<W> {
         requires in_width { value < 2 ^ self.old.width }
         requires absent { has_key (posting_list self.old value) key ≡ false }
         requires room { length (posting_list self.old value) < ENTRIES_MOST }
-        ensures added { OnOk result (self.new ≡ with_entry self.old value (key, code.entry)) }
+        ensures added { OnOk result (self.new ≡ with_posting self.old value (key, code.entry)) }
         ensures unchanged { OnErr result (self.new ≡ self.old) }
     {
         let bucket = &mut self.buckets[value as usize % BUCKETS];

@@ -4,7 +4,7 @@ use Rattle.std.specs.Str.{bytes_eq}
 use Rattle.hamming_model.specs.Codes.{StandsFor}
 use Rattle.part_layout.specs.declared.config.Config.{Config}
 use Rattle.line_forms.specs.Words.{words, is_printable}
-use Rattle.line_forms.specs.Forms.{key_of, radius_of, count_of, code_of, shard_of, tag_of}
+use Rattle.line_forms.specs.Forms.{key_form, radius_of, count_of, code_form, shard_form, tag_of}
 use Rattle.query_protocol.specs.declared.bad.Bad.{Bad}
 use Rattle.query_protocol.specs.declared.request.Request.{Request}
 use Rattle.query_protocol.specs.declared.request.Request.TheVariants as kept
@@ -75,18 +75,18 @@ plan_of shards (Some tag) None = Err (bad_word 3)
 plan_of shards (Some tag) (Some shard) = if nat_lt shard shards then Ok (Some (Plan tag shard)) else Err (bad 6)
 
 -- a shard, which has to be one of so many
-abbrev pub layout_of : ℕ → Option ℕ → LineReading
-layout_of shards None = Err (bad_word 2)
-layout_of shards (Some shard) = if nat_lt shard shards then Ok (Some (Layout shard)) else Err (bad 6)
+abbrev pub layout_reading : ℕ → Option ℕ → LineReading
+layout_reading shards None = Err (bad_word 2)
+layout_reading shards (Some shard) = if nat_lt shard shards then Ok (Some (Layout shard)) else Err (bad 6)
 
 -- the words after `add`
 abbrev pub add_asked : ℕ → List (List ℕ) → LineReading
-add_asked bits (key ∷ code ∷ []) = add_of (key_of key) (code_of bits code)
+add_asked bits (key ∷ code ∷ []) = add_of (key_form key) (code_form bits code)
 add_asked bits after = Err (bad 4)
 
 -- the words after `range`
 abbrev pub range_asked : ℕ → List (List ℕ) → LineReading
-range_asked bits (tag ∷ tau ∷ code ∷ []) = range_of (tag_of tag) (radius_of bits tau) (code_of bits code)
+range_asked bits (tag ∷ tau ∷ code ∷ []) = range_of (tag_of tag) (radius_of bits tau) (code_form bits code)
 range_asked bits after = Err (bad 4)
 
 -- the words after `next`
@@ -101,12 +101,12 @@ cost_asked after = Err (bad 4)
 
 -- the words after `plan`
 abbrev pub plan_asked : ℕ → List (List ℕ) → LineReading
-plan_asked shards (tag ∷ shard ∷ []) = plan_of shards (tag_of tag) (shard_of shard)
+plan_asked shards (tag ∷ shard ∷ []) = plan_of shards (tag_of tag) (shard_form shard)
 plan_asked shards after = Err (bad 4)
 
 -- the words after `layout`
 abbrev pub layout_asked : ℕ → List (List ℕ) → LineReading
-layout_asked shards (shard ∷ []) = layout_of shards (shard_of shard)
+layout_asked shards (shard ∷ []) = layout_reading shards (shard_form shard)
 layout_asked shards after = Err (bad 4)
 
 -- the words after `quit`

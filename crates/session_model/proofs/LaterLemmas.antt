@@ -12,7 +12,7 @@ use Rattle.query_protocol.specs.declared.bad.Bad.{Bad}
 use Rattle.session_model.specs.State.{Query, State, has_tag, query_of, replaced, open_queries}
 use Rattle.session_model.specs.Entries.{Exchange}
 use Rattle.session_model.specs.QuerySteps.{ReadsOn, given_more, new_query, most_open}
-use Rattle.session_model.specs.QuerySteps.{IfOpen, Gives, Costs, Plans}
+use Rattle.session_model.specs.QuerySteps.{IfOpen, Gives, Costs, TellsPlan}
 use Rattle.session_model.specs.QuerySteps.{OpensUnlessMany, OpensUnlessUsed}
 use Rattle.session_model.specs.Step.{Answers, asked_by}
 use Rattle.session_model.specs.Run.{Run}
@@ -134,7 +134,7 @@ module _ (config : Config) (history : List JournalEntry) (s : State) (e : Exchan
   costs_later tag (Some query) h = same_later s t h.same
 
   plans_later : (tag : List ℕ) (shard : ℕ) (found : Option Query)
-      → IfOpen found (Plans config history tag shard) s e t → AreLater s.queries t.queries
+      → IfOpen found (TellsPlan config history tag shard) s e t → AreLater s.queries t.queries
   plans_later tag shard None h = same_later s t h.same
   plans_later tag shard (Some query) h = same_later s t h.same
 

@@ -13,7 +13,7 @@ use Rattle.query_protocol.specs.declared.bad.Bad.{Bad}
 use Rattle.session_model.specs.State.{State}
 use Rattle.session_model.specs.Entries.{Exchange}
 use Rattle.session_model.specs.Step.{Step, Answers, asked_by}
-use Rattle.session_model.specs.Run.{Run, accepted, commit_of, commits, entries_of, written, lines_of}
+use Rattle.session_model.specs.Run.{Run, accepted, commit_of, commits, entries_by, written_text, lines_of}
 use Rattle.session_model.specs.Run.{asks_quit, before_quit, has_quit}
 
 -- ---- one more exchange
@@ -34,31 +34,31 @@ commits_more who config exchanges e =
     ∙ ap (λ l. commits who config exchanges ++ l) (append-nil (commit_of who config e))
 
 pub written_more : (exchanges : List Exchange) (e : Exchange)
-    → written (exchanges ++ e ∷ []) ≡ written exchanges ++ text e.replies
+    → written_text (exchanges ++ e ∷ []) ≡ written_text exchanges ++ text e.replies
 written_more exchanges e =
     flat_map-append (λ (e : Exchange). text e.replies) exchanges (e ∷ [])
-    ∙ ap (λ l. written exchanges ++ l) (append-nil (text e.replies))
+    ∙ ap (λ l. written_text exchanges ++ l) (append-nil (text e.replies))
 
 -- ---- what a session commits is its own
 
 own_by : (who : ℕ) (operations : List Operation)
-    → entries_of who (map (λ operation. record { who = who; operation = operation }) operations)
+    → entries_by who (map (λ operation. record { who = who; operation = operation }) operations)
     ≡ map (λ operation. record { who = who; operation = operation }) operations
 own_by who [] = refl
 own_by who (operation ∷ operations) =
     let entry : JournalEntry = record { who = who; operation = operation } in
     let rest : List JournalEntry = map (λ o. record { who = who; operation = o }) operations in
-    ap (λ b. cond b (entry ∷ entries_of who rest) (entries_of who rest)) (eq-eqb who who refl)
+    ap (λ b. cond b (entry ∷ entries_by who rest) (entries_by who rest)) (eq-eqb who who refl)
     ∙ ap (λ l. entry ∷ l) (own_by who operations)
 
 pub own_commits : (who : ℕ) (config : Config) (exchanges : List Exchange)
-    → entries_of who (commits who config exchanges) ≡ commits who config exchanges
+    → entries_by who (commits who config exchanges) ≡ commits who config exchanges
 own_commits who config [] = refl
 own_commits who config (e ∷ exchanges) =
     let front = commit_of who config e in
     let rest = commits who config exchanges in
     filter-append (λ (entry : JournalEntry). entry.who == who) front rest
-    ∙ ap (λ l. l ++ entries_of who rest) (own_by who (accepted (asked_by config e.line) e.replies))
+    ∙ ap (λ l. l ++ entries_by who rest) (own_by who (accepted (asked_by config e.line) e.replies))
     ∙ ap (λ l. front ++ l) (own_commits who config exchanges)
 
 -- ---- the lines that end a session

@@ -29,7 +29,7 @@ Refuses s e t = Stays (reply.NoMemory ∷ []) s e t
 
 -- an accepted operation: the entry of this number, beyond the last position, is this session's, and
 -- the entries before it accept it
-pub record Commits (config : Config) (history : List JournalEntry) (operation : Operation)
+pub record CommitsOperation (config : Config) (history : List JournalEntry) (operation : Operation)
     (accepted : Decision) (said : LineReply) (s : State) (e : Exchange) (t : State) : Type 0 where
   pub later : s.position < e.position
   pub entry : slice_get history (e.position - 1)
@@ -50,11 +50,11 @@ pub record Declines (config : Config) (history : List JournalEntry) (operation :
 -- an accepted add
 abbrev pub Adds : Config → List JournalEntry → ℕ → List ℕ → State → Exchange → State → Type 0
 Adds config history key code s e t =
-    Commits config history (journal.Add key code) Added (reply.Added key e.position) s e t
+    CommitsOperation config history (journal.Add key code) Added (reply.Added key e.position) s e t
 
 -- a refused add: the key is taken
-abbrev pub Takes : Config → List JournalEntry → ℕ → List ℕ → State → Exchange → State → Type 0
-Takes config history key code s e t =
+abbrev pub RefusesTaken : Config → List JournalEntry → ℕ → List ℕ → State → Exchange → State → Type 0
+RefusesTaken config history key code s e t =
     Declines config history (journal.Add key code) Taken (reply.Taken key e.position) s e t
 
 -- a refused add: as many entries stand as may

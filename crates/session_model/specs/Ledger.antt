@@ -19,13 +19,13 @@ rows_at config history query shard =
     shard_rows shard config.shards (rows_of (take query.position history))
 
 -- the whole answer of a query
-abbrev pub answer_of : Config → List JournalEntry → Query → List Hit
-answer_of config history query =
+abbrev pub answer_to : Config → List JournalEntry → Query → List Hit
+answer_to config history query =
     answer config.bits (rows_of (take query.position history)) query.ask
 
 -- the distance of the last hit that a query has given
 abbrev pub last_given : Config → List JournalEntry → Query → Option ℕ
-last_given config history query = last_distance (take query.given (answer_of config history query))
+last_given config history query = last_distance (take query.given (answer_to config history query))
 
 -- the most postings that a query may read on a shard for its hits up to a distance
 abbrev pub IsBoundAt : Config → List JournalEntry → Query → Option ℕ → ℕ → ℕ → Type 0
@@ -34,9 +34,9 @@ IsBoundAt config history query last shard bound =
     bound
 
 -- the sum of numbers
-abbrev pub total : List ℕ → ℕ
-total [] = 0
-total (number ∷ numbers) = number + total numbers
+abbrev pub sum_of : List ℕ → ℕ
+sum_of [] = 0
+sum_of (number ∷ numbers) = number + sum_of numbers
 
 -- the most postings that a query may read on all shards for its hits up to a distance
 pub record IsBound (config : Config) (history : List JournalEntry) (query : Query)
@@ -45,11 +45,11 @@ pub record IsBound (config : Config) (history : List JournalEntry) (query : Quer
   pub number : length bounds ≡ config.shards
   pub each : (shard : ℕ) → shard < config.shards →
       IsBoundAt config history query last shard (slice_index bounds shard)
-  pub all : bound ≡ total bounds
+  pub all : bound ≡ sum_of bounds
 
 -- the first of the cheapest threshold vectors of a query in a shard, and its cost
-abbrev pub IsPlan : Config → List JournalEntry → Query → ℕ → List ℤ → ℕ → Type 0
-IsPlan config history query shard =
+abbrev pub IsPlanOfQuery : Config → List JournalEntry → Query → ℕ → List ℤ → ℕ → Type 0
+IsPlanOfQuery config history query shard =
     IsPlanOf query.ask (rows_at config history query shard) (layout_at query.pinned shard)
     (last_given config history query)
 
@@ -57,7 +57,7 @@ IsPlan config history query shard =
 pub record IsWithinBound (config : Config) (history : List JournalEntry) (query : Query) (shard : ℕ)
     : Type 0 where
   pub bound : ℕ
-  pub is_bound : IsBoundAt config history query (last_distance (answer_of config history query))
+  pub is_bound : IsBoundAt config history query (last_distance (answer_to config history query))
       shard bound
   pub within : slice_index query.reads shard ≤ bound
 

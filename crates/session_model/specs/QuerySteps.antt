@@ -9,7 +9,7 @@ use Rattle.part_layout.specs.declared.config.Config.{Config}
 use Rattle.query_protocol.specs.Requests.{bad}
 use Rattle.query_protocol.specs.Replies.{LineReply}
 use Rattle.query_protocol.specs.Replies as reply
-use Rattle.session_model.specs.Ledger.{IsBound, IsPlan, answer_of, last_given, total}
+use Rattle.session_model.specs.Ledger.{IsBound, IsPlanOfQuery, answer_to, last_given, sum_of}
 use Rattle.session_model.specs.State.{Query, State, open_queries, replaced}
 use Rattle.session_model.specs.Entries.{Exchange, Stays, Refuses}
 
@@ -32,7 +32,7 @@ new_query tag asked e = record {
 }
 
 -- a query that is opened at a prefix that is no shorter than the last
-pub record Opens (history : List JournalEntry) (tag : List ℕ) (asked : Ask)
+pub record OpensQuery (history : List JournalEntry) (tag : List ℕ) (asked : Ask)
     (s : State) (e : Exchange) (t : State) : Type 0 where
   pub not_before : s.position ≤ e.position
   pub within : e.position ≤ length history
@@ -44,7 +44,7 @@ pub record Opens (history : List JournalEntry) (tag : List ℕ) (asked : Ask)
 abbrev pub OpensUnlessMany
     : Bool → List JournalEntry → List ℕ → Ask → State → Exchange → State → Type 0
 OpensUnlessMany true history tag asked s e t = Stays (reply.Bad (bad 9) ∷ []) s e t
-OpensUnlessMany false history tag asked s e t = Refuses s e t ⊎ Opens history tag asked s e t
+OpensUnlessMany false history tag asked s e t = Refuses s e t ⊎ OpensQuery history tag asked s e t
 
 -- an opening, where the tag has an open query or none
 abbrev pub OpensUnlessUsed
@@ -83,7 +83,7 @@ given_more query count hits reads = record query {
 pub record Gives (config : Config) (history : List JournalEntry) (tag : List ℕ) (count : ℕ)
     (query : Query) (s : State) (e : Exchange) (t : State) : Type 0 where
   pub hits : List Hit
-  pub hits_are : hits ≡ answer_of config history query
+  pub hits_are : hits ≡ answer_to config history query
   pub reads : List ℕ
   pub reads_on : ReadsOn query reads
   pub said_is : e.replies ≡ next_replies tag count query.given hits
@@ -96,18 +96,18 @@ pub record Costs (config : Config) (history : List JournalEntry) (tag : List ℕ
     (query : Query) (s : State) (e : Exchange) (t : State) : Type 0 where
   pub bound : ℕ
   pub is_bound : IsBound config history query (last_given config history query) bound
-  pub given : query.given ≤ total query.reads
-  pub within : total query.reads ≤ bound
-  pub said_is : e.replies ≡ reply.Cost tag (total query.reads) bound ∷ []
+  pub given : query.given ≤ sum_of query.reads
+  pub within : sum_of query.reads ≤ bound
+  pub said_is : e.replies ≡ reply.Cost tag (sum_of query.reads) bound ∷ []
   pub position : e.position ≡ s.position
   pub same : t ≡ s
 
 -- the first of the cheapest threshold vectors of a query in a shard, with its cost
-pub record Plans (config : Config) (history : List JournalEntry) (tag : List ℕ) (shard : ℕ)
+pub record TellsPlan (config : Config) (history : List JournalEntry) (tag : List ℕ) (shard : ℕ)
     (query : Query) (s : State) (e : Exchange) (t : State) : Type 0 where
   pub thresholds : List ℤ
   pub cost : ℕ
-  pub is_plan : IsPlan config history query shard thresholds cost
+  pub is_plan : IsPlanOfQuery config history query shard thresholds cost
   pub said_is : e.replies ≡ reply.Plan tag shard cost thresholds ∷ []
   pub position : e.position ≡ s.position
   pub same : t ≡ s

@@ -43,15 +43,15 @@ abbrev pub commits : ℕ → Config → List Exchange → List JournalEntry
 commits who config exchanges = flat_map (commit_of who config) exchanges
 
 -- the entries of a session
-abbrev pub entries_of : ℕ → List JournalEntry → List JournalEntry
-entries_of who history = filter (λ entry. entry.who == who) history
+abbrev pub entries_by : ℕ → List JournalEntry → List JournalEntry
+entries_by who history = filter (λ entry. entry.who == who) history
 
 -- the exchanges are a session's in a history: its entries beyond the start are just what it commits
 pub record IsSession (At : State → Exchange → Type 0) (config : Config)
     (history : List JournalEntry) (start : State) (exchanges : List Exchange) (last : State)
     : Type 0 where
   pub run : Run At config history start exchanges last
-  pub own : entries_of start.who (drop start.position history)
+  pub own : entries_by start.who (drop start.position history)
       ≡ commits start.who config exchanges
 
 -- nobody else commits or gives a shard another layout: the position is the last one and what this
@@ -85,8 +85,8 @@ pub record IsRunAlone (config : Config) (exchanges : List Exchange) (rise : Rise
   pub ledger : IsRise config (commits 0 config exchanges) last.queries rise
 
 -- all that is written
-abbrev pub written : List Exchange → List ℕ
-written exchanges = flat_map (λ e. text e.replies) exchanges
+abbrev pub written_text : List Exchange → List ℕ
+written_text exchanges = flat_map (λ e. text e.replies) exchanges
 
 -- the lines of the exchanges
 abbrev pub lines_of : List Exchange → List (List ℕ)
@@ -99,7 +99,7 @@ pub record AnswersLines (Served : List Exchange → Rise → Type 0) (lines : Li
   pub exchanges : List Exchange
   pub served : Served exchanges rise
   pub lines_are : lines_of exchanges ≡ lines
-  pub bytes_are : bytes ≡ written exchanges
+  pub bytes_are : bytes ≡ written_text exchanges
 
 -- the output is the replies to some of the lines in front, and of the replies to the line after them
 -- a part, and the queries of the session that answered these lines read so much
@@ -112,7 +112,7 @@ pub record IsRefused (Served : List Exchange → Rise → Type 0) (lines : List 
   pub lines_are : lines ≡ lines_of answered ++ refused.line ∷ rest
   pub taken : ℕ
   pub not_all : taken < length (text refused.replies)
-  pub output_is : output ≡ written answered ++ take taken (text refused.replies)
+  pub output_is : output ≡ written_text answered ++ take taken (text refused.replies)
 
 -- the line ends the session
 abbrev pub asks_quit : Result (Option LineRequest) Bad → Bool

@@ -13,8 +13,8 @@ use Rattle.query_protocol.specs.declared.bad.Bad.{Bad}
 use Rattle.query_protocol.specs.Replies as reply
 use Rattle.session_model.specs.State.{State, query_of}
 use Rattle.session_model.specs.Ledger.{layout_at}
-use Rattle.session_model.specs.Entries.{Exchange, Stays, Refuses, Adds, Takes, Fills}
-use Rattle.session_model.specs.QuerySteps.{OpensUnlessUsed, Gives, Costs, Plans, IfOpen}
+use Rattle.session_model.specs.Entries.{Exchange, Stays, Refuses, Adds, RefusesTaken, Fills}
+use Rattle.session_model.specs.QuerySteps.{OpensUnlessUsed, Gives, Costs, TellsPlan, IfOpen}
 
 -- what a line asks of a session
 abbrev pub asked_by : Config → List ℕ → Result (Option LineRequest) Bad
@@ -28,7 +28,7 @@ Answers (Ok None) config history s e t = Stays [] s e t
 Answers (Ok (Some (Add key code))) config history s e t =
     Refuses s e t
     ⊎ (Adds config history key code s e t
-    ⊎ (Takes config history key code s e t ⊎ Fills config history key code s e t))
+    ⊎ (RefusesTaken config history key code s e t ⊎ Fills config history key code s e t))
 Answers (Ok (Some (Range tag tau code))) config history s e t =
     OpensUnlessUsed (query_of tag s.queries) history tag (ask.Range tau code) s e t
 Answers (Ok (Some (Next tag count))) config history s e t =
@@ -36,7 +36,7 @@ Answers (Ok (Some (Next tag count))) config history s e t =
 Answers (Ok (Some (Cost tag))) config history s e t =
     IfOpen (query_of tag s.queries) (Costs config history tag) s e t
 Answers (Ok (Some (Plan tag shard))) config history s e t =
-    IfOpen (query_of tag s.queries) (Plans config history tag shard) s e t
+    IfOpen (query_of tag s.queries) (TellsPlan config history tag shard) s e t
 Answers (Ok (Some (Layout shard))) config history s e t =
     Stays (reply.Layout shard (layout_text (layout_at e.layouts shard)) ∷ []) s e t
 Answers (Ok (Some Quit)) config history s e t = ⊥

@@ -8,7 +8,7 @@ use Rattle.hamming_model.specs.Scan.{in_order}
 use Rattle.search_model.proofs.HitLemmas.{order_size}
 use Rattle.hit_source.specs.Windows.{Window, window_of, put_in_order}
 use Rattle.shard_walk.specs.Planned.{Planned}
-use Rattle.shard_walk.specs.Walks.{Place, IsPlace, hits_left, reads_left}
+use Rattle.shard_walk.specs.Walks.{Place, IsWalkPlace, hits_left, reads_left}
 use Rattle.shard_query.specs.Tasks.{IsTask, scan_of, with_kept}
 
 kept_few : (kept : Option Hit) → length (option_to_list kept) ≤ 1
@@ -20,7 +20,7 @@ none_left : (p : Planned) (w : Place) → length (hits_left p w) ≤ reads_left 
 none_left p w few none = nil_from_length (hits_left p w) (omega arith)
 
 module _ (p : Planned) (old new : Place) (hits : Window) (reads : ℕ) (is : IsTask p old hits reads)
-    (more : reads < p.least) (place : IsPlace p new) where
+    (more : reads < p.least) (place : IsWalkPlace p new) where
   module _ (kept : Option Hit) (of_hits : hits_left p old ≡ option_to_list kept ++ hits_left p new)
       (of_reads : reads_left p old ≡ reads_left p new + 1) where
     found_more : length (hits.found ++ option_to_list kept) ≤ reads + 1
@@ -97,7 +97,7 @@ module _ (p : Planned) (old new : Place) (hits : Window) (reads : ℕ) (is : IsT
 
 -- a query that was opened has nothing found
 pub task_begins : (p : Planned) (w : Place) (room : ℕ) → p.tau ≤ p.version.contents.layout.bits → 1 ≤ room
-    → IsPlace p w → in_order (hits_left p w) ≡ scan_of p → reads_left p w ≡ p.least
+    → IsWalkPlace p w → in_order (hits_left p w) ≡ scan_of p → reads_left p w ≡ p.least
     → length (hits_left p w) ≤ reads_left p w
     → IsTask p w (window_of [] p.least room) 0
 task_begins p w room near some place answer reads few = record {

@@ -9,7 +9,7 @@ use Rattle.hit_source.specs.Moves.{NotBelow, Pops, first_of}
 use Rattle.hit_source.specs.Windows.{Window, left_of, waiting_of, first_distance, with_moved, with_given}
 use Rattle.hit_source.specs.WindowLaws.{ascends_drop, floor_rises, rest_waits, waits, not_below_itself}
 use Rattle.hit_source.specs.Work.{Works}
-use Rattle.shard_walk.specs.Planned.{Planned, query_of}
+use Rattle.shard_walk.specs.Planned.{Planned, planned_query}
 use Rattle.shard_walk.specs.Walks.{Place, values_left}
 use Rattle.shard_query.specs.Tasks.{IsTask, asked_of, standing_at, standing_of}
 
@@ -96,7 +96,7 @@ module _ (p : Planned) (w : Place) (hits : Window) (reads : ℕ) (is : IsTask p 
   floor_after true all =
       let found = is.found_all (eqb-true reads p.least all) in
       let up : Ascends hits.found =
-      subst Ascends (sym found) (ascends_in_order (hits_within p.version.contents.rows (query_of p) p.tau)) in
+      subst Ascends (sym found) (ascends_in_order (hits_within p.version.contents.rows (planned_query p) p.tau)) in
       subst (λ xs. NotBelow (first_distance (left_of hits)) (first_distance xs))
       (drop-drop (length (take 1 (waiting_of hits))) hits.given hits.found)
       (floor_rises (length (take 1 (waiting_of hits))) (left_of hits) (ascends_drop hits.given hits.found up))

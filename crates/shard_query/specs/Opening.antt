@@ -7,12 +7,12 @@ use Rattle.shard_version.specs.Contents.{Contents}
 use Rattle.hit_source.specs.Sources.{Asked, Standing}
 
 -- the code that the words of a query keep
-abbrev pub code_of : Contents → List ℕ → List ℕ
-code_of version stored = take version.layout.bits stored
+abbrev pub opened_code : Contents → List ℕ → List ℕ
+opened_code version stored = take version.layout.bits stored
 
 -- the counts of a version's rows at the parts of its layout round a query
-abbrev pub counts_of : Contents → List ℕ → ℕ → ℕ → ℕ
-counts_of version query = row_counts version.rows version.layout.parts query
+abbrev pub opened_counts : Contents → List ℕ → ℕ → ℕ → ℕ
+opened_counts version query = row_counts version.rows version.layout.parts query
 
 -- a range query's hits are the scan of the version's rows; its one radius has the first of the cheapest vectors as its plan and
 -- the least cost as its bound
@@ -22,9 +22,9 @@ pub record AsksRange (version : Contents) (query : List ℕ) (tau room : ℕ) (a
   pub near : a.near ≡ false
   pub room_is : a.room ≡ room
   pub farthest : a.farthest ≡ version.layout.bits
-  pub vector : (given : Option ℕ) → IsChoice (counts_of version query) tau (length version.layout.parts) (a.plan given).0
-  pub cost : (given : Option ℕ) → IsLeast (counts_of version query) tau (length version.layout.parts) (a.plan given).1
-  pub bound : (given : Option ℕ) → IsLeast (counts_of version query) tau (length version.layout.parts) (a.bound given)
+  pub vector : (given : Option ℕ) → IsChoice (opened_counts version query) tau (length version.layout.parts) (a.plan given).0
+  pub cost : (given : Option ℕ) → IsLeast (opened_counts version query) tau (length version.layout.parts) (a.plan given).1
+  pub bound : (given : Option ℕ) → IsLeast (opened_counts version query) tau (length version.layout.parts) (a.bound given)
 
 -- a range query that has read and given nothing: its units are at most the values of all parts, twice its bound and one, and where its
 -- bound is 0 it has ended

@@ -9,7 +9,7 @@ use Rattle.hit_source.specs.Sources.{IsAsked, IsLawful}
 use Rattle.hit_source.specs.Windows.{Window, waiting_of}
 use Rattle.hit_source.specs.WindowLaws.{waits, window_prefix}
 use Rattle.hit_source.specs.ListedLaw.{window_floor}
-use Rattle.shard_walk.specs.Planned.{Planned, query_of}
+use Rattle.shard_walk.specs.Planned.{Planned, planned_query}
 use Rattle.shard_walk.specs.Walks.{Place}
 use Rattle.shard_query.specs.ScanLaw.{scan_near, scan_few}
 use Rattle.shard_query.specs.Tasks.{IsTask, scan_of, asked_of, standing_at, standing_of, units_left}
@@ -21,9 +21,9 @@ module _ (p : Planned) (w : Place) (hits : Window) (reads : ℕ) (is : IsTask p 
   -- what it is asked
   task_asked : IsAsked (asked_of p hits.room)
   task_asked = record {
-    ascends = in_order_sorted (hits_within p.version.contents.rows (query_of p) p.tau);
-    reached = scan_near p.version.contents.rows (query_of p) p.tau p.version.contents.layout.bits is.near;
-    few = scan_few p.version.contents.rows (query_of p) p.tau;
+    ascends = in_order_sorted (hits_within p.version.contents.rows (planned_query p) p.tau);
+    reached = scan_near p.version.contents.rows (planned_query p) p.tau p.version.contents.layout.bits is.near;
+    few = scan_few p.version.contents.rows (planned_query p) p.tau;
     some_room = is.some_room;
     range = λ range. record { plan = λ given. refl; bound = λ given. refl };
     near = λ near. cc;
@@ -68,7 +68,7 @@ module _ (p : Planned) (w : Place) (hits : Window) (reads : ℕ) (is : IsTask p 
   when_read all =
       let found = is.found_all all in
       let up : Ascends hits.found =
-      subst Ascends (sym found) (ascends_in_order (hits_within p.version.contents.rows (query_of p) p.tau)) in
+      subst Ascends (sym found) (ascends_in_order (hits_within p.version.contents.rows (planned_query p) p.tau)) in
       let reached_all = given_or_waiting in
       let number = ap length found in
       let among = is.window.among in

@@ -5,12 +5,12 @@ use Rattle.hamming_model.specs.declared.hit.Hit.{Hit}
 use Rattle.hamming_model.specs.Scan.{in_order, scan}
 use Rattle.hit_source.specs.Sources.{Asked, Standing}
 use Rattle.hit_source.specs.Windows.{Window, IsWindow, left_of, waiting_of, first_distance, window_at}
-use Rattle.shard_walk.specs.Planned.{Planned, query_of}
-use Rattle.shard_walk.specs.Walks.{Place, IsPlace, hits_left, reads_left, values_left}
+use Rattle.shard_walk.specs.Planned.{Planned, planned_query}
+use Rattle.shard_walk.specs.Walks.{Place, IsWalkPlace, hits_left, reads_left, values_left}
 
 -- the answer to a planned query
 abbrev pub scan_of : Planned → List Hit
-scan_of p = scan p.version.contents.rows (query_of p) p.tau
+scan_of p = scan p.version.contents.rows (planned_query p) p.tau
 
 -- what a planned query asks, where so many hits may wait
 abbrev pub asked_of : Planned → ℕ → Asked
@@ -46,7 +46,7 @@ standing_of p w hits reads = standing_at p w hits reads (reads == p.least)
 
 -- a search that isn't at its end: what was found and what the rest will keep are the answer
 pub record IsSearch (p : Planned) (w : Place) (hits : Window) (reads : ℕ) : Type 0 where
-  pub place : IsPlace p w
+  pub place : IsWalkPlace p w
   pub left : reads + reads_left p w ≡ p.least
   pub answer : in_order (hits.found ++ hits_left p w) ≡ scan_of p
   pub none_moved : hits.moved ≡ 0

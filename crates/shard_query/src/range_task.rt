@@ -6,7 +6,7 @@ ghost use Rattle.hamming_model.specs.Codes.{StandsFor};
 ghost use Rattle.hamming_model.specs.declared.limits.TheConstants.{ROOM_MOST, WORDS_MOST};
 ghost use Rattle.hit_source.specs.Moves.{PollAnswers};
 ghost use Rattle.hit_source.specs.Work.{Works, IsStopped};
-ghost use Rattle.shard_query.specs.Opening.{AsksRange, BeginsRange, code_of};
+ghost use Rattle.shard_query.specs.Opening.{AsksRange, BeginsRange, opened_code};
 ghost use Rattle.shard_query.specs.Tasks.{IsTask, asked_of, standing_of, with_kept};
 
 use gph_codes::Code;
@@ -47,12 +47,12 @@ impl<const W: usize> RangeTask<W> {
     ) -> Result<RangeTask<W>, NoMemory>
         requires few_words { W ≤ WORDS_MOST }
         requires code { StandsFor W (arc_value version).contents.layout.bits query
-            (code_of (arc_value version).contents query) }
+            (opened_code (arc_value version).contents query) }
         requires near { tau ≤ (arc_value version).contents.layout.bits }
         requires some_room { 1 ≤ room }
         requires small_room { room ≤ ROOM_MOST }
         ensures asked { IfOk result (λ task.
-            AsksRange (arc_value version.entry).contents (code_of (arc_value version.entry).contents query.entry)
+            AsksRange (arc_value version.entry).contents (opened_code (arc_value version.entry).contents query.entry)
             tau room (⟦<RangeTask<W> as HitSource>⟧.asked task)) }
         ensures begins { IfOk result (λ task. BeginsRange (arc_value version.entry).contents
             (⟦<RangeTask<W> as HitSource>⟧.asked task) (⟦<RangeTask<W> as HitSource>⟧.standing task)) }

@@ -11,7 +11,7 @@ use Rattle.hamming_model.specs.History.{code_at}
 use Rattle.part_layout.specs.Laid.{Laid}
 use Rattle.search_model.specs.Reading.{unpadded}
 use Rattle.shard_version.specs.Contents.{Contents}
-use Rattle.shard_version.specs.Kept.{AreChanged, EachHas, EachTakes, IsKept, IsPlace, Lost, Taken, contents_of, next_with, with_added, with_deleted}
+use Rattle.shard_version.specs.Kept.{AreChanged, EachHas, EachTakes, AgreesWithRows, IsPlace, Lost, Taken, contents_of, next_with, with_added, with_deleted}
 use Rattle.shard_version.specs.declared.part_table.PartTable.{PartTable}
 use Rattle.shard_version.proofs.PartLemmas.{AddsValue, CountsValue, RemovesValue}
 use Rattle.shard_version.proofs.KeptLemmas.{CountsAll, each_has, each_takes, kept_with_row, kept_without_row, place_has, place_inside, rows_with_row, rows_without_row, stands_own, stands_unpadded, stored_ascend}
@@ -22,7 +22,7 @@ none_of : {X : Type 0} (found : Option X) → is_some found ≡ false → found 
 none_of None e = refl
 none_of (Some x) e = cc
 
-module _ {W : ℕ} (shard shards at : ℕ) (layout : Laid) (stored : List (ℕ × List ℕ)) (tables : List (PartTable W)) (kept : IsKept (contents_of shard shards at layout stored) stored tables)
+module _ {W : ℕ} (shard shards at : ℕ) (layout : Laid) (stored : List (ℕ × List ℕ)) (tables : List (PartTable W)) (kept : AgreesWithRows (contents_of shard shards at layout stored) stored tables)
     (self : Contents) (seen : contents_of shard shards at layout stored ≡ self) (key : ℕ) where
   abbrev place : ℕ
   place = place_in stored key
@@ -62,10 +62,10 @@ module _ {W : ℕ} (shard shards at : ℕ) (layout : Laid) (stored : List (ℕ �
       put = added ∙ sym (placed_added stored key place placed code absent_there)
 
       -- the version with the row is kept
-      pub kept_added : AddsValue → (new : List (PartTable W)) → AreChanged (Taken lent key code (take lent.bits code)) tables new (length tables) → IsKept (contents_of shard shards (at + 1) layout left) left new
+      pub kept_added : AddsValue → (new : List (PartTable W)) → AreChanged (Taken lent key code (take lent.bits code)) tables new (length tables) → AgreesWithRows (contents_of shard shards (at + 1) layout left) left new
       kept_added adds new changed =
           let mine = subst (λ (contents : Contents). key % contents.shards ≡ contents.shard) (sym seen) own in
-          subst (λ (others : List (ℕ × List ℕ)). IsKept (contents_of shard shards (at + 1) layout others) others new) (sym put)
+          subst (λ (others : List (ℕ × List ℕ)). AgreesWithRows (contents_of shard shards (at + 1) layout others) others new) (sym put)
           (kept_with_row shard shards at layout stored tables kept key place placed code none stand new fits mine adds
           (subst (λ (laid : Laid). AreChanged (Taken laid key code (take laid.bits code)) tables new (length tables)) is changed))
 
@@ -113,9 +113,9 @@ module _ {W : ℕ} (shard shards at : ℕ) (layout : Laid) (stored : List (ℕ �
         cut = lost ∙ sym (placed_removed stored key place placed up present_there (key, code) stood)
 
         -- the version without the row is kept
-        pub kept_deleted : RemovesValue → (new : List (PartTable W)) → AreChanged (Lost lent key (take lent.bits code)) tables new (length tables) → IsKept (contents_of shard shards (at + 1) layout left) left new
+        pub kept_deleted : RemovesValue → (new : List (PartTable W)) → AreChanged (Lost lent key (take lent.bits code)) tables new (length tables) → AgreesWithRows (contents_of shard shards (at + 1) layout left) left new
         kept_deleted removed new changed =
-            subst (λ (others : List (ℕ × List ℕ)). IsKept (contents_of shard shards (at + 1) layout others) others new) (sym cut)
+            subst (λ (others : List (ℕ × List ℕ)). AgreesWithRows (contents_of shard shards (at + 1) layout others) others new) (sym cut)
             (kept_without_row shard shards at layout stored tables kept key place placed some code stood new removed
             (subst (λ (laid : Laid). AreChanged (Lost laid key (take laid.bits code)) tables new (length tables)) is changed))
 

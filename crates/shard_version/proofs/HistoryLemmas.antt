@@ -12,7 +12,7 @@ use Rattle.std.proofs.lemmas.List.{append-nil}
 use Rattle.std.proofs.lemmas.Map.Entries.{lookup-filter-keys}
 use Rattle.hamming_model.specs.History.{Operation, JournalEntry, Add, Delete, Fits, changed, code_at, rows_from, rows_of, shard_rows}
 use Rattle.hamming_model.proofs.RowLemmas.{rows_of_append, rows_ascend}
-use Rattle.entry_log.specs.Meaning.{key_of}
+use Rattle.entry_log.specs.Meaning.{operation_key}
 use Rattle.part_layout.specs.Laid.{Laid}
 use Rattle.shard_version.specs.Contents.{Contents, changed_in, after_entry, empty_of}
 use Rattle.shard_version.specs.Prefixes.{after_entries, prefix_of}
@@ -213,6 +213,6 @@ code_of_shard shard shards rows key own =
     (λ other here. subst (λ (n : ℕ). (n % shards == shard) ≡ true) (same_key key other (equal_key key other here)) (eq-eqb (key % shards) shard own)) rows
 
 -- what fits all rows fits those of its shard
-pub fits_shard : (shard shards : ℕ) (rows : List (ℕ × List ℕ)) (operation : Operation) → Fits rows operation → key_of operation % shards ≡ shard → Fits (shard_rows shard shards rows) operation
+pub fits_shard : (shard shards : ℕ) (rows : List (ℕ × List ℕ)) (operation : Operation) → Fits rows operation → operation_key operation % shards ≡ shard → Fits (shard_rows shard shards rows) operation
 fits_shard shard shards rows (Add key code) fits own = code_of_shard shard shards rows key own ∙ fits
 fits_shard shard shards rows (Delete key) fits own = ap (λ found. is_some found) (code_of_shard shard shards rows key own) ∙ fits

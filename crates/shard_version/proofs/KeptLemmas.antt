@@ -20,7 +20,7 @@ use Rattle.search_model.specs.Reading.{HasSame, unpadded}
 use Rattle.search_model.proofs.SameLemmas.{all_front, all_back}
 use Rattle.shard_version.specs.Contents.{Contents, IsVersion, empty_of}
 use Rattle.shard_version.specs.Tables.{AreStored, HasTables, counts_of, part_values}
-use Rattle.shard_version.specs.Kept.{AreChanged, AreEmpty, EachHas, EachTakes, IsKept, IsPartTable, IsPlace, Lost, Taken, TakesRow, HasRow, contents_of, next_with, no_rows, tabled_of}
+use Rattle.shard_version.specs.Kept.{AreChanged, AreEmpty, EachHas, EachTakes, AgreesWithRows, IsPartTable, IsPlace, Lost, Taken, TakesRow, HasRow, contents_of, next_with, no_rows, tabled_of}
 use Rattle.shard_version.specs.declared.part_table.PartTable.{PartTable}
 use Rattle.shard_version.proofs.PlaceLemmas.{above_absent, above_first, all_append, all_mapped, all_weaker, ascend_from, code_behind, cut_here, drop_here, inserted_between, removed_between, stands_here, stands_nowhere}
 use Rattle.shard_version.proofs.PartLemmas.{AddsValue, CountsValue, RemovesValue, counted_row, counts_lost, counts_taken, key_absent, key_present, list_short, postings_lost, postings_taken, value_fits, values_in_width}
@@ -45,7 +45,7 @@ unpadded_with : (bits : ℕ) (front back : List (ℕ × List ℕ)) (row : ℕ ×
 unpadded_with bits front back row = map-append (unpadded bits) front (row ∷ back)
 
 -- the kept rows ascend by key
-pub stored_ascend : {W : ℕ} (shard shards at : ℕ) (layout : Laid) (stored : List (ℕ × List ℕ)) (tables : List (PartTable W)) → IsKept (contents_of shard shards at layout stored) stored tables
+pub stored_ascend : {W : ℕ} (shard shards at : ℕ) (layout : Laid) (stored : List (ℕ × List ℕ)) (tables : List (PartTable W)) → AgreesWithRows (contents_of shard shards at layout stored) stored tables
     → IsStrictlySortedBy nat_cmp (keys_of stored)
 stored_ascend shard shards at layout stored tables kept = subst (λ (keys : List ℕ). IsStrictlySortedBy nat_cmp keys) (keys_unpadded layout.bits stored) kept.sound.ascending
 
@@ -118,7 +118,7 @@ part_without_row version front back key stored part table new stands rows_are ap
     }
 
 module _ {W : ℕ} (shard shards at : ℕ) (layout : Laid) (stored : List (ℕ × List ℕ)) (tables : List (PartTable W))
-    (kept : IsKept (contents_of shard shards at layout stored) stored tables) (key place : ℕ) where
+    (kept : AgreesWithRows (contents_of shard shards at layout stored) stored tables) (key place : ℕ) where
   abbrev seen : Contents
   seen = contents_of shard shards at layout stored
 
@@ -189,14 +189,14 @@ module _ {W : ℕ} (shard shards at : ℕ) (layout : Laid) (stored : List (ℕ �
 
       -- a version with the row in its tables and at its place is kept
       pub kept_with_row : (new : List (PartTable W)) → length stored < 1048576 → key % shards ≡ shard → AddsValue → AreChanged (Taken layout key stored_code (take layout.bits stored_code)) tables new (length tables)
-          → IsKept (contents_of shard shards (at + 1) layout (take place stored ++ (key, stored_code) ∷ drop place stored)) (take place stored ++ (key, stored_code) ∷ drop place stored) new
+          → AgreesWithRows (contents_of shard shards (at + 1) layout (take place stored ++ (key, stored_code) ∷ drop place stored)) (take place stored ++ (key, stored_code) ∷ drop place stored) new
       kept_with_row new room own added changed =
           let after : next_with seen (front ++ (key, code) ∷ back) ≡ contents_of shard shards (at + 1) layout (take place stored ++ (key, stored_code) ∷ drop place stored) =
           ap (next_with seen) (sym (unpadded_with layout.bits (take place stored) (drop place stored) (key, stored_code))) in
           let all : AreStored W layout.bits (take place stored ++ drop place stored) = subst (λ (others : List (ℕ × List ℕ)). AreStored W layout.bits others) (sym (take-append-drop place stored)) kept.stored_codes in
           let stand : ℕ × List ℕ → Type 0 = λ row. StandsFor W layout.bits row.1 (take layout.bits row.1) in
           let number = changed.number in
-          subst (λ (version : Contents). IsKept version (take place stored ++ (key, stored_code) ∷ drop place stored) new) after (record {
+          subst (λ (version : Contents). AgreesWithRows version (take place stored ++ (key, stored_code) ∷ drop place stored) new) after (record {
             sound = new_sound room own;
             few_words = kept.few_words;
             room = kept.room;
@@ -291,12 +291,12 @@ module _ {W : ℕ} (shard shards at : ℕ) (layout : Laid) (stored : List (ℕ �
 
         -- a version with the row out of its tables and its place is kept
         pub kept_without_row : (new : List (PartTable W)) → RemovesValue → AreChanged (Lost layout key (take layout.bits stored_code)) tables new (length tables)
-            → IsKept (contents_of shard shards (at + 1) layout (take place stored ++ drop (suc place) stored)) (take place stored ++ drop (suc place) stored) new
+            → AgreesWithRows (contents_of shard shards (at + 1) layout (take place stored ++ drop (suc place) stored)) (take place stored ++ drop (suc place) stored) new
         kept_without_row new removed changed =
             let after : next_with seen (front ++ past) ≡ contents_of shard shards (at + 1) layout (take place stored ++ drop (suc place) stored) = ap (next_with seen) (sym left_cut) in
             let stand : ℕ × List ℕ → Type 0 = λ row. StandsFor W layout.bits row.1 (take layout.bits row.1) in
             let number = changed.number in
-            subst (λ (version : Contents). IsKept version (take place stored ++ drop (suc place) stored) new) after (record {
+            subst (λ (version : Contents). AgreesWithRows version (take place stored ++ drop (suc place) stored) new) after (record {
               sound = left_sound;
               few_words = kept.few_words;
               room = kept.room;
@@ -334,7 +334,7 @@ empty_part {W} shard shards layout part counts =
 
 -- a version with no rows is kept
 pub kept_empty : {W : ℕ} (shard shards : ℕ) (layout : Laid) (tables : List (PartTable W)) → IsLaid layout → shard < shards → shards ≤ 16 → W ≤ 8 → layout.bits ≤ 64 * W → CountsNone
-    → AreEmpty layout tables (length layout.parts) → IsKept (empty_of shard shards layout) [] tables
+    → AreEmpty layout tables (length layout.parts) → AgreesWithRows (empty_of shard shards layout) [] tables
 unfolding IsStrictlySortedBy
 kept_empty shard shards layout tables laid own few words room counts empty = record {
   sound = record {
@@ -367,7 +367,7 @@ first_stored words bits number rows first is all =
     subst (λ (others : List (ℕ × List ℕ)). AreStored words bits others) (sym is) (all_front stand (take number rows) (drop number rows) split)
 
 -- the posting tables that callers see have the rows
-pub kept_tables : {W : ℕ} (contents : Contents) (stored : List (ℕ × List ℕ)) (tables : List (PartTable W)) → IsKept contents stored tables → HasTables W (tabled_of contents tables)
+pub kept_tables : {W : ℕ} (contents : Contents) (stored : List (ℕ × List ℕ)) (tables : List (PartTable W)) → AgreesWithRows contents stored tables → HasTables W (tabled_of contents tables)
 kept_tables {W} contents stored tables kept = record {
   room = kept.room;
   each = λ part inside.

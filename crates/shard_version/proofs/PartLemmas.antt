@@ -12,7 +12,7 @@ use Rattle.hamming_model.specs.Layouts.{part_count, part_distance, part_value}
 use Rattle.hamming_model.specs.Stored.{AreCodeRows}
 use Rattle.ball_walk.specs.Balls.{is_near}
 use Rattle.part_layout.specs.Laid.{part_at}
-use Rattle.posting_table.specs.Tables.{Table, LosesEntry, has_key, posting_list, with_entry, with_list}
+use Rattle.posting_table.specs.Tables.{Table, LosesEntry, has_key, posting_list, with_posting, with_list}
 use Rattle.count_table.specs.Copies.{copies_at, table_of, with_one, without_one}
 use Rattle.search_model.specs.Reading.{HasSame, rows_with, unpadded}
 use Rattle.search_model.proofs.PostingLemmas.{near_at_part, value_below}
@@ -116,7 +116,7 @@ module _ {W : ℕ} (version : Contents) (front back : List (ℕ × List ℕ)) (k
     old_sums v below f = (postings.lists.each v below).sums f ∙ ap (λ (rows : List (ℕ × List ℕ)). sum_by f (rows_with rows positions v)) rows_are
 
     new_lists : (v : ℕ) → v < 2 ^ length positions → (same : Bool) → (v == value) ≡ same
-        → HasSame (map (unpadded bits) (posting_list (with_entry table value (key, stored)) v)) (rows_with (front ++ row ∷ back) positions v)
+        → HasSame (map (unpadded bits) (posting_list (with_posting table value (key, stored)) v)) (rows_with (front ++ row ∷ back) positions v)
     new_lists v below false e =
         let other = eqb-false v value e in
         let here = get_or-set_other table.lists value v (posting_list table value ++ (key, stored) ∷ []) [] other in
@@ -125,26 +125,26 @@ module _ {W : ℕ} (version : Contents) (front back : List (ℕ × List ℕ)) (k
         let own : v ≡ value = eqb-true v value e in
         let list = posting_list table value in
         let here = get_or-set_same table.lists value (list ++ (key, stored) ∷ []) [] in_lists in
-        let sums : (f : ℕ × List ℕ → ℕ) → sum_by f (map (unpadded bits) (posting_list (with_entry table value (key, stored)) value)) ≡ sum_by f (rows_with (front ++ row ∷ back) positions value) = λ f. (
+        let sums : (f : ℕ × List ℕ → ℕ) → sum_by f (map (unpadded bits) (posting_list (with_posting table value (key, stored)) value)) ≡ sum_by f (rows_with (front ++ row ∷ back) positions value) = λ f. (
         let mapped = ap (λ (entries : List (ℕ × List ℕ)). sum_by f (map (unpadded bits) entries)) here ∙ ap (sum_by f) (map-append (unpadded bits) list ((key, stored) ∷ [])) in
         let split = sum_by-append f (map (unpadded bits) list) (row ∷ []) in
         let one = sum_by-cons f row [] in
         let before = old_sums value value_fits f in
         let after = own_more f in
         omega arith) in
-        record { sums = λ f. subst (λ (u : ℕ). sum_by f (map (unpadded bits) (posting_list (with_entry table value (key, stored)) u)) ≡ sum_by f (rows_with (front ++ row ∷ back) positions u)) (sym own) (sums f) }
+        record { sums = λ f. subst (λ (u : ℕ). sum_by f (map (unpadded bits) (posting_list (with_posting table value (key, stored)) u)) ≡ sum_by f (rows_with (front ++ row ∷ back) positions u)) (sym own) (sums f) }
 
-    new_codes : (v : ℕ) → (same : Bool) → (v == value) ≡ same → AreStored W bits (posting_list (with_entry table value (key, stored)) v)
+    new_codes : (v : ℕ) → (same : Bool) → (v == value) ≡ same → AreStored W bits (posting_list (with_posting table value (key, stored)) v)
     new_codes v false e =
         subst (λ (list : List (ℕ × List ℕ)). AreStored W bits list) (sym (get_or-set_other table.lists value v (posting_list table value ++ (key, stored) ∷ []) [] (eqb-false v value e))) (postings.codes v)
     new_codes v true e =
         let list = posting_list table value in
         let more : AreStored W bits (list ++ (key, stored) ∷ []) = all_append (λ entry. StandsFor W bits entry.1 (take bits entry.1)) list ((key, stored) ∷ []) (postings.codes value) (stands, tt) in
-        let own : AreStored W bits (posting_list (with_entry table value (key, stored)) value) = subst (λ (entries : List (ℕ × List ℕ)). AreStored W bits entries) (sym (get_or-set_same table.lists value (list ++ (key, stored) ∷ []) [] in_lists)) more in
-        subst (λ (u : ℕ). AreStored W bits (posting_list (with_entry table value (key, stored)) u)) (sym (eqb-true v value e)) own
+        let own : AreStored W bits (posting_list (with_posting table value (key, stored)) value) = subst (λ (entries : List (ℕ × List ℕ)). AreStored W bits entries) (sym (get_or-set_same table.lists value (list ++ (key, stored) ∷ []) [] in_lists)) more in
+        subst (λ (u : ℕ). AreStored W bits (posting_list (with_posting table value (key, stored)) u)) (sym (eqb-true v value e)) own
 
     -- the posting lists with the row's entry are those of the rows with the row
-    pub postings_taken : ArePostings W (next_with version (front ++ (key, take version.layout.bits stored) ∷ back)) part (with_entry table (part_value (take version.layout.bits stored) (part_at version.layout part)) (key, stored))
+    pub postings_taken : ArePostings W (next_with version (front ++ (key, take version.layout.bits stored) ∷ back)) part (with_posting table (part_value (take version.layout.bits stored) (part_at version.layout part)) (key, stored))
     postings_taken = record {
       width = postings.width;
       lists = record { each = λ v below. new_lists v below (v == value) refl };

@@ -8,7 +8,7 @@ use Rattle.std.specs.Ordering.{nat_cmp}
 use Rattle.hamming_model.specs.declared.limits.TheConstants.{ENTRIES_MOST, SHARDS_MOST}
 use Rattle.hamming_model.specs.History.{Operation, JournalEntry, Add, Delete, Fits, changed}
 use Rattle.hamming_model.specs.Stored.{AreCodeRows}
-use Rattle.entry_log.specs.Meaning.{key_of}
+use Rattle.entry_log.specs.Meaning.{operation_key}
 use Rattle.part_layout.specs.Laid.{Laid, IsLaid, laid_code}
 
 -- the shard of so many, the number of entries taken in, the layout, and the rows: key and code, ascending by key
@@ -34,7 +34,7 @@ empty_of shard shards layout = record { shard = shard; shards = shards; at = 0; 
 
 -- a shard's rows after an operation, which changes those of its own shard alone
 abbrev pub changed_in : ℕ → ℕ → List (ℕ × List ℕ) → Operation → List (ℕ × List ℕ)
-changed_in shard shards rows operation = if key_of operation % shards == shard then changed rows operation else rows
+changed_in shard shards rows operation = if operation_key operation % shards == shard then changed rows operation else rows
 
 -- a version after one more entry
 abbrev pub after_entry : Contents → JournalEntry → Contents
@@ -43,7 +43,7 @@ after_entry version entry =
 
 -- an operation of the version's own shard fits its rows: an added key is absent, a deleted one present
 abbrev pub FitsShard : Contents → Operation → Type 0
-FitsShard version operation = key_of operation % version.shards ≡ version.shard → Fits version.rows operation
+FitsShard version operation = operation_key operation % version.shards ≡ version.shard → Fits version.rows operation
 
 -- there is room for the row that an operation of the version's own shard adds
 abbrev pub HasRoomFor : Contents → Operation → Type 0

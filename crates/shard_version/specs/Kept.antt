@@ -7,7 +7,7 @@ use Rattle.std.specs.Ordering.{nat_cmp}
 use Rattle.hamming_model.specs.declared.limits.TheConstants.{ENTRIES_MOST, WORDS_MOST}
 use Rattle.hamming_model.specs.Layouts.{part_value}
 use Rattle.part_layout.specs.Laid.{Laid, part_at}
-use Rattle.posting_table.specs.Tables.{LosesEntry, has_key, posting_list, with_entry, with_list}
+use Rattle.posting_table.specs.Tables.{LosesEntry, has_key, posting_list, with_posting, with_list}
 use Rattle.posting_table.specs.Tables as postings
 use Rattle.count_table.specs.Copies.{copies_at, total_of, with_one, without_one}
 use Rattle.count_table.specs.Copies as counts
@@ -44,7 +44,7 @@ pub record IsPartTable {W : ℕ} (version : Contents) (part : ℕ) (table : Part
   pub counts : table.counts ≡ counts_of version part
 
 -- rows, posting lists and counts agree: each kept code stands for the row's, and each part has tables of these rows
-pub record IsKept {W : ℕ} (version : Contents) (stored : List (ℕ × List ℕ)) (tables : List (PartTable W)) : Type 0 where
+pub record AgreesWithRows {W : ℕ} (version : Contents) (stored : List (ℕ × List ℕ)) (tables : List (PartTable W)) : Type 0 where
   pub sound : IsVersion version
   pub few_words : W ≤ WORDS_MOST
   pub room : version.layout.bits ≤ 64 * W
@@ -74,7 +74,7 @@ pub record TakesRow {W : ℕ} (table : PartTable W) (value key : ℕ) : Type 0 w
 
 -- the tables with one row more
 abbrev pub with_row : {W : ℕ} → PartTable W → ℕ → ℕ × List ℕ → PartTable W
-with_row table value entry = record { postings = with_entry table.postings value entry; counts = with_one table.counts value }
+with_row table value entry = record { postings = with_posting table.postings value entry; counts = with_one table.counts value }
 
 -- the key has a row with a value
 pub record HasRow {W : ℕ} (table : PartTable W) (value key : ℕ) : Type 0 where

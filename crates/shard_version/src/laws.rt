@@ -2,7 +2,7 @@ ghost use Rattle.std.specs.Prelude.{◌≡◌, ℕ, ◌%◌, ◌<◌, ◌≤◌,
 ghost use Rattle.hamming_model.specs.Codes.{IsCode};
 ghost use Rattle.hamming_model.specs.History.{JournalEntry, Operation, Fits, rows_of, shard_rows};
 ghost use Rattle.hamming_model.specs.Layouts.{part_count, part_value};
-ghost use Rattle.entry_log.specs.Meaning.{key_of};
+ghost use Rattle.entry_log.specs.Meaning.{operation_key};
 ghost use Rattle.part_layout.specs.Laid.{Laid, part_at};
 ghost use Rattle.count_table.specs.Copies.{count_near};
 ghost use Rattle.shard_version.specs.Contents.{Contents, IsVersion, after_entry, changed_in, empty_of};
@@ -27,7 +27,7 @@ pub fn versions_follow_the_history()
     ensures few { (shard shards : ℕ) (history : List JournalEntry) →
         length (shard_rows shard shards (rows_of history)) ≤ length history }
     ensures fits { (shard shards : ℕ) (rows : List (ℕ × List ℕ)) (operation : Operation) →
-        Fits rows operation → key_of operation % shards ≡ shard →
+        Fits rows operation → operation_key operation % shards ≡ shard →
         Fits (shard_rows shard shards rows) operation }
 {}
 

@@ -41,7 +41,7 @@ pub struct Version<const W: usize> {
 impl<const W: usize> Model for Version<W> {
     ghost use Rattle.std.specs.Arc.{arc_value};
     ghost use Rattle.shard_version.specs.Tables.{Tabled, tabled_code};
-    ghost use Rattle.shard_version.specs.Kept.{IsKept, contents_of, tabled_of};
+    ghost use Rattle.shard_version.specs.Kept.{AgreesWithRows, contents_of, tabled_of};
 
     ghost Value = { Tabled };
 
@@ -49,7 +49,7 @@ impl<const W: usize> Model for Version<W> {
 
     ghost view = { λ kept. tabled_of (contents_of kept.shard kept.shards kept.at (arc_value kept.layout) kept.rows) kept.tables.items };
 
-    ghost invariant = { λ kept. IsKept {W = W} (contents_of kept.shard kept.shards kept.at (arc_value kept.layout) kept.rows) kept.rows kept.tables.items };
+    ghost invariant = { λ kept. AgreesWithRows {W = W} (contents_of kept.shard kept.shards kept.at (arc_value kept.layout) kept.rows) kept.rows kept.tables.items };
 }
 
 impl<const W: usize> Version<W> {

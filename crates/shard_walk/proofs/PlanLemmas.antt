@@ -3,7 +3,7 @@ use Rattle.std.proofs.Common.{ℕ, ◌+◌, ◌<◌, ◌≤◌, ℤ, pos, ◌≤
 use Rattle.std.specs.List.{All}
 use Rattle.threshold_model.specs.Vectors.{row_counts, IsVector, IsChoice, IsLeast}
 use Rattle.shard_walk.specs.Counted.{count_in, HasCounts}
-use Rattle.shard_walk.specs.Planned.{IsPlan, planned_of}
+use Rattle.shard_walk.specs.Planned.{IsPlanned, planned_of}
 use Rattle.shard_walk.specs.Probed.{Probed, IsProbed, parts_in, code_in}
 use Rattle.shard_walk.proofs.ChoiceLemmas.{choice_agrees, least_agrees}
 
@@ -32,7 +32,7 @@ module _ (none_over : NoneOver) (at_most_rows : AtMostRows) (words : ℕ) (probe
       → tau ≤ probe.version.contents.layout.bits → (thresholds : List ℤ) (least : ℕ)
       → IsChoice (count_in counts tau) tau (length (parts_in probe.version)) thresholds
       → IsLeast (count_in counts tau) tau (length (parts_in probe.version)) least
-      → IsPlan words (planned_of probe.version probe.stored tau thresholds least)
+      → IsPlanned words (planned_of probe.version probe.stored tau thresholds least)
   plan_of_table has near thresholds least choice is_least =
       let parts = length (parts_in probe.version) in
       let agree =

@@ -7,7 +7,7 @@ use Rattle.hamming_model.specs.Layouts.{part_value}
 use Rattle.ball_walk.specs.Balls.{ball, values, values_near, is_near}
 use Rattle.threshold_model.specs.Vectors.{units_of, cost, row_counts}
 use Rattle.search_model.proofs.SameLemmas.{sum_ones}
-use Rattle.shard_walk.specs.Planned.{Planned, IsPlan, parts_of, query_of}
+use Rattle.shard_walk.specs.Planned.{Planned, IsPlanned, parts_of, planned_query}
 use Rattle.threshold_model.specs.Bounds.{values_of_parts}
 use Rattle.shard_walk.specs.Walks.{values_of}
 
@@ -36,7 +36,7 @@ module _ (sums : (f : ℕ → ℕ) (value width units : ℕ) → sum_by f (ball 
       omega (arith, sum_by-cons (λ other. 2 ^ length other) part parts)
 
 -- the least cost is that of the thresholds
-pub least_is_cost : (words : ℕ) (p : Planned) → IsPlan words p → p.least ≡ cost (row_counts p.version.contents.rows (parts_of p) (query_of p)) p.thresholds
+pub least_is_cost : (words : ℕ) (p : Planned) → IsPlanned words p → p.least ≡ cost (row_counts p.version.contents.rows (parts_of p) (planned_query p)) p.thresholds
 least_is_cost words p plan =
     let found = plan.least.attained in
     omega (arith, plan.least.none_cheaper p.thresholds plan.choice.vector, plan.choice.none_cheaper found.0 found.1, found.2)

@@ -9,8 +9,8 @@ use Rattle.hamming_model.specs.Scan.{hit_of}
 use Rattle.threshold_model.specs.Finding.{threshold_at}
 use Rattle.search_model.specs.Reading.{parts_read, number_read}
 use Rattle.search_model.specs.Keeping.{is_kept, hits_of_parts}
-use Rattle.shard_walk.specs.Planned.{Planned, parts_of, part_of, query_of, list_of, kept_hit}
-use Rattle.shard_walk.specs.Walks.{Place, IsPlace, BeginsValue, PassesPart, part_begun, value_begun, after_posting, rest_of_list, rows_left, reads_left, hits_left, values_of, values_left}
+use Rattle.shard_walk.specs.Planned.{Planned, parts_of, part_of, planned_query, list_of, kept_hit}
+use Rattle.shard_walk.specs.Walks.{Place, IsWalkPlace, BeginsValue, PassesPart, part_begun, value_begun, after_posting, rest_of_list, rows_left, reads_left, hits_left, values_of, values_left}
 
 kept_or_passed : {X Y : Type 0} (b : Bool) (h : X → Y) (x : X) (xs : List X) (rest : List Y)
     → map h (cond b (x ∷ xs) xs) ++ rest ≡ option_to_list (cond b (Some (h x)) None) ++ (map h xs ++ rest)
@@ -19,9 +19,9 @@ kept_or_passed false h x xs rest = refl
 
 -- what the parts after one read
 abbrev later : Planned → ℕ → List (List (ℕ × List ℕ))
-later p part = parts_read (list_of p) (part + 1) (drop (part + 1) (parts_of p)) (drop (part + 1) p.thresholds) (query_of p)
+later p part = parts_read (list_of p) (part + 1) (drop (part + 1) (parts_of p)) (drop (part + 1) p.thresholds) (planned_query p)
 
-module _ (p : Planned) (w : Place) (place : IsPlace p w) where
+module _ (p : Planned) (w : Place) (place : IsWalkPlace p w) where
   module _ (more : w.next < w.size) (row : ℕ × List ℕ) (is_row : get_or (list_of p w.part w.value) w.next row ≡ row) where
     rest_cut : rest_of_list p w ≡ row ∷ rest_of_list p (after_posting w)
     rest_cut =
@@ -34,17 +34,17 @@ module _ (p : Planned) (w : Place) (place : IsPlace p w) where
 
     pub read_hits : hits_left p w ≡ option_to_list (kept_hit p w.part row) ++ hits_left p (after_posting w)
     read_hits =
-        ap (hits_of_parts (parts_of p) p.thresholds (query_of p) p.tau w.part) rows_cut
-        ∙ kept_or_passed (is_kept (parts_of p) p.thresholds (query_of p) p.tau w.part row) (hit_of (query_of p)) row
-        (filter (is_kept (parts_of p) p.thresholds (query_of p) p.tau w.part) (rest_of_list p (after_posting w) ++ flat_map (list_of p w.part) w.ball))
-        (hits_of_parts (parts_of p) p.thresholds (query_of p) p.tau (w.part + 1) (later p w.part))
+        ap (hits_of_parts (parts_of p) p.thresholds (planned_query p) p.tau w.part) rows_cut
+        ∙ kept_or_passed (is_kept (parts_of p) p.thresholds (planned_query p) p.tau w.part row) (hit_of (planned_query p)) row
+        (filter (is_kept (parts_of p) p.thresholds (planned_query p) p.tau w.part) (rest_of_list p (after_posting w) ++ flat_map (list_of p w.part) w.ball))
+        (hits_of_parts (parts_of p) p.thresholds (planned_query p) p.tau (w.part + 1) (later p w.part))
 
     pub read_reads : reads_left p w ≡ reads_left p (after_posting w) + 1
     read_reads =
         let cut = ap number_read rows_cut in
         omega arith
 
-  pub read_place : w.next < w.size → IsPlace p (after_posting w)
+  pub read_place : w.next < w.size → IsWalkPlace p (after_posting w)
   read_place more = record { few_parts = place.few_parts; thresholds = place.thresholds; part = place.part; ball = place.ball; value = place.value; next = omega arith; size = place.size }
 
   module _ (done : w.next ≡ w.size) where
@@ -68,7 +68,7 @@ module _ (p : Planned) (w : Place) (place : IsPlace p w) where
           let size = ap length first in
           record {
             place = record { few_parts = place.few_parts; thresholds = place.thresholds; part = place.part; ball = all; value = below; next = omega arith; size = omega arith };
-            hits = ap (hits_of_parts (parts_of p) p.thresholds (query_of p) p.tau w.part) value_rows;
+            hits = ap (hits_of_parts (parts_of p) p.thresholds (planned_query p) p.tau w.part) value_rows;
             reads = ap number_read value_rows;
             values = omega arith;
           }
@@ -78,7 +78,7 @@ module _ (p : Planned) (w : Place) (place : IsPlace p w) where
     end_reads none last =
         ap number_read (rows_done
         ∙ ap (λ values. flat_map (list_of p w.part) values ∷ later p w.part) none
-        ∙ ap (λ layout. [] ∷ parts_read (list_of p) (w.part + 1) layout (drop (w.part + 1) p.thresholds) (query_of p)) (drop_all (w.part + 1) (parts_of p) last))
+        ∙ ap (λ layout. [] ∷ parts_read (list_of p) (w.part + 1) layout (drop (w.part + 1) p.thresholds) (planned_query p)) (drop_all (w.part + 1) (parts_of p) last))
 
 module _ (p : Planned) (part : ℕ) (size : length p.thresholds ≡ length (parts_of p)) (less : part < length (parts_of p)) where
   parts_cut : drop part (parts_of p) ≡ part_of p part ∷ drop (part + 1) (parts_of p)
@@ -88,24 +88,24 @@ module _ (p : Planned) (part : ℕ) (size : length p.thresholds ≡ length (part
   thresholds_cut = drop_more p.thresholds part (negsuc 0) (omega arith)
 
   -- a part that begins has all its rows left, and so have those after it
-  pub begun_rows : rows_left p (part_begun p part) ≡ parts_read (list_of p) part (drop part (parts_of p)) (drop part p.thresholds) (query_of p)
+  pub begun_rows : rows_left p (part_begun p part) ≡ parts_read (list_of p) part (drop part (parts_of p)) (drop part p.thresholds) (planned_query p)
   begun_rows =
-      sym (ap (λ layout. parts_read (list_of p) part layout (drop part p.thresholds) (query_of p)) parts_cut
-      ∙ ap (λ ts. parts_read (list_of p) part (part_of p part ∷ drop (part + 1) (parts_of p)) ts (query_of p)) thresholds_cut)
+      sym (ap (λ layout. parts_read (list_of p) part layout (drop part p.thresholds) (planned_query p)) parts_cut
+      ∙ ap (λ ts. parts_read (list_of p) part (part_of p part ∷ drop (part + 1) (parts_of p)) ts (planned_query p)) thresholds_cut)
 
-  pub begun_values : values_left p (part_begun p part) ≡ values_of (drop part (parts_of p)) (drop part p.thresholds) (query_of p)
+  pub begun_values : values_left p (part_begun p part) ≡ values_of (drop part (parts_of p)) (drop part p.thresholds) (planned_query p)
   begun_values =
-      sym (ap (λ layout. values_of layout (drop part p.thresholds) (query_of p)) parts_cut
-      ∙ ap (λ ts. values_of (part_of p part ∷ drop (part + 1) (parts_of p)) ts (query_of p)) thresholds_cut)
+      sym (ap (λ layout. values_of layout (drop part p.thresholds) (planned_query p)) parts_cut
+      ∙ ap (λ ts. values_of (part_of p part ∷ drop (part + 1) (parts_of p)) ts (planned_query p)) thresholds_cut)
 
-module _ (p : Planned) (w : Place) (place : IsPlace p w) (done : w.next ≡ w.size) (none : w.ball ≡ []) (size : length p.thresholds ≡ length (parts_of p)) (more : w.part + 1 < length (parts_of p)) where
+module _ (p : Planned) (w : Place) (place : IsWalkPlace p w) (done : w.next ≡ w.size) (none : w.ball ≡ []) (size : length p.thresholds ≡ length (parts_of p)) (more : w.part + 1 < length (parts_of p)) where
   part_rows : rows_left p w ≡ [] ∷ rows_left p (part_begun p (w.part + 1))
   part_rows =
       rows_done p w place done ∙ ap (λ values. flat_map (list_of p w.part) values ∷ later p w.part) none
       ∙ ap (λ rows. [] ∷ rows) (sym (begun_rows p (w.part + 1) size more))
 
   pub part_hits : hits_left p (part_begun p (w.part + 1)) ≡ hits_left p w
-  part_hits = sym (ap (hits_of_parts (parts_of p) p.thresholds (query_of p) p.tau w.part) part_rows)
+  part_hits = sym (ap (hits_of_parts (parts_of p) p.thresholds (planned_query p) p.tau w.part) part_rows)
 
   pub part_reads : reads_left p (part_begun p (w.part + 1)) ≡ reads_left p w
   part_reads =
@@ -118,7 +118,7 @@ module _ (p : Planned) (w : Place) (place : IsPlace p w) (done : w.next ≡ w.si
       let empty = ap length none in
       omega arith
 
-module _ (p : Planned) (w : Place) (place : IsPlace p w) (done : w.next ≡ w.size) (none : w.ball ≡ []) where
+module _ (p : Planned) (w : Place) (place : IsWalkPlace p w) (done : w.next ≡ w.size) (none : w.ball ≡ []) where
   -- where something is left there is another part
   pub more_parts : 0 < reads_left p w → w.part + 1 < length (parts_of p)
   more_parts some =
@@ -127,7 +127,7 @@ module _ (p : Planned) (w : Place) (place : IsPlace p w) (done : w.next ≡ w.si
       (cases_lt (w.part + 1) (length (parts_of p)))
 
   -- and it is passed on to
-  pub passes : w.part + 1 < length (parts_of p) → IsPlace p (part_begun p (w.part + 1)) → PassesPart p w (part_begun p (w.part + 1))
+  pub passes : w.part + 1 < length (parts_of p) → IsWalkPlace p (part_begun p (w.part + 1)) → PassesPart p w (part_begun p (w.part + 1))
   passes more begun = record {
     place = begun;
     next_part = refl;

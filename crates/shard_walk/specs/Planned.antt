@@ -9,7 +9,7 @@ use Rattle.threshold_model.specs.Finding.{first_part, part_distances, threshold_
 use Rattle.search_model.specs.Keeping.{is_kept}
 use Rattle.shard_version.specs.Contents.{IsVersion}
 use Rattle.shard_version.specs.Tables.{Tabled, tabled_code, HasTables}
-use Rattle.shard_walk.specs.Probed.{parts_in, part_in, code_in, list_in, KeepsCode}
+use Rattle.shard_walk.specs.Probed.{parts_in, part_in, code_in, probed_list, KeepsCode}
 
 -- the version, the words of the query, its radius, and the threshold vector with its cost
 pub record Planned : Type 0 where
@@ -47,52 +47,52 @@ abbrev pub part_of : Planned → ℕ → List ℕ
 part_of plan part = part_in plan.version part
 
 -- the code that words keep
-abbrev pub code_of : Planned → List ℕ → List ℕ
-code_of plan stored = code_in plan.version stored
+abbrev pub code_of_plan : Planned → List ℕ → List ℕ
+code_of_plan plan stored = code_in plan.version stored
 
 -- words that keep a code
 abbrev pub IsStored : ℕ → Planned → List ℕ → Type 0
 IsStored words plan stored = KeepsCode words plan.version stored
 
 -- the code of the query
-abbrev pub query_of : Planned → List ℕ
-query_of plan = code_of plan plan.stored
+abbrev pub planned_query : Planned → List ℕ
+planned_query plan = code_of_plan plan plan.stored
 
 -- the rows in the posting list of a part's value, in the order of the list
 abbrev pub list_of : Planned → ℕ → ℕ → List (ℕ × List ℕ)
-list_of plan part value = list_in plan.version part value
+list_of plan part value = probed_list plan.version part value
 
 -- whether a part finds a code
 abbrev pub is_found : Planned → ℕ → List ℕ → Bool
 is_found plan part code =
-    nat_lt (part_distance (part_of plan part) code (query_of plan)) (units_of (threshold_at plan.thresholds part))
+    nat_lt (part_distance (part_of plan part) code (planned_query plan)) (units_of (threshold_at plan.thresholds part))
 
 -- the first part that finds a code
 abbrev pub part_found : Planned → List ℕ → ℕ
 part_found plan code =
-    first_part (map units_of plan.thresholds) (part_distances (parts_of plan) code (query_of plan))
+    first_part (map units_of plan.thresholds) (part_distances (parts_of plan) code (planned_query plan))
 
 -- the hit of a row, if a part keeps it
 abbrev pub kept_hit : Planned → ℕ → ℕ × List ℕ → Option Hit
 kept_hit plan part row =
-    if is_kept (parts_of plan) plan.thresholds (query_of plan) plan.tau part row
-    then Some (hit_of (query_of plan) row) else None
+    if is_kept (parts_of plan) plan.thresholds (planned_query plan) plan.tau part row
+    then Some (hit_of (planned_query plan) row) else None
 
 -- the thresholds are the first of the cheapest vectors, for codes of so many words
-pub record IsPlan (words : ℕ) (plan : Planned) : Type 0 where
+pub record IsPlanned (words : ℕ) (plan : Planned) : Type 0 where
   pub few_words : words ≤ 8
   pub version : IsVersion plan.version.contents
   pub tables : HasTables words plan.version
   pub query : IsStored words plan plan.stored
   pub near : plan.tau ≤ plan.version.contents.layout.bits
-  pub choice : IsChoice (row_counts plan.version.contents.rows (parts_of plan) (query_of plan))
+  pub choice : IsChoice (row_counts plan.version.contents.rows (parts_of plan) (planned_query plan))
       plan.tau (length (parts_of plan)) plan.thresholds
-  pub least : IsLeast (row_counts plan.version.contents.rows (parts_of plan) (query_of plan))
+  pub least : IsLeast (row_counts plan.version.contents.rows (parts_of plan) (planned_query plan))
       plan.tau (length (parts_of plan)) plan.least
   pub few : plan.least ≤ length plan.version.contents.rows
 
 -- what a plan is of: a query on a version
-pub record Plans (version : Tabled) (stored : List ℕ) (tau : ℕ) (plan : Planned) : Type 0 where
+pub record PlansQuery (version : Tabled) (stored : List ℕ) (tau : ℕ) (plan : Planned) : Type 0 where
   pub version_is : plan.version ≡ version
   pub stored_is : plan.stored ≡ stored
   pub tau_is : plan.tau ≡ tau

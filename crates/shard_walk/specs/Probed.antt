@@ -41,8 +41,8 @@ KeepsCode words version stored =
     StandsFor words version.contents.layout.bits stored (code_in version stored)
 
 -- the rows in the posting list of a part's value, in the order of the list
-abbrev pub list_in : Tabled → ℕ → ℕ → List (ℕ × List ℕ)
-list_in version part value =
+abbrev pub probed_list : Tabled → ℕ → ℕ → List (ℕ × List ℕ)
+probed_list version part value =
     map (unpadded version.contents.layout.bits) (posting_list (table_at version part) value)
 
 -- a code of so many words on a version whose codes have as many

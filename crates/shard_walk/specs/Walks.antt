@@ -9,7 +9,7 @@ use Rattle.threshold_model.specs.Vectors.{units_of}
 use Rattle.threshold_model.specs.Finding.{threshold_at}
 use Rattle.search_model.specs.Reading.{parts_read, number_read}
 use Rattle.search_model.specs.Keeping.{hits_of_parts}
-use Rattle.shard_walk.specs.Planned.{Planned, parts_of, part_of, query_of, list_of}
+use Rattle.shard_walk.specs.Planned.{Planned, parts_of, part_of, planned_query, list_of}
 
 -- the part, the values of its ball that are left, and the posting list of a value: the next place in
 -- it, and where it ends
@@ -23,7 +23,7 @@ pub record Place : Type 0 where
 -- the ball of a part
 abbrev pub ball_of : Planned → ℕ → List ℕ
 ball_of plan part =
-    ball (part_value (query_of plan) (part_of plan part)) (length (part_of plan part))
+    ball (part_value (planned_query plan) (part_of plan part)) (length (part_of plan part))
     (units_of (threshold_at plan.thresholds part))
 
 -- a part of which nothing was read
@@ -49,7 +49,7 @@ abbrev pub rows_left : Planned → Place → List (List (ℕ × List ℕ))
 rows_left plan place =
     (rest_of_list plan place ++ flat_map (list_of plan place.part) place.ball)
     ∷ parts_read (list_of plan) (place.part + 1) (drop (place.part + 1) (parts_of plan))
-    (drop (place.part + 1) plan.thresholds) (query_of plan)
+    (drop (place.part + 1) plan.thresholds) (planned_query plan)
 
 -- how many they are
 abbrev pub reads_left : Planned → Place → ℕ
@@ -58,7 +58,7 @@ reads_left plan place = number_read (rows_left plan place)
 -- the hits that will be kept of them
 abbrev pub hits_left : Planned → Place → List Hit
 hits_left plan place =
-    hits_of_parts (parts_of plan) plan.thresholds (query_of plan) plan.tau place.part
+    hits_of_parts (parts_of plan) plan.thresholds (planned_query plan) plan.tau place.part
     (rows_left plan place)
 
 -- how many values the balls of parts have
@@ -73,10 +73,10 @@ abbrev pub values_left : Planned → Place → ℕ
 values_left plan place =
     length place.ball
     + values_of (drop (place.part + 1) (parts_of plan)) (drop (place.part + 1) plan.thresholds)
-    (query_of plan)
+    (planned_query plan)
 
 -- a place at a part of the plan, in the posting list of a value there
-pub record IsPlace (plan : Planned) (place : Place) : Type 0 where
+pub record IsWalkPlace (plan : Planned) (place : Place) : Type 0 where
   pub few_parts : length (parts_of plan) ≤ 64
   pub thresholds : length plan.thresholds ≡ length (parts_of plan)
   pub part : place.part < length (parts_of plan)
@@ -87,14 +87,14 @@ pub record IsPlace (plan : Planned) (place : Place) : Type 0 where
 
 -- the next value of a ball was taken, and what is left to read is as before
 pub record BeginsValue (plan : Planned) (old new : Place) : Type 0 where
-  pub place : IsPlace plan new
+  pub place : IsWalkPlace plan new
   pub hits : hits_left plan new ≡ hits_left plan old
   pub reads : reads_left plan new ≡ reads_left plan old
   pub values : values_left plan old ≡ values_left plan new + 1
 
 -- a part with nothing left was passed, and what is left to read is as before
 pub record PassesPart (plan : Planned) (old new : Place) : Type 0 where
-  pub place : IsPlace plan new
+  pub place : IsWalkPlace plan new
   pub next_part : new.part ≡ old.part + 1
   pub at_start : new.next ≡ new.size
   pub hits : hits_left plan new ≡ hits_left plan old

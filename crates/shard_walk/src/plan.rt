@@ -5,7 +5,7 @@ ghost use Rattle.std.specs.Prelude.{length, take, slice_index_or, IfOk};
 ghost use Rattle.std.specs.Arc.{arc_value};
 ghost use Rattle.hamming_model.specs.Codes.{StandsFor};
 ghost use Rattle.threshold_model.specs.Vectors.{units_of};
-ghost use Rattle.shard_walk.specs.Planned.{IsPlan, Plans, IsStored, parts_of, part_of, code_of};
+ghost use Rattle.shard_walk.specs.Planned.{IsPlanned, PlansQuery, IsStored, parts_of, part_of, code_of_plan};
 ghost use Rattle.shard_walk.specs.Planned.{list_of, is_found, part_found, kept_hit};
 ghost use Rattle.shard_walk.specs.Walks.{ball_of};
 
@@ -32,7 +32,7 @@ pub struct Plan<const W: usize> {
 }
 
 impl<const W: usize> Model for Plan<W> {
-    ghost use Rattle.shard_walk.specs.Planned.{IsPlan, Planned, planned_code, planned_of};
+    ghost use Rattle.shard_walk.specs.Planned.{IsPlanned, Planned, planned_code, planned_of};
 
     ghost Value = { Planned };
 
@@ -41,7 +41,7 @@ impl<const W: usize> Model for Plan<W> {
     ghost view = { λ kept. planned_of kept.probe.version kept.probe.stored
         kept.tau kept.thresholds.entries kept.least };
 
-    ghost invariant = { λ kept. IsPlan W (planned_of kept.probe.version kept.probe.stored
+    ghost invariant = { λ kept. IsPlanned W (planned_of kept.probe.version kept.probe.stored
         kept.tau kept.thresholds.entries kept.least) };
 }
 
@@ -61,7 +61,7 @@ impl<const W: usize> Plan<W> {
         requires few_words { W ≤ 8 }
         requires query { StandsFor W (arc_value version).contents.layout.bits query (take (arc_value version).contents.layout.bits query) }
         requires near { tau ≤ (arc_value version).contents.layout.bits }
-        ensures { IfOk result (λ plan. Plans (arc_value version.entry) query.entry tau plan) }
+        ensures { IfOk result (λ plan. PlansQuery (arc_value version.entry) query.entry tau plan) }
     {
         vector_allows_tau_and_one_units();
         least_is_at_most_the_greatest_count();
@@ -82,7 +82,7 @@ impl<const W: usize> Plan<W> {
     /// The least cost of a vector: how many postings will be read.
     pub fn least(&self) -> u64
         ensures least { result ≡ self.now.least }
-        ensures plan { IsPlan W self.now }
+        ensures plan { IsPlanned W self.now }
     {
         self.least
     }
@@ -104,7 +104,7 @@ impl<const W: usize> Plan<W> {
     // The number of parts.
     pub(crate) fn parts(&self) -> usize
         ensures parts { result ≡ length (parts_of self.now) }
-        ensures plan { IsPlan W self.now }
+        ensures plan { IsPlanned W self.now }
     {
         self.probe.parts()
     }
@@ -114,7 +114,7 @@ impl<const W: usize> Plan<W> {
         requires { part < length (parts_of self.now) }
         ensures values { result ≡ ball_of self.now part }
         ensures in_width { All (λ value. value < 2 ^ length (part_of self.now part)) result }
-        ensures plan { IsPlan W self.now }
+        ensures plan { IsPlanned W self.now }
     {
         let radius = self.thresholds.entries()[part];
         self.probe.ball(part, radius)
@@ -140,7 +140,7 @@ impl<const W: usize> Plan<W> {
         requires part { part < length (parts_of self.now) }
         requires value { value < 2 ^ length (part_of self.now part) }
         requires place { place < length (list_of self.now part value) }
-        ensures row { (default : ℕ × List ℕ) → (result.0, code_of self.now result.1)
+        ensures row { (default : ℕ × List ℕ) → (result.0, code_of_plan self.now result.1)
             ≡ slice_index_or (list_of self.now part value) place default }
         ensures stored { IsStored W self.now result.1 }
         ensures step { steps.new ≡ steps.old + 1 }
@@ -151,7 +151,7 @@ impl<const W: usize> Plan<W> {
     // The hit of a row, if it is within the radius and the part is the first that finds it.
     pub(crate) fn kept(&self, part: usize, key: u64, code: &Code<W>) -> Option<Hit>
         requires { IsStored W self.now code.now }
-        ensures { result ≡ kept_hit self.now part (key, code_of self.now code.now) }
+        ensures { result ≡ kept_hit self.now part (key, code_of_plan self.now code.now) }
     {
         let distance = self.probe.distance(code);
         if distance > self.tau {
@@ -169,7 +169,7 @@ impl<const W: usize> Plan<W> {
     // The first part that finds a code, or the number of parts.
     fn first_part(&self, code: &Code<W>) -> usize
         requires { IsStored W self.now code.now }
-        ensures { result ≡ part_found self.now (code_of self.now code.now) }
+        ensures { result ≡ part_found self.now (code_of_plan self.now code.now) }
     {
         let parts = self.probe.parts();
         for part in 0..parts {
@@ -184,7 +184,7 @@ impl<const W: usize> Plan<W> {
     fn is_found(&self, part: usize, code: &Code<W>) -> bool
         requires part { part < length (parts_of self.now) }
         requires stored { IsStored W self.now code.now }
-        ensures { result ≡ is_found self.now part (code_of self.now code.now) }
+        ensures { result ≡ is_found self.now part (code_of_plan self.now code.now) }
     {
         is_within(
             self.probe.distance_at(part, code),

@@ -8,7 +8,7 @@ ghost use Rattle.hamming_model.specs.Layouts.{part_distance, part_value};
 ghost use Rattle.ball_walk.specs.Balls.{ball};
 ghost use Rattle.threshold_model.specs.Vectors.{row_counts, units_of};
 ghost use Rattle.shard_walk.specs.Probed.{KeepsCode, IsProbed, probed_of};
-ghost use Rattle.shard_walk.specs.Probed.{parts_in, part_in, code_in, list_in};
+ghost use Rattle.shard_walk.specs.Probed.{parts_in, part_in, code_in, probed_list};
 
 use crate::part_masks::masks_of;
 use crate::part_values::values_of;
@@ -120,7 +120,7 @@ impl<const W: usize> Probe<W> {
     pub(crate) fn list_len(&self, part: usize, value: u16) -> u32
         requires part { part < length (parts_in self.now.version) }
         requires value { value < 2 ^ length (part_in self.now.version part) }
-        ensures { result ≡ length (list_in self.now.version part value) }
+        ensures { result ≡ length (probed_list self.now.version part value) }
     {
         self.version.postings(part as u32).len(value)
     }
@@ -135,9 +135,9 @@ impl<const W: usize> Probe<W> {
     ) -> (u64, Code<W>)
         requires part { part < length (parts_in self.now.version) }
         requires value { value < 2 ^ length (part_in self.now.version part) }
-        requires place { place < length (list_in self.now.version part value) }
+        requires place { place < length (probed_list self.now.version part value) }
         ensures row { (default : ℕ × List ℕ) → (result.0, code_in self.now.version result.1)
-            ≡ slice_index_or (list_in self.now.version part value) place default }
+            ≡ slice_index_or (probed_list self.now.version part value) place default }
         ensures stored { KeepsCode W self.now.version result.1 }
         ensures step { steps.new ≡ steps.old + 1 }
     {

@@ -4,8 +4,8 @@ ghost use Rattle.std.specs.Prelude.{◌≡◌, ◌+◌, ◌<◌, ◌≤◌, ◌�
 ghost use Rattle.std.specs.Option.{option_to_list};
 ghost use Rattle.hamming_model.specs.Scan.{in_order, scan};
 ghost use Rattle.threshold_model.specs.Bounds.{values_of_parts};
-ghost use Rattle.shard_walk.specs.Planned.{parts_of, query_of};
-ghost use Rattle.shard_walk.specs.Walks.{IsPlace, BeginsValue, PassesPart, part_begun, hits_left, reads_left, values_left};
+ghost use Rattle.shard_walk.specs.Planned.{parts_of, planned_query};
+ghost use Rattle.shard_walk.specs.Walks.{IsWalkPlace, BeginsValue, PassesPart, part_begun, hits_left, reads_left, values_left};
 
 use crate::plan::Plan;
 use ball_walk::{Ball, ball_sums_add_up};
@@ -36,9 +36,9 @@ impl Model for Walk {
 impl Walk {
     /// A walk that has read nothing.
     pub fn start<const W: usize>(plan: &Plan<W>) -> Walk
-        ensures place { IsPlace plan.now result }
+        ensures place { IsWalkPlace plan.now result }
         ensures hits { in_order (hits_left plan.now result)
-            ≡ scan plan.now.version.contents.rows (query_of plan.now) plan.now.tau }
+            ≡ scan plan.now.version.contents.rows (planned_query plan.now) plan.now.tau }
         ensures reads { reads_left plan.now result ≡ plan.now.least }
         ensures values { values_left plan.now result ≤ values_of_parts (parts_of plan.now) }
     {
@@ -59,9 +59,9 @@ impl Walk {
 
     /// Reads the next posting of its posting list, for one step, and gives its hit if its part keeps it.
     pub fn read<const W: usize, L>(&mut self, plan: &Plan<W>, steps: &mut Steps<L>) -> Option<Hit>
-        requires place { IsPlace plan.now self.old }
+        requires place { IsWalkPlace plan.now self.old }
         requires posting { self.old.next < self.old.size }
-        ensures place { IsPlace plan.now self.new }
+        ensures place { IsWalkPlace plan.now self.new }
         ensures hits { hits_left plan.now self.old
             ≡ option_to_list result ++ hits_left plan.now self.new }
         ensures reads { reads_left plan.now self.old ≡ reads_left plan.now self.new + 1 }
@@ -75,10 +75,10 @@ impl Walk {
 
     /// Goes on to the posting list of the next value of a ball. Parts that have none left are passed.
     pub fn next_value<const W: usize>(&mut self, plan: &Plan<W>)
-        requires place { IsPlace plan.now self.old }
+        requires place { IsWalkPlace plan.now self.old }
         requires list_done { self.old.next ≡ self.old.size }
         requires some_left { 0 < reads_left plan.now self.old }
-        ensures place { IsPlace plan.now self.new }
+        ensures place { IsWalkPlace plan.now self.new }
         ensures hits { hits_left plan.now self.new ≡ hits_left plan.now self.old }
         ensures reads { reads_left plan.now self.new ≡ reads_left plan.now self.old }
         ensures values { values_left plan.now self.old ≡ values_left plan.now self.new + 1 }
@@ -90,7 +90,7 @@ impl Walk {
 
     // Goes on to the next part, where this one has nothing left.
     fn pass_part<const W: usize>(&mut self, plan: &Plan<W>)
-        requires place { IsPlace plan.now self.old }
+        requires place { IsWalkPlace plan.now self.old }
         requires list_done { self.old.next ≡ self.old.size }
         requires ball_done { self.old.ball ≡ [] }
         requires some_left { 0 < reads_left plan.now self.old }
@@ -101,7 +101,7 @@ impl Walk {
 
     // Takes the next value of the ball and begins its posting list, if there is one.
     fn begin_value<const W: usize>(&mut self, plan: &Plan<W>) -> bool
-        requires place { IsPlace plan.now self.old }
+        requires place { IsWalkPlace plan.now self.old }
         requires list_done { self.old.next ≡ self.old.size }
         ensures begun { result ≡ true → BeginsValue plan.now self.old self.new }
         ensures none { result ≡ false → (self.new ≡ self.old) × (self.old.ball ≡ []) }
@@ -119,7 +119,7 @@ impl Walk {
     fn at_part<const W: usize>(plan: &Plan<W>, part: usize) -> Walk
         requires { part < length (parts_of plan.now) }
         ensures part { result ≡ part_begun plan.now part }
-        ensures place { IsPlace plan.now result }
+        ensures place { IsWalkPlace plan.now result }
     {
         Walk {
             part,

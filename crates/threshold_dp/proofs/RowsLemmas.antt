@@ -6,7 +6,7 @@ use Rattle.std.proofs.lemmas.List.{length-take-le, length-drop, length-append, t
 use Rattle.std.proofs.lemmas.Nat.{mul-add-lt}
 use borrow.Rule.Slice.PartMut.{put_mid, post_of}
 use Rattle.threshold_model.specs.Splits.{units_total, threshold_of}
-use Rattle.threshold_dp.specs.Table.{rows_of, follow, AreAsked, IsRowFrom, IsLastRow, IsSolved}
+use Rattle.threshold_dp.specs.Table.{pick_rows, follow, AreAsked, IsRowFrom, IsLastRow, IsSolved}
 use Rattle.threshold_dp.proofs.TableLemmas.{solved_last, solved_more}
 
 -- a place in a row
@@ -26,13 +26,13 @@ next_row part width = omega arith
 
 -- the rows of one part more
 rows_more : (width parts part : ℕ) (picks : List ℕ) → part < parts
-    → rows_of width (parts - part) (drop (part * width) picks)
-    ≡ take width (drop (part * width) picks) ∷ rows_of width (parts - (part + 1)) (drop ((part + 1) * width) picks)
+    → pick_rows width (parts - part) (drop (part * width) picks)
+    ≡ take width (drop (part * width) picks) ∷ pick_rows width (parts - (part + 1)) (drop ((part + 1) * width) picks)
 rows_more width parts part picks less =
     let more : parts - part ≡ suc (parts - (part + 1)) = omega arith in
     let rest : List ℕ = drop (part * width) picks in
-    ap (λ n. rows_of width n rest) more
-    ∙ ap (λ xs. take width rest ∷ rows_of width (parts - (part + 1)) xs)
+    ap (λ n. pick_rows width n rest) more
+    ∙ ap (λ xs. take width rest ∷ pick_rows width (parts - (part + 1)) xs)
     (drop-drop width (part * width) picks ∙ ap (λ n. drop n picks) (next_row part width))
 
 -- the row of one part is written
@@ -58,34 +58,34 @@ module _ (picks row : List ℕ) (width parts part span : ℕ) (wide : span ≡ w
       ∙ ap (drop width) from_row ∙ drop_at row (drop width (drop (part * width) picks)) width size
       ∙ drop-drop width (part * width) picks ∙ ap (λ n. drop n picks) (next_row part width)
 
-  rows_written : rows_of width (parts - part) (drop (part * width) written)
-      ≡ row ∷ rows_of width (parts - (part + 1)) (drop ((part + 1) * width) picks)
+  rows_written : pick_rows width (parts - part) (drop (part * width) written)
+      ≡ row ∷ pick_rows width (parts - (part + 1)) (drop ((part + 1) * width) picks)
   rows_written =
       rows_more width parts part written less
-      ∙ ap (λ one. one ∷ rows_of width (parts - (part + 1)) (drop ((part + 1) * width) written)) row_there
-      ∙ ap (λ xs. row ∷ rows_of width (parts - (part + 1)) xs) rest_kept
+      ∙ ap (λ one. one ∷ pick_rows width (parts - (part + 1)) (drop ((part + 1) * width) written)) row_there
+      ∙ ap (λ xs. row ∷ pick_rows width (parts - (part + 1)) xs) rest_kept
 
   -- the last part is solved
   pub solved_first : (count : ℕ → ℕ → ℕ) (asked costs : List ℕ) → parts ≡ part + 1 → AreAsked count part width asked
       → IsLastRow width asked costs row
-      → IsSolved count part (rows_of width (parts - part) (drop (part * width) written)) costs width
+      → IsSolved count part (pick_rows width (parts - part) (drop (part * width) written)) costs width
   solved_first count asked costs last asks is_row =
       let none : parts - (part + 1) ≡ 0 = omega arith in
       subst (λ rows. IsSolved count part rows costs width)
-      (sym (rows_written ∙ ap (λ n. row ∷ rows_of width n (drop ((part + 1) * width) picks)) none))
+      (sym (rows_written ∙ ap (λ n. row ∷ pick_rows width n (drop ((part + 1) * width) picks)) none))
       (solved_last count part width asked costs row asks is_row)
 
   -- one part more is solved
   pub solved_next : (count : ℕ → ℕ → ℕ) (next : ℕ) (asked before costs : List ℕ) → next ≡ part + 1
       → AreAsked count part width asked
-      → IsSolved count next (rows_of width (parts - next) (drop (next * width) picks)) before width
+      → IsSolved count next (pick_rows width (parts - next) (drop (next * width) picks)) before width
       → IsRowFrom 0 width asked before costs row
-      → IsSolved count part (rows_of width (parts - part) (drop (part * width) written)) costs width
+      → IsSolved count part (pick_rows width (parts - part) (drop (part * width) written)) costs width
   solved_next count next asked before costs is_next asks solved is_row =
       subst (λ rows. IsSolved count part rows costs width) (sym rows_written)
-      (solved_more count part width (rows_of width (parts - (part + 1)) (drop ((part + 1) * width) picks))
+      (solved_more count part width (pick_rows width (parts - (part + 1)) (drop ((part + 1) * width) picks))
       asked before costs row asks
-      (subst (λ n. IsSolved count n (rows_of width (parts - n) (drop (n * width) picks)) before width) is_next solved)
+      (subst (λ n. IsSolved count n (pick_rows width (parts - n) (drop (n * width) picks)) before width) is_next solved)
       is_row)
 
   -- and all rows are as many as before
@@ -108,34 +108,34 @@ lent_size picks width parts part span wide less some room =
     length-take-le span (drop (part * width) picks) (omega (arith, row_within part parts width less some)) ∙ wide
 
 -- there are so many rows
-pub rows_number : (width parts : ℕ) (picks : List ℕ) → length (rows_of width parts picks) ≡ parts
+pub rows_number : (width parts : ℕ) (picks : List ℕ) → length (pick_rows width parts picks) ≡ parts
 rows_number width zero picks = refl
 rows_number width (suc parts) picks = ap suc (rows_number width parts (drop width picks))
 
 -- all rows, from the first on
 pub from_first : (count : ℕ → ℕ → ℕ) (width parts part : ℕ) (picks costs : List ℕ) → part ≡ 0
-    → IsSolved count part (rows_of width (parts - part) (drop (part * width) picks)) costs width
-    → IsSolved count 0 (rows_of width parts picks) costs width
+    → IsSolved count part (pick_rows width (parts - part) (drop (part * width) picks)) costs width
+    → IsSolved count 0 (pick_rows width parts picks) costs width
 from_first count width parts part picks costs none solved =
     let all : parts - part ≡ parts = omega arith in
     let start : part * width ≡ 0 = ap (λ n. n * width) none ∙ omega arith in
-    subst (λ n. IsSolved count n (rows_of width parts picks) costs width) none
-    (subst (λ n. IsSolved count part (rows_of width n picks) costs width) all
-    (subst (λ n. IsSolved count part (rows_of width (parts - part) (drop n picks)) costs width) start solved))
+    subst (λ n. IsSolved count n (pick_rows width parts picks) costs width) none
+    (subst (λ n. IsSolved count part (pick_rows width n picks) costs width) all
+    (subst (λ n. IsSolved count part (pick_rows width (parts - part) (drop n picks)) costs width) start solved))
 
 -- one more entry is read out
 module _ (picks : List ℕ) (width parts part left pick taken : ℕ) (less : part < parts) (inside : left < width)
     (read : pick ≡ get_or picks (part * width + left) 0) (is_taken : taken ≡ pick)
-    (sum : units_total (follow (rows_of width (parts - part) (drop (part * width) picks)) left) ≡ left) where
+    (sum : units_total (follow (pick_rows width (parts - part) (drop (part * width) picks)) left) ≡ left) where
   abbrev rest : List (List ℕ)
-  rest = rows_of width (parts - (part + 1)) (drop ((part + 1) * width) picks)
+  rest = pick_rows width (parts - (part + 1)) (drop ((part + 1) * width) picks)
 
   picked : get_or (take width (drop (part * width) picks)) left 0 ≡ pick
   picked =
       get_or-take width (drop (part * width) picks) left 0 inside
       ∙ get_or-drop (part * width) picks left 0 ∙ sym read
 
-  read_next : follow (rows_of width (parts - part) (drop (part * width) picks)) left ≡ pick ∷ follow rest (left - pick)
+  read_next : follow (pick_rows width (parts - part) (drop (part * width) picks)) left ≡ pick ∷ follow rest (left - pick)
   read_next =
       ap (λ rows. follow rows left) (rows_more width parts part picks less)
       ∙ ap (λ n. n ∷ follow rest (left - n)) picked
@@ -153,7 +153,7 @@ module _ (picks : List ℕ) (width parts part left pick taken : ℕ) (less : par
       omega (arith, next_total)
 
   pub read_entries : (out all : List ℤ)
-      → out ++ map threshold_of (follow (rows_of width (parts - part) (drop (part * width) picks)) left) ≡ all
+      → out ++ map threshold_of (follow (pick_rows width (parts - part) (drop (part * width) picks)) left) ≡ all
       → (out ++ threshold_of pick ∷ []) ++ map threshold_of (follow rest (left - taken)) ≡ all
   read_entries out all so_far =
       append_assoc out (threshold_of pick ∷ []) (map threshold_of (follow rest (left - taken)))

@@ -4,9 +4,9 @@ use Rattle.std.specs.Prelude.{◌≡◌, ℕ, zero, suc, ◌+◌, ◌-◌, ◌*�
 use Rattle.threshold_model.specs.Splits.{split_cost, IsBest}
 
 -- so many rows of one width, one behind another
-abbrev pub rows_of : ℕ → ℕ → List ℕ → List (List ℕ)
-rows_of width zero picks = []
-rows_of width (suc parts) picks = take width picks ∷ rows_of width parts (drop width picks)
+abbrev pub pick_rows : ℕ → ℕ → List ℕ → List (List ℕ)
+pick_rows width zero picks = []
+pick_rows width (suc parts) picks = take width picks ∷ pick_rows width parts (drop width picks)
 
 -- the split that the rows of picks lead to
 abbrev pub follow : List (List ℕ) → ℕ → List ℕ

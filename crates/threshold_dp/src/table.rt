@@ -3,7 +3,7 @@
 ghost use Rattle.std.specs.Prelude.{◌≡◌, ℕ, ◌+◌, ◌*◌, ◌<◌, ◌≤◌, length, map, slice_index};
 ghost use Rattle.threshold_model.specs.Splits.{threshold_of, units_total, split_cost, IsBest};
 ghost use Rattle.threshold_dp.specs.Table.{AreAsked, IsFirstLeast, NeverFallIn, joint_cost};
-ghost use Rattle.threshold_dp.specs.Table.{IsRowFrom, IsLastRow, IsSolved, rows_of, follow};
+ghost use Rattle.threshold_dp.specs.Table.{IsRowFrom, IsLastRow, IsSolved, pick_rows, follow};
 
 use crate::part_counts::PartCounts;
 use crate::thresholds::Thresholds;
@@ -107,7 +107,7 @@ fn solve_parts<C: PartCounts>(
     requires costs { length costs.old ≡ length asked.old }
     requires room { parts * length asked.old ≤ length picks.old }
     ensures solved { let width = length asked.old in
-        IsSolved (C.counts counts.now) 0 (rows_of width parts picks.new) costs.new width }
+        IsSolved (C.counts counts.now) 0 (pick_rows width parts picks.new) costs.new width }
 {
     let width = asked.len();
     let mut part = parts - 1;
@@ -138,9 +138,9 @@ pub(crate) fn solve<C: PartCounts>(
     requires asked { tau + 2 ≤ length asked.old }
     requires costs { tau + 2 ≤ length costs.old }
     requires picks { parts * (tau + 2) ≤ length picks.old }
-    ensures best { let split = follow (rows_of (tau + 2) parts picks.new) (tau + 1) in
+    ensures best { let split = follow (pick_rows (tau + 2) parts picks.new) (tau + 1) in
         IsBest (C.counts counts.now) 0 parts (tau + 1) split }
-    ensures cost { let split = follow (rows_of (tau + 2) parts picks.new) (tau + 1) in
+    ensures cost { let split = follow (pick_rows (tau + 2) parts picks.new) (tau + 1) in
         result ≡ split_cost (C.counts counts.now) 0 split }
 {
     let width = tau as usize + 2;
@@ -159,9 +159,9 @@ pub(crate) fn read_out(picks: &[u16], tau: u32, parts: usize, out: &mut Threshol
     requires room { parts ≤ out.old.room }
     requires near { tau ≤ 512 }
     requires wide { parts * (tau + 2) ≤ length picks.now }
-    requires sum { units_total (follow (rows_of (tau + 2) parts picks.now) (tau + 1)) ≡ tau + 1 }
+    requires sum { units_total (follow (pick_rows (tau + 2) parts picks.now) (tau + 1)) ≡ tau + 1 }
     ensures entries { out.new.entries
-        ≡ map threshold_of (follow (rows_of (tau + 2) parts picks.now) (tau + 1)) }
+        ≡ map threshold_of (follow (pick_rows (tau + 2) parts picks.now) (tau + 1)) }
     ensures room { out.new.room ≡ out.old.room }
 {
     out.clear();

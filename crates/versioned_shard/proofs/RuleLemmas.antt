@@ -11,7 +11,7 @@ use Rattle.commit_journal.specs.Fronts.{FrontState, StandsAt, has_position, posi
 use Rattle.commit_journal.specs.Journals.{IsKnown}
 use Rattle.versioned_shard.specs.Along.{Follows, version_at}
 use Rattle.versioned_shard.specs.Rule.{IsKeptVersion, KeepsRule}
-use Rattle.versioned_shard.specs.Shards.{HasVersion, IsOneOf, MayStandIn, ShardState, advanced, further, has_version, made, shard_of, staying, with_layout}
+use Rattle.versioned_shard.specs.Shards.{HasVersion, IsOneOf, MayStandIn, ShardState, advanced, further, has_version, made, shard_with, staying, with_layout}
 use Rattle.versioned_shard.proofs.AlongLemmas.{follows_longer, follows_relaid, position_is, version_begin, version_follows}
 
 -- ---- kept versions
@@ -222,7 +222,7 @@ rule_swapped live history shard version rule laid may same = record {
 
 -- ---- the beginning
 pub rule_begins : (live : ℕ → Option ℕ) (history : List JournalEntry) (shard shards : ℕ) (layout : Laid) → IsLaid layout
-    → KeepsRule live history (shard_of (empty_of shard shards layout) [])
+    → KeepsRule live history (shard_with (empty_of shard shards layout) [])
 rule_begins live history shard shards layout laid = record {
   within = omega arith;
   current = record { is = refl };

@@ -12,14 +12,14 @@ use Rattle.hamming_model.specs.Recoded.{AreStoredEntries, IsStoredOperation, cut
 use Rattle.hamming_model.specs.declared.limits.TheConstants.{ENTRIES_MOST}
 use Rattle.part_layout.specs.Laid.{Laid}
 use Rattle.entry_log.specs.Entries.{entry_of, kept_entry, kept_operation}
-use Rattle.entry_log.specs.Meaning.{MeansEntry, key_of}
+use Rattle.entry_log.specs.Meaning.{MeansEntry, operation_key}
 use Rattle.entry_log.specs.declared.entry.Entry.{Entry}
 use Rattle.entry_log.specs.declared.op.Op.{Op}
 use Rattle.entry_log.specs.declared.op.Op.TheVariants as op
 use Rattle.shard_version.specs.Contents.{Contents, FitsShard, HasRoomFor, after_entry}
 use Rattle.shard_version.specs.Prefixes.{prefix_of}
 use Rattle.shard_version.specs.Tables.{Tabled}
-use Rattle.commit_journal.specs.Fronts.{Ascends, FrontState, IsFront, has_position, position_of}
+use Rattle.commit_journal.specs.Fronts.{ArePositionsInOrder, FrontState, IsFront, has_position, position_of}
 use Rattle.versioned_shard.specs.Along.{Follows, version_at}
 use Rattle.versioned_shard.specs.Shards.{contents_at, has_version, made, staying}
 use Rattle.versioned_shard.specs.Way.{MadeSoFar, Reaches}
@@ -68,7 +68,7 @@ module _ {W : ℕ} (history : List JournalEntry) (from : Contents) (i : ℕ) (en
       subst (λ (n : ℕ). MeansEntry n entry (entry_of n entry)) (sym same_bits) (means_operation bits entry.who entry.op one)
 
   -- it fits the shard's rows
-  pub fits_here : ((shard shards : ℕ) (rows : List (ℕ × List ℕ)) (operation : Operation) → Fits rows operation → key_of operation % shards ≡ shard
+  pub fits_here : ((shard shards : ℕ) (rows : List (ℕ × List ℕ)) (operation : Operation) → Fits rows operation → operation_key operation % shards ≡ shard
       → Fits (shard_rows shard shards rows) operation)
       → IsLegal (cut_history bits history) → FitsShard version (entry_of version.layout.bits entry).operation
   fits_here law legal =
@@ -142,7 +142,7 @@ all_at P (x ∷ xs) zero d all below = all.0
 all_at P (x ∷ xs) (suc i) d all below = all_at P xs i d all.1 (omega arith)
 
 -- what comes after a place is above what stands there
-above_place : (xs : List ℕ) (i d : ℕ) → Ascends xs → i < length xs → AllByRecursion (λ y. get_or xs i d < y) (drop (suc i) xs)
+above_place : (xs : List ℕ) (i d : ℕ) → ArePositionsInOrder xs → i < length xs → AllByRecursion (λ y. get_or xs i d < y) (drop (suc i) xs)
 above_place [] i d up below = absurd (omega arith)
 above_place (x ∷ xs) zero d up below = up.0
 above_place (x ∷ xs) (suc i) d up below = above_place xs i d up.1 (omega arith)

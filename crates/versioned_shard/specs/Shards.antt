@@ -22,8 +22,8 @@ pub record ShardState : Type 0 where
   pub kept : List Contents
 
 -- a shard of these versions
-abbrev pub shard_of : Contents → List Contents → ShardState
-shard_of current kept = record { current = current; kept = kept }
+abbrev pub shard_with : Contents → List Contents → ShardState
+shard_with current kept = record { current = current; kept = kept }
 
 -- a shard as a pair
 abbrev pub shard_code : Coded ShardState
@@ -42,7 +42,7 @@ made history from older = map (version_at history from) (filter (λ position. na
 -- a shard that is behind a front, brought to it
 abbrev pub further : FrontState → ShardState → ShardState
 further front shard =
-    shard_of (version_at front.entries shard.current (position_of front)) (staying front.older shard.kept ++ made front.entries shard.current front.older)
+    shard_with (version_at front.entries shard.current (position_of front)) (staying front.older shard.kept ++ made front.entries shard.current front.older)
 
 -- a shard after it advanced to a front: as before where it isn't behind
 abbrev pub advanced : FrontState → ShardState → ShardState

@@ -10,7 +10,7 @@ ghost use Rattle.commit_journal.specs.declared.decided.Decided.{Decided};
 ghost use Rattle.versioned_shard.specs.Along.{Follows, version_at};
 ghost use Rattle.versioned_shard.specs.Rule.{KeepsJournalRule, KeepsRule};
 ghost use Rattle.versioned_shard.specs.Shards.{HasVersion, IsOneOf, MayStandIn, ShardState};
-ghost use Rattle.versioned_shard.specs.Shards.{advanced, shard_of, with_layout};
+ghost use Rattle.versioned_shard.specs.Shards.{advanced, shard_with, with_layout};
 
 use commit_journal::live_fronts_come_and_go;
 
@@ -18,7 +18,7 @@ use commit_journal::live_fronts_come_and_go;
 /// rows of its own prefix.
 pub fn shards_keep_the_rule()
     ensures begins { (live : ℕ → Option ℕ) (history : List JournalEntry) (shard shards : ℕ) (layout : Laid) →
-        IsLaid layout → KeepsRule live history (shard_of (empty_of shard shards layout) []) }
+        IsLaid layout → KeepsRule live history (shard_with (empty_of shard shards layout) []) }
     ensures follows { (live : ℕ → Option ℕ) (history : List JournalEntry) (shard : ShardState) (front : FrontState) →
         KeepsRule live history shard → IsKnown live history front →
         shard.current.at < position_of front → Follows front.entries shard.current }

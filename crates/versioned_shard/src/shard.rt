@@ -6,7 +6,7 @@ ghost use Rattle.hamming_model.specs.Recoded.{AreStoredEntries};
 ghost use Rattle.hamming_model.specs.declared.limits.TheConstants.{WORDS_MOST};
 ghost use Rattle.commit_journal.specs.Fronts.{position_of};
 ghost use Rattle.versioned_shard.specs.Along.{Follows};
-ghost use Rattle.versioned_shard.specs.Shards.{HasVersion, IsOneOf, MayStandIn, advanced, contents_at, shard_of, with_layout};
+ghost use Rattle.versioned_shard.specs.Shards.{HasVersion, IsOneOf, MayStandIn, advanced, contents_at, shard_with, with_layout};
 
 use crate::follow::{follow, staying};
 use crate::moved::Moved;
@@ -28,13 +28,13 @@ pub struct Shard<const W: usize> {
 impl<const W: usize> Model for Shard<W> {
     ghost use Rattle.std.specs.Prelude.{map, ◌≤◌};
     ghost use Rattle.hamming_model.specs.declared.limits.TheConstants.{WORDS_MOST};
-    ghost use Rattle.versioned_shard.specs.Shards.{ShardState, contents_at, shard_code, shard_of};
+    ghost use Rattle.versioned_shard.specs.Shards.{ShardState, contents_at, shard_code, shard_with};
 
     ghost Value = { ShardState };
 
     ghost coded = { shard_code };
 
-    ghost view = { λ shard. shard_of (contents_at shard.current) (map contents_at shard.kept.items) };
+    ghost view = { λ shard. shard_with (contents_at shard.current) (map contents_at shard.kept.items) };
 
     ghost invariant = { λ shard. W ≤ WORDS_MOST };
 }
@@ -43,7 +43,7 @@ impl<const W: usize> Shard<W> {
     /// A shard with this version, and none kept.
     pub fn new(alloc: Global, version: Version<W>) -> Result<Shard<W>, NoMemory>
         requires { W ≤ WORDS_MOST }
-        ensures { IfOk result (λ shard. shard ≡ shard_of version.entry.contents []) }
+        ensures { IfOk result (λ shard. shard ≡ shard_with version.entry.contents []) }
     {
         let Ok(current) = Arc::new(alloc, version) else {
             return Err(NoMemory);

@@ -1,7 +1,7 @@
 use Rattle.std.proofs.Common.{refl, ap, ◌∙◌, inr, subst, rules}
 use Rattle.query_protocol.specs.Replies as reply
 use Rattle.gph_session.specs.declared.open_query.OpenQuery.{OpenQuery}
-use Rattle.gph_session.specs.Cursors.{standing_of, IsFirstAt}
+use Rattle.gph_session.specs.Cursors.{standing_in, IsFirstAt}
 use Rattle.gph_session.proofs.CursorLemmas.{changes_at}
 use Rattle.gph_session.proofs.costing.cost.Goals as goal
 
@@ -29,5 +29,5 @@ returns-in-Some g c =
         standing = c.bound-bound.ensures.standing;
       },
       ap (λ n. reply.Cost c.args.tag.now n c.bound-bound.result) c.reads-reads.ensures
-          ∙ ap (reply.Cost c.args.tag.now (standing_of before).reads) c.bound-bound.ensures.bound,
+          ∙ ap (reply.Cost c.args.tag.now (standing_in before).reads) c.bound-bound.ensures.bound,
     )

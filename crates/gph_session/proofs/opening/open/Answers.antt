@@ -4,7 +4,7 @@ use Rattle.std.specs.Arc.{arc_value}
 use Rattle.std.specs.Prelude.{take}
 use Rattle.shard_version.specs.Contents.{IsVersion}
 use Rattle.shard_query.specs.Opening.{AsksRange, BeginsRange}
-use Rattle.gph_session.specs.Cursors.{asked_of, standing_of}
+use Rattle.gph_session.specs.Cursors.{asked_in, standing_in}
 use Rattle.gph_session.specs.declared.open_query.OpenQuery.{OpenQuery}
 use Rattle.gph_session.proofs.LawLemmas.{lawful_of}
 use Rattle.gph_session.proofs.VersionLemmas.{scan_within}
@@ -17,9 +17,9 @@ returns-in-Ok-put g c =
     let cursor : OpenQuery g.row.W =
     record { tag = c.args.tag; task = c.in-Ok-open.task; given = 0; done = false } in
     let pinned : (arc_value c.in-Ok.pinned).contents ≡ version = search rules in
-    let asks = subst (λ v. AsksRange v (take v.layout.bits c.args.code) c.args.tau c.args.room (asked_of cursor))
+    let asks = subst (λ v. AsksRange v (take v.layout.bits c.args.code) c.args.tau c.args.room (asked_in cursor))
     pinned c.in-Ok-open.ensures.asked in
-    let begins = subst (λ v. BeginsRange v (asked_of cursor) (standing_of cursor)) pinned
+    let begins = subst (λ v. BeginsRange v (asked_in cursor) (standing_in cursor)) pinned
     c.in-Ok-open.ensures.begins in
     let whole : IsVersion version = search rules in (
       search rules,

@@ -5,7 +5,7 @@ use Rattle.query_protocol.specs.Replies as reply
 use Rattle.query_protocol.specs.Replies.{reply_line}
 use Rattle.query_protocol.specs.Requests.{bad}
 use Rattle.gph_session.specs.declared.open_query.OpenQuery.{OpenQuery}
-use Rattle.gph_session.specs.Cursors.{asked_of, IsFirstAt}
+use Rattle.gph_session.specs.Cursors.{asked_in, IsFirstAt}
 use Rattle.gph_session.proofs.CursorLemmas.{changes_at}
 use Rattle.gph_session.proofs.planning.plan.Goals as goal
 
@@ -28,14 +28,14 @@ returns-in-Some g c =
     let vector = c.thresholds-thresholds.ensures ∙ c.plan-cost.ensures.vector in
     let number : c.min-number.result ≡ min 64 (length listed) = omega
     (arith, c.min-number.ensures) in
-    let first : take c.min-number.result listed ≡ take 64 ((asked_of before).plan None).0 =
+    let first : take c.min-number.result listed ≡ take 64 ((asked_in before).plan None).0 =
     ap (λ n. take n listed) number ∙ take_min 64 listed ∙ ap (take 64) vector in
     let told =
     ap (λ n. reply.Plan c.args.tag.now c.args.shard n
     (take c.min-number.result listed)) c.plan-cost.ensures.cost
-    ∙ ap (reply.Plan c.args.tag.now c.args.shard ((asked_of before).plan None).1) first in (
-      reply.Plan c.args.tag.now c.args.shard ((asked_of before).plan None).1
-          (take 64 ((asked_of before).plan None).0),
+    ∙ ap (reply.Plan c.args.tag.now c.args.shard ((asked_in before).plan None).1) first in (
+      reply.Plan c.args.tag.now c.args.shard ((asked_in before).plan None).1
+          (take 64 ((asked_in before).plan None).0),
       inr (
         before,
         after,

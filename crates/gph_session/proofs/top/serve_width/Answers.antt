@@ -7,7 +7,7 @@ use Rattle.part_layout.specs.Laid.{IsLaid}
 use Rattle.part_layout.specs.Ranges.{IsConfig}
 use Rattle.command_line.specs.CommandWords.{IsPinned}
 use Rattle.gph_codes.specs.Allowed.{IsAllowed}
-use Rattle.gph_session.specs.Meaning.{contents_in, contents_of, laid_of}
+use Rattle.gph_session.specs.Meaning.{contents_in, shard_after, starting_laid}
 use Rattle.session_model.specs.Outcomes.{ends}
 use Rattle.gph_session.specs.Serving.{EndsAs, ServedAs}
 use Rattle.gph_session.proofs.TopLemmas.{goes_new, is_ready, served_as, put_back}
@@ -17,12 +17,12 @@ pub serve-requires : goal.serve-requires
 serve-requires g c =
     let session = c.in-Ok.session in
     let same = sym c.in-Ok.ensures.config in
-    let first = subst (λ (config : Config). contents_in session ≡ contents_of config []) same
+    let first = subst (λ (config : Config). contents_in session ≡ shard_after config []) same
     c.in-Ok.ensures.version in
     let allowed = subst (λ (config : Config). IsAllowed g.row.W config.bits) same c.requires.allowed in
     let is = subst IsConfig same c.requires.config in
     let pinned = subst IsPinned same c.requires.pinned in
-    let laid = subst (λ (config : Config). IsLaid (laid_of config)) same c.in-Ok.ensures.laid in (
+    let laid = subst (λ (config : Config). IsLaid (starting_laid config)) same c.in-Ok.ensures.laid in (
       search rules,
       (
         search rules,

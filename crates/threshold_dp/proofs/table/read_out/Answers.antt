@@ -1,7 +1,7 @@
 use Rattle.std.proofs.Common.{◌+◌, ◌*◌, length, get_or, map, refl, ap, ◌∙◌, arith, rules}
 use Rattle.std.proofs.lemmas.List.{length_push}
 use Rattle.threshold_model.specs.Splits.{threshold_of}
-use Rattle.threshold_dp.specs.Table.{rows_of, follow}
+use Rattle.threshold_dp.specs.Table.{pick_rows, follow}
 use Rattle.threshold_dp.proofs.RowsLemmas.{read_total, read_entries}
 use Rattle.threshold_dp.proofs.table.read_out.Goals as goal
 
@@ -18,5 +18,5 @@ loop-part-preserved c =
       rw c.push.ensures.entries
           (read_entries c.args.picks.now width c.args.parts c.loop-part.part c.loop-part.left pick c.from-left.result
           (omega arith) (omega arith) refl c.from-left.ensures c.loop-part.invariant.3
-          c.loop-part.out.entries (map threshold_of (follow (rows_of width c.args.parts c.args.picks.now) (c.args.tau + 1))) c.loop-part.invariant.4),
+          c.loop-part.out.entries (map threshold_of (follow (pick_rows width c.args.parts c.args.picks.now) (c.args.tau + 1))) c.loop-part.invariant.4),
     )

@@ -1,11 +1,11 @@
 use Rattle.std.proofs.Common.{◌≡◌, ◌-◌, length}
 use Rattle.shard_walk.specs.Planned.{parts_of}
-use Rattle.shard_walk.specs.Walks.{IsPlace, hits_left, reads_left, values_left}
+use Rattle.shard_walk.specs.Walks.{IsWalkPlace, hits_left, reads_left, values_left}
 use Rattle.shard_walk.proofs.walk.Walk.next_value.Given as goal
 
 abbrev pub invariant-loop-self : goal.invariant-loop-self
 invariant-loop-self g l =
-    IsPlace l.plan l.self
+    IsWalkPlace l.plan l.self
     × (l.self.next ≡ l.self.size)
     × (hits_left l.plan l.self ≡ hits_left l.plan l.fn.self)
     × (reads_left l.plan l.self ≡ reads_left l.plan l.fn.self)

@@ -2,7 +2,7 @@ use Rattle.std.proofs.Common.{sym, ap, ◌∙◌, arith}
 use Rattle.hamming_model.specs.Scan.{in_order}
 use Rattle.search_model.specs.Reading.{number_read, parts_read}
 use Rattle.search_model.specs.Keeping.{hits_of_parts}
-use Rattle.shard_walk.specs.Planned.{parts_of, query_of, list_of}
+use Rattle.shard_walk.specs.Planned.{parts_of, planned_query, list_of}
 use Rattle.shard_walk.specs.Walks.{hits_left, reads_left, values_left}
 use Rattle.shard_walk.proofs.WalkLemmas.{begun_rows, begun_values}
 use Rattle.shard_walk.proofs.StartLemmas.{values_few, least_is_cost}
@@ -13,11 +13,11 @@ returns-clause-hits g c =
     let p = c.args.plan.now in
     let plan = c.parts.ensures.plan in
     let lay = plan.version.laid.layout in
-    let reading = c.lists_read_by_parts.ensures p.version.contents.layout.bits p.version.contents.rows (parts_of p) p.thresholds (query_of p) (list_of p)
+    let reading = c.lists_read_by_parts.ensures p.version.contents.layout.bits p.version.contents.rows (parts_of p) p.thresholds (planned_query p) (list_of p)
     plan.version.codes plan.query.is_code plan.choice.vector.size (λ part less. (plan.tables.each part less).lists) in
     ap (λ w. in_order (hits_left p w)) c.at_part.ensures.part
-    ∙ ap (λ rows. in_order (hits_of_parts (parts_of p) p.thresholds (query_of p) p.tau 0 rows)) (begun_rows p 0 plan.choice.vector.size lay.some_part)
-    ∙ c.near_rows_are_kept_once.ensures p.version.contents.layout.bits p.tau p.version.contents.rows (parts_of p) p.thresholds (query_of p) (parts_read (list_of p) 0 (parts_of p) p.thresholds (query_of p))
+    ∙ ap (λ rows. in_order (hits_of_parts (parts_of p) p.thresholds (planned_query p) p.tau 0 rows)) (begun_rows p 0 plan.choice.vector.size lay.some_part)
+    ∙ c.near_rows_are_kept_once.ensures p.version.contents.layout.bits p.tau p.version.contents.rows (parts_of p) p.thresholds (planned_query p) (parts_read (list_of p) 0 (parts_of p) p.thresholds (planned_query p))
     lay plan.version.codes plan.query.is_code plan.choice.vector reading
 
 pub returns-clause-reads : goal.returns-clause-reads
@@ -25,11 +25,11 @@ returns-clause-reads g c =
     let p = c.args.plan.now in
     let plan = c.parts.ensures.plan in
     let lay = plan.version.laid.layout in
-    let reading = c.lists_read_by_parts.ensures p.version.contents.layout.bits p.version.contents.rows (parts_of p) p.thresholds (query_of p) (list_of p)
+    let reading = c.lists_read_by_parts.ensures p.version.contents.layout.bits p.version.contents.rows (parts_of p) p.thresholds (planned_query p) (list_of p)
     plan.version.codes plan.query.is_code plan.choice.vector.size (λ part less. (plan.tables.each part less).lists) in
     ap (reads_left p) c.at_part.ensures.part
     ∙ ap number_read (begun_rows p 0 plan.choice.vector.size lay.some_part)
-    ∙ c.rows_read_are_the_cost.ensures p.version.contents.rows (parts_of p) p.thresholds (query_of p) (parts_read (list_of p) 0 (parts_of p) p.thresholds (query_of p)) plan.choice.vector.size reading
+    ∙ c.rows_read_are_the_cost.ensures p.version.contents.rows (parts_of p) p.thresholds (planned_query p) (parts_read (list_of p) 0 (parts_of p) p.thresholds (planned_query p)) plan.choice.vector.size reading
     ∙ sym (least_is_cost g.row.W p plan)
 
 pub returns-clause-values : goal.returns-clause-values
@@ -37,5 +37,5 @@ returns-clause-values g c =
     let p = c.args.plan.now in
     let plan = c.parts.ensures.plan in
     let begun = ap (values_left p) c.at_part.ensures.part ∙ begun_values p 0 plan.choice.vector.size plan.version.laid.layout.some_part in
-    let few = values_few c.ball_sums_add_up.ensures (parts_of p) p.thresholds (query_of p) in
+    let few = values_few c.ball_sums_add_up.ensures (parts_of p) p.thresholds (planned_query p) in
     omega (arith, begun)
