@@ -96,7 +96,7 @@ fn last_split(alloc: Global, count: u32, units: usize) -> Result<Split, AllocErr
 // A split with one more part in front.
 fn with_front(count: u32, pick: usize, mut rest: Split) -> Result<Split, AllocError>
     requires narrow { pick ≤ 514 }
-    requires bound { rest.cost ≤ 64 * 4294967295 }
+    requires bound { rest.cost ≤ PARTS_MOST * (2 ^ 32 - 1) }
     ensures units { IfOk result (λ split. split.units.items ≡ pick ∷ rest.units.items) }
     ensures cost { IfOk result (λ split. split.cost ≡ count + rest.cost) }
 {
