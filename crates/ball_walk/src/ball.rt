@@ -1,6 +1,6 @@
 ghost use Rattle.std.specs.Prelude.{◌≡◌, ℕ, ◌+◌, ◌^◌, ◌<◌, ◌≤◌, List, [], ◌∷◌, MatchOption, negsuc, ◌≤ℤ◌, min, All, IfSome};
 ghost use Rattle.hamming_model.specs.declared.limits.TheConstants.{PART_WIDTH_MOST};
-ghost use Rattle.ball_walk.specs.Balls.{ball, radius_units};
+ghost use Rattle.ball_walk.specs.Balls.{ball, ring, radius_units};
 ghost use Rattle.ball_walk.specs.Walk.{ring_from};
 
 use crate::next::{is_between, next_after};
@@ -50,6 +50,27 @@ impl Ball {
             width,
             apart: 0,
             left,
+            from: 0,
+        }
+    }
+
+    /// The values of `width` binary digits exactly `apart` from `value`, ascending: none where that is more
+    /// than the width. It takes no memory.
+    pub fn ring(value: u16, width: u32, apart: u32) -> Ball
+        requires some_width { 0 < width }
+        requires small_width { width ≤ 12 }
+        requires in_width { value < 2 ^ width }
+        ensures values { result ≡ ring value width apart }
+        ensures in_width { All (λ other. other < 2 ^ width) result }
+    {
+        if apart > width {
+            return Ball::new(value, width, -1);
+        }
+        Ball {
+            value,
+            width,
+            apart,
+            left: 1,
             from: 0,
         }
     }

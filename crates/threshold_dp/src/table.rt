@@ -94,7 +94,7 @@ fn add_last_part(asked: &[u32], costs: &mut [u64], picks: &mut [u16])
 }
 
 // Solves so many parts from the last one to the first, for all units below the width of the counts.
-fn solve_parts<C: PartCounts>(
+pub(crate) fn solve_parts<C: PartCounts>(
     counts: &C,
     parts: usize,
     asked: &mut [u32],
@@ -156,19 +156,25 @@ pub(crate) fn solve<C: PartCounts>(
     costs[width - 1]
 }
 
-// Reads the split of tau + 1 units out of the rows of so many parts.
-pub(crate) fn read_out(picks: &[u16], tau: u32, parts: usize, out: &mut Thresholds)
+// Reads the split of so many units out of the rows of so many parts.
+pub(crate) fn read_out(
+    picks: &[u16],
+    width: usize,
+    units: usize,
+    parts: usize,
+    out: &mut Thresholds,
+)
     requires room { parts ≤ out.old.room }
-    requires near { tau ≤ 512 }
-    requires wide { parts * (tau + 2) ≤ length picks.now }
-    requires sum { units_total (follow (pick_rows (tau + 2) parts picks.now) (tau + 1)) ≡ tau + 1 }
+    requires narrow { width ≤ 514 }
+    requires within { units < width }
+    requires wide { parts * width ≤ length picks.now }
+    requires sum { units_total (follow (pick_rows width parts picks.now) units) ≡ units }
     ensures entries { out.new.entries
-        ≡ map threshold_of (follow (pick_rows (tau + 2) parts picks.now) (tau + 1)) }
+        ≡ map threshold_of (follow (pick_rows width parts picks.now) units) }
     ensures room { out.new.room ≡ out.old.room }
 {
     out.clear();
-    let width = tau as usize + 2;
-    let mut left = width - 1;
+    let mut left = units;
     for part in 0..parts {
         let pick = picks[part * width + left];
         out.push(pick);
