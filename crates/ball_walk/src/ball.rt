@@ -58,7 +58,7 @@ impl Ball {
     /// than the width. It takes no memory.
     pub fn ring(value: u16, width: u32, apart: u32) -> Ball
         requires some_width { 0 < width }
-        requires small_width { width ≤ 12 }
+        requires small_width { width ≤ PART_WIDTH_MOST }
         requires in_width { value < 2 ^ width }
         ensures values { result ≡ ring value width apart }
         ensures in_width { All (λ other. other < 2 ^ width) result }
