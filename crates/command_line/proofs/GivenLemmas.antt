@@ -169,7 +169,8 @@ size_few given =
     )
 
 -- a new option counts for one
-pub size_more : (option : CommandOption) (entry : GivenNumber) (given : Given) → is_some (entry_at option given) ≡ false → size (put option entry given) ≡ size given + 1
+pub size_more : (option : CommandOption) (entry : GivenNumber) (given : Given) → is_some (entry_at option given) ≡ false
+    → size (put option entry given) ≡ size given + 1
 size_more Bits entry given absent = omega (arith, absent_none given.bits absent)
 size_more Parts entry given absent = omega (arith, absent_none given.parts absent)
 size_more Shards entry given absent = omega (arith, absent_none given.shards absent)

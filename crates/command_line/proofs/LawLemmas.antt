@@ -222,7 +222,8 @@ asked_same : (before other settings : List Bare) → GivesSame before other → 
 asked_same before other [] same =
     ap (λ (found : Option (Option (List ℕ))). bare_config (bare_number Bits 64 found) before (bare_given Parts before)) (same Bits)
     ∙ ap (bare_config (bare_number Bits 64 (bare_given Bits other)) before) (same Parts)
-    ∙ config_same (bare_number Bits 64 (bare_given Bits other)) before other (bare_parts (bare_number Bits 64 (bare_given Bits other)) (bare_given Parts other)) same
+    ∙ config_same (bare_number Bits 64 (bare_given Bits other)) before other
+    (bare_parts (bare_number Bits 64 (bare_given Bits other)) (bare_given Parts other)) same
 asked_same before other (one ∷ others) same =
     ap (λ (passed : Bool). cond passed (bare_asked (one ∷ before) others) None) (passes_same before other one (option_named one.0) same)
     ∙ ap (λ (asked : Option Config). cond (passes other one) asked None)
