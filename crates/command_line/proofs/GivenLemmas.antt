@@ -11,25 +11,27 @@ use Rattle.command_line.specs.Kept.{given_option, entry_at, put, options_kept, k
 use Rattle.command_line.proofs.WordLemmas.{from_first}
 use Rattle.command_line.proofs.OptionLemmas.{named_name, number_range}
 use Rattle.command_line.specs.declared.command_option.CommandOption.{CommandOption}
-use Rattle.command_line.specs.declared.command_option.CommandOption.TheVariants.{Bits, Parts, Input}
+use Rattle.command_line.specs.declared.command_option.CommandOption.TheVariants.{Bits, Parts, Shards, Room, Entries, Input}
 use Rattle.command_line.specs.declared.given.GivenNumber.{GivenNumber}
 use Rattle.command_line.specs.declared.given.Given.{Given}
 
 -- what is kept with one more option of a name
-put_named : (before : List Written) (one : Written) (option : CommandOption) → bytes_eq one.name (name_of Bits) ≡ bytes_eq (name_of option) (name_of Bits)
-    → bytes_eq one.name (name_of Parts) ≡ bytes_eq (name_of option) (name_of Parts) → bytes_eq one.name (name_of Input) ≡ bytes_eq (name_of option) (name_of Input)
+put_named : (before : List Written) (one : Written) (option : CommandOption)
+    → ((other : CommandOption) → bytes_eq one.name (name_of other) ≡ bytes_eq (name_of option) (name_of other))
     → put option (given_option option one) (options_kept before) ≡ options_kept (one ∷ before)
-put_named before one Bits bits parts input = rw (bits, parts, input)
-put_named before one Parts bits parts input = rw (bits, parts, input)
-put_named before one Input bits parts input = rw (bits, parts, input)
+put_named before one Bits same = rw (same Bits, same Parts, same Shards, same Room, same Entries, same Input)
+put_named before one Parts same = rw (same Bits, same Parts, same Shards, same Room, same Entries, same Input)
+put_named before one Shards same = rw (same Bits, same Parts, same Shards, same Room, same Entries, same Input)
+put_named before one Room same = rw (same Bits, same Parts, same Shards, same Room, same Entries, same Input)
+put_named before one Entries same = rw (same Bits, same Parts, same Shards, same Room, same Entries, same Input)
+put_named before one Input same = rw (same Bits, same Parts, same Shards, same Room, same Entries, same Input)
 
 -- what is kept with one more option
 pub put_one : (before : List Written) (one : Written) (option : CommandOption) → option_named one.name ≡ Some option
     → put option (given_option option one) (options_kept before) ≡ options_kept (one ∷ before)
 put_one before one option named =
     let same : one.name ≡ name_of option = named_name one.name option named in
-    put_named before one option (ap (λ (name : List ℕ). bytes_eq name (name_of Bits)) same) (ap (λ (name : List ℕ). bytes_eq name (name_of Parts)) same)
-    (ap (λ (name : List ℕ). bytes_eq name (name_of Input)) same)
+    put_named before one option (λ other. ap (λ (name : List ℕ). bytes_eq name (name_of other)) same)
 
 -- an option is kept where it was given
 kept_some : (option : CommandOption) (found : Option Written) → is_some (option_map (given_option option) found) ≡ is_some found
@@ -40,6 +42,9 @@ kept_some option (Some one) = refl
 pub at_some : (before : List Written) (option : CommandOption) → is_some (entry_at option (options_kept before)) ≡ is_some (given option before)
 at_some before Bits = kept_some Bits (given Bits before)
 at_some before Parts = kept_some Parts (given Parts before)
+at_some before Shards = kept_some Shards (given Shards before)
+at_some before Room = kept_some Room (given Room before)
+at_some before Entries = kept_some Entries (given Entries before)
 at_some before Input = kept_some Input (given Input before)
 
 -- a new option with a value that may stand has no fault
@@ -69,7 +74,8 @@ pub kept_with : (before : List Written) (one : Written) (option : CommandOption)
 kept_with before one option value old new entry named same absent stands good is made =
     let IsAbsent : Given → Type 0 = λ (values : Given). is_some (entry_at option values) ≡ false in
     let Done : Given → Result Given ℕ = λ (values : Given). Ok values in
-    let number_of : Option (List ℕ) → GivenNumber = λ (value : Option (List ℕ)). record { number = option_and_then (number option) value; place = one.value_place } in
+    let number_of : Option (List ℕ) → GivenNumber =
+    λ (value : Option (List ℕ)). record { number = option_and_then (number option) value; place = one.value_place } in
     let entry_is : entry ≡ given_option option one = is ∙ sym (ap number_of stands) in
     let put_is : put option entry old ≡ put option (given_option option one) (options_kept before) =
     ap (λ (e : GivenNumber). put option e old) entry_is ∙ ap (λ (values : Given). put option (given_option option one) values) same in
@@ -93,7 +99,8 @@ pub written_one : (place : ℕ) (word : List ℕ) (texts : List (List ℕ)) (par
 written_one place word [] parts has =
     ap (λ (found : Option (List ℕ × List ℕ)). first_written place word None found ∷ []) has
 written_one place word (next ∷ texts) parts has =
-    ap (λ (found : Option (List ℕ × List ℕ)). first_written place word (Some next) found ∷ others_written found (written_options (place + 1) (next ∷ texts)) (written_options (place + 2) texts)) has
+    ap (λ (found : Option (List ℕ × List ℕ)). first_written place word (Some next) found
+    ∷ others_written found (written_options (place + 1) (next ∷ texts)) (written_options (place + 2) texts)) has
 
 -- the first option that words write, where its name is a word
 pub written_two : (place : ℕ) (word : List ℕ) (texts : List (List ℕ)) → parted word ≡ None
@@ -101,7 +108,8 @@ pub written_two : (place : ℕ) (word : List ℕ) (texts : List (List ℕ)) → 
 written_two place word [] has =
     ap (λ (found : Option (List ℕ × List ℕ)). first_written place word None found ∷ []) has
 written_two place word (next ∷ texts) has =
-    ap (λ (found : Option (List ℕ × List ℕ)). first_written place word (Some next) found ∷ others_written found (written_options (place + 1) (next ∷ texts)) (written_options (place + 2) texts)) has
+    ap (λ (found : Option (List ℕ × List ℕ)). first_written place word (Some next) found
+    ∷ others_written found (written_options (place + 1) (next ∷ texts)) (written_options (place + 2) texts)) has
 
 -- the fault of the next option is the first one
 pub step_fault : (before : List Written) (one : Written) (others : List Written) (place : ℕ) → Err place ≡ kept_after before one
@@ -123,13 +131,18 @@ kept_has : (option : CommandOption) (found : Option Written) → IsEntryOf optio
 kept_has option None = tt
 kept_has option (Some one) = value_has option one.value
 
+-- what is kept of an option is an entry of it, by its place in what is kept
+entry_has : (before : List Written) (option : CommandOption) → IsEntryOf option (entry_at option (options_kept before))
+entry_has before Bits = kept_has Bits (given Bits before)
+entry_has before Parts = kept_has Parts (given Parts before)
+entry_has before Shards = kept_has Shards (given Shards before)
+entry_has before Room = kept_has Room (given Room before)
+entry_has before Entries = kept_has Entries (given Entries before)
+entry_has before Input = kept_has Input (given Input before)
+
 -- what is kept are entries of their options
 kept_entries : (before : List Written) → AreEntries (options_kept before)
-kept_entries before = record {
-  of_bits = kept_has Bits (given Bits before);
-  of_parts = kept_has Parts (given Parts before);
-  of_input = kept_has Input (given Input before);
-}
+kept_entries before = record { each = entry_has before }
 
 -- the same of what equals it
 pub are_entries : (before : List Written) (given : Given) → given ≡ options_kept before → AreEntries given
@@ -146,13 +159,26 @@ absent_none None absent = refl
 absent_none (Some entry) absent = cc
 
 -- no more options are given than there are
-pub size_few : (given : Given) → size given ≤ 3
-size_few given = omega (arith, present_few given.bits, present_few given.parts, present_few given.input)
+pub size_few : (given : Given) → size given ≤ 6
+size_few given =
+    omega (
+      arith,
+      present_few given.bits,
+      present_few given.parts,
+      present_few given.shards,
+      present_few given.room,
+      present_few given.entries,
+      present_few given.input,
+    )
 
 -- a new option counts for one
-pub size_more : (option : CommandOption) (entry : GivenNumber) (given : Given) → is_some (entry_at option given) ≡ false → size (put option entry given) ≡ size given + 1
+pub size_more : (option : CommandOption) (entry : GivenNumber) (given : Given) → is_some (entry_at option given) ≡ false
+    → size (put option entry given) ≡ size given + 1
 size_more Bits entry given absent = omega (arith, absent_none given.bits absent)
 size_more Parts entry given absent = omega (arith, absent_none given.parts absent)
+size_more Shards entry given absent = omega (arith, absent_none given.shards absent)
+size_more Room entry given absent = omega (arith, absent_none given.room absent)
+size_more Entries entry given absent = omega (arith, absent_none given.entries absent)
 size_more Input entry given absent = omega (arith, absent_none given.input absent)
 
 -- the words from the first one on write the same
@@ -185,9 +211,11 @@ fault_one before fault place word texts parts whole first has is same =
 -- an option in two words before the others
 two_split : (before : List Written) (place : ℕ) (word : List ℕ) (texts rest later : List (List ℕ)) (value : Option (List ℕ))
     → rest ≡ after_next texts → value ≡ next_in rest → later ≡ after_next rest → parted word ≡ None
-    → asked_after before (written_options place (word ∷ after_next texts)) ≡ asked_after before (in_two_words place word value ∷ written_options (place + 2) later)
+    → asked_after before (written_options place (word ∷ after_next texts))
+    ≡ asked_after before (in_two_words place word value ∷ written_options (place + 2) later)
 two_split before place word texts rest later value left next last has =
-    let Others : List (List ℕ) → List Written = λ (rest : List (List ℕ)). in_two_words place word (next_in rest) ∷ written_options (place + 2) (after_next rest) in
+    let Others : List (List ℕ) → List Written =
+    λ (rest : List (List ℕ)). in_two_words place word (next_in rest) ∷ written_options (place + 2) (after_next rest) in
     let split : written_options place (word ∷ after_next texts) ≡ Others rest = written_two place word (after_next texts) has ∙ sym (ap Others left) in
     let named : Others rest ≡ in_two_words place word value ∷ written_options (place + 2) later =
     ap (λ (found : Option (List ℕ)). in_two_words place word found ∷ written_options (place + 2) (after_next rest)) (sym next)
@@ -198,7 +226,8 @@ two_split before place word texts rest later value left next last has =
 pub after_two : (before : List Written) (given : Given) (place : ℕ) (word : List ℕ) (texts rest later : List (List ℕ)) (value : Option (List ℕ))
     (whole : Result Config ℕ) → Some word ≡ next_in texts → rest ≡ after_next texts → value ≡ next_in rest → later ≡ after_next rest
     → parted word ≡ None → Ok given ≡ kept_after before (in_two_words place word value) → asked_after before (written_options place texts) ≡ whole
-    → (given ≡ options_kept (in_two_words place word value ∷ before)) × (asked_after (in_two_words place word value ∷ before) (written_options (place + 2) later) ≡ whole)
+    → (given ≡ options_kept (in_two_words place word value ∷ before))
+    × (asked_after (in_two_words place word value ∷ before) (written_options (place + 2) later) ≡ whole)
 after_two before values place word texts rest later value whole first left next last has is same =
     let one = in_two_words place word value in
     let on = step_on before one (written_options (place + 2) later) values is in
@@ -208,7 +237,8 @@ after_two before values place word texts rest later value whole first left next 
 -- the fault of an option in two words
 pub fault_two : (before : List Written) (fault place : ℕ) (word : List ℕ) (texts rest : List (List ℕ)) (value : Option (List ℕ))
     (whole : Result Config ℕ) → Some word ≡ next_in texts → rest ≡ after_next texts → value ≡ next_in rest
-    → parted word ≡ None → Err fault ≡ kept_after before (in_two_words place word value) → asked_after before (written_options place texts) ≡ whole → Err fault ≡ whole
+    → parted word ≡ None → Err fault ≡ kept_after before (in_two_words place word value)
+    → asked_after before (written_options place texts) ≡ whole → Err fault ≡ whole
 fault_two before fault place word texts rest value whole first left next has is same =
     let known = opened before place word texts whole first same in
     sym (step_fault before (in_two_words place word value) (written_options (place + 2) (after_next rest)) fault is)

@@ -1,5 +1,6 @@
 -- How the reader keeps what the options were given. No public clause cites this module.
-use Rattle.std.specs.Prelude.{◌≡◌, ℕ, ◌+◌, ◌/◌, ◌%◌, ◌≤◌, if◌then◌else◌, List, [], ◌∷◌, Option, Some, None, IfSome, unwrap_or, Result, Ok, Err}
+use Rattle.std.specs.Prelude.{◌≡◌, ℕ, ◌+◌, ◌/◌, ◌%◌, ◌≤◌, if◌then◌else◌, List, [], ◌∷◌}
+use Rattle.std.specs.Prelude.{Option, Some, None, IfSome, unwrap_or, Result, Ok, Err}
 use Rattle.std.specs.Option.{option_map, option_and_then}
 use Rattle.hamming_model.specs.declared.limits.TheConstants.{BITS_MOST}
 use Rattle.part_layout.specs.Contiguous.{can_be_cut}
@@ -7,7 +8,9 @@ use Rattle.command_line.specs.CommandOptions.{least, greatest}
 use Rattle.command_line.specs.CommandWords.{number_given, or_fault}
 use Rattle.command_line.specs.WrittenOptions.{Written, given, fault_of_option}
 use Rattle.command_line.specs.declared.command_option.CommandOption.{CommandOption}
-use Rattle.command_line.specs.declared.command_option.CommandOption.TheVariants.{Bits, Parts, Input}
+use Rattle.command_line.specs.declared.command_option.CommandOption.TheVariants.{Bits, Parts}
+use Rattle.command_line.specs.declared.command_option.CommandOption.TheVariants.{Shards, Room}
+use Rattle.command_line.specs.declared.command_option.CommandOption.TheVariants.{Entries, Input}
 use Rattle.command_line.specs.declared.given.GivenNumber.{GivenNumber}
 use Rattle.command_line.specs.declared.given.Given.{Given}
 
@@ -23,23 +26,33 @@ entry_in option settings = option_map (given_option option) (given option settin
 abbrev pub entry_at : CommandOption → Given → Option GivenNumber
 entry_at Bits given = given.bits
 entry_at Parts given = given.parts
+entry_at Shards given = given.shards
+entry_at Room given = given.room
+entry_at Entries given = given.entries
 entry_at Input given = given.input
 
 -- what is kept once an option is given
 abbrev pub put : CommandOption → GivenNumber → Given → Given
 put Bits entry given = record given { bits = Some entry }
 put Parts entry given = record given { parts = Some entry }
+put Shards entry given = record given { shards = Some entry }
+put Room entry given = record given { room = Some entry }
+put Entries entry given = record given { entries = Some entry }
 put Input entry given = record given { input = Some entry }
 
 -- the number of an entry, or else a default
 abbrev pub entry_number_or : ℕ → Option GivenNumber → ℕ
-entry_number_or default entry = unwrap_or (option_and_then (λ options_kept. options_kept.number) entry) default
+entry_number_or default entry =
+    unwrap_or (option_and_then (λ options_kept. options_kept.number) entry) default
 
 -- the parts of an entry, judged against the bits, and eight bits each where there is none
 abbrev pub entry_parts_or : ℕ → Option GivenNumber → Result ℕ ℕ
 entry_parts_or bits None = Ok (bits / 8)
 entry_parts_or bits (Some entry) =
-    elim entry.number [ None ↦ Err entry.place | Some parts ↦ if can_be_cut bits parts then Ok parts else Err entry.place ]
+    elim entry.number [
+      | None ↦ Err entry.place
+      | Some parts ↦ if can_be_cut bits parts then Ok parts else Err entry.place
+    ]
 
 -- one for an option that was given
 abbrev pub present : Option GivenNumber → ℕ
@@ -48,11 +61,20 @@ present (Some entry) = 1
 
 -- how many options were given
 abbrev pub size : Given → ℕ
-size given = present given.bits + present given.parts + present given.input
+size given =
+    present given.bits + present given.parts + present given.shards + present given.room
+    + present given.entries + present given.input
 
 -- what is kept of the options
 abbrev pub options_kept : List Written → Given
-options_kept settings = record { bits = entry_in Bits settings; parts = entry_in Parts settings; input = entry_in Input settings }
+options_kept settings = record {
+  bits = entry_in Bits settings;
+  parts = entry_in Parts settings;
+  shards = entry_in Shards settings;
+  room = entry_in Room settings;
+  entries = entry_in Entries settings;
+  input = entry_in Input settings;
+}
 
 -- what is kept after one more option, or its fault
 abbrev pub kept_after : List Written → Written → Result Given ℕ
@@ -65,13 +87,12 @@ IsNumberOf option number = (least option ≤ number) × (number ≤ greatest opt
 
 -- the number of an entry, if there is one, is such a number
 abbrev pub IsEntryOf : CommandOption → Option GivenNumber → Type 0
-IsEntryOf option entry = IfSome entry (λ options_kept. IfSome options_kept.number (IsNumberOf option))
+IsEntryOf option entry =
+    IfSome entry (λ options_kept. IfSome options_kept.number (IsNumberOf option))
 
 -- each entry is one of its option
 pub record AreEntries (given : Given) : Type 0 where
-  pub of_bits : IsEntryOf Bits given.bits
-  pub of_parts : IsEntryOf Parts given.parts
-  pub of_input : IsEntryOf Input given.input
+  pub each : (option : CommandOption) → IsEntryOf option (entry_at option given)
 
 -- the next word, if there is one
 abbrev pub next_in : List (List ℕ) → Option (List ℕ)
