@@ -97,8 +97,7 @@ module _ {S : Type 0} (asks : S → Asked) (stands : S → Standing) (law : (x :
     abbrev from_it : (later : List Hit) × (drop given rest ≡ hit ∷ later)
     from_it =
         let next : first_of (drop now.given (whole_answer asks now)) ≡ Some hit = sym (is ∙ next_seen asks stands now) in
-        let found = next_first now.given (whole_answer asks now) hit next in
-        (
+        let found = next_first now.given (whole_answer asks now) hit next in (
           found.0,
           drop-drop given start.given answer ∙ ap (λ n. drop n answer) (sym has.given)
               ∙ ap (drop now.given) (sym now_answer) ∙ found.1,

@@ -1,6 +1,7 @@
 mod WritingLemmas
 mod PlaceLemmas
 mod AnswerLemmas
+mod BoundLemmas
 mod KeptLemmas
 mod GivingLemmas
 mod QueryLemmas
