@@ -1,7 +1,7 @@
 -- Each source has read at most its bound for the whole answer.
-use Rattle.std.proofs.Common.{◌≡◌, ℕ, zero, suc, ◌≤◌, ◌<◌, Bool, true, false, cond, List, [], ◌∷◌, ◌++◌, length, take, map, get_or}
+use Rattle.std.proofs.Common.{◌≡◌, ℕ, zero, suc, ◌≤◌, ◌<◌, Bool, true, false, cond, List, [], ◌∷◌, length, take, map, get_or}
 use Rattle.std.proofs.Common.{Option, Some, None, refl, sym, ap, ◌∙◌, subst, arith}
-use Rattle.std.specs.Prelude.{All, IfSome}
+use Rattle.std.specs.Prelude.{IfSome}
 use Rattle.std.specs.List.{AllByRecursion, flat_map}
 use Rattle.std.specs.Ordering.{is_gt}
 use Rattle.std.proofs.lemmas.List.Elements.{recursion_from_All}
@@ -12,11 +12,11 @@ use Rattle.hamming_model.proofs.OrderLemmas.{ascends_in_order}
 use Rattle.hit_source.specs.Sources.{Asked, Standing, IsLawful}
 use Rattle.threshold_model.specs.Bounds.{last_distance}
 use Rattle.scatter_gather.specs.Gathering.{Gathered, merged}
-use Rattle.scatter_gather.specs.Kept.{IsUpTo, AreOneLength, length_of}
+use Rattle.scatter_gather.specs.Kept.{IsUpTo, length_of}
 use Rattle.scatter_gather.proofs.BeginLemmas.{bound_rises}
 use Rattle.hit_source.specs.WindowLaws.{nearer}
 use Rattle.scatter_gather.proofs.GiveLemmas.{all_append}
-use Rattle.open_queries.specs.Queries.{whole_answer, ReadsWithin}
+use Rattle.open_queries.specs.Queries.{whole_answer}
 use Rattle.open_queries.specs.Kept.{GivesFirst}
 
 -- ---- the last distances of two beginnings of a list that ascends

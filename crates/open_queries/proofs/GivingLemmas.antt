@@ -1,6 +1,6 @@
 -- Lemmas on giving the hits of a gathering one by one.
-use Rattle.std.proofs.Common.{◌≡◌, ℕ, suc, ◌+◌, ◌≤◌, ◌<◌, min, nat_lt, Bool, true, false, List, [], ◌∷◌, ◌++◌, length}
-use Rattle.std.proofs.Common.{take, drop, map, Option, Some, None, Ok, Err, refl, sym, ap, ◌∙◌, subst, arith}
+use Rattle.std.proofs.Common.{◌≡◌, ℕ, suc, ◌+◌, ◌≤◌, ◌<◌, nat_lt, Bool, true, false, List, [], ◌∷◌, ◌++◌, length}
+use Rattle.std.proofs.Common.{take, drop, Option, Some, None, Ok, Err, refl, sym, ap, ◌∙◌, subst, arith}
 use Rattle.std.proofs.Common.{append-nil, length-drop}
 use Rattle.std.specs.Io.KnownBytes.{Appends}
 use Rattle.std.proofs.KnownBytes.{Appends-trans}
@@ -14,7 +14,7 @@ use Rattle.query_protocol.specs.Replies.{text, reply_line}
 use Rattle.query_protocol.specs.Replies as reply
 use Rattle.session_model.specs.QuerySteps.{hit_replies}
 use Rattle.scatter_gather.specs.Gathering.{Gathered, seen, next_hit, has_more, reaches_by_rows}
-use Rattle.scatter_gather.specs.Moves.{ReadsRise, Gave, Waited, BegunWithin}
+use Rattle.scatter_gather.specs.Moves.{Gave, Waited, BegunWithin}
 use Rattle.scatter_gather.proofs.NextLemmas.{reads_again, reads_stay}
 use Rattle.open_queries.specs.Queries.{whole_answer}
 use Rattle.open_queries.specs.Kept.{GivesFirst}

@@ -5,3 +5,4 @@ mod BoundLemmas
 mod KeptLemmas
 mod GivingLemmas
 mod QueryLemmas
+mod TagLemmas

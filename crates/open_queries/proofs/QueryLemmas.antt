@@ -1,8 +1,7 @@
 -- Lemmas on a query, its replies, and its place in the list.
 use Rattle.std.proofs.Common.{◌≡◌, ℕ, zero, suc, ◌+◌, ◌≤◌, ◌<◌, min, nat_lt, Bool, true, false, cond, List, [], ◌∷◌, ◌++◌}
-use Rattle.std.proofs.Common.{length, take, drop, map, get_or, set, Option, Some, None, Result, Ok, Err, refl, sym, ap, ◌∙◌}
+use Rattle.std.proofs.Common.{length, take, drop, map, get_or, set, Option, Result, Ok, Err, refl, sym, ap, ◌∙◌}
 use Rattle.std.proofs.Common.{subst, arith, append-nil, ℤ}
-use Rattle.std.specs.Io.KnownBytes.{Appends}
 use Rattle.std.specs.Prelude.{OnOk}
 use Rattle.std.specs.List.{AllByRecursion}
 use Rattle.std.proofs.lemmas.Bool.{le-ltb, ltb-false}
@@ -12,21 +11,20 @@ use Rattle.hit_source.specs.Sources.{Asked, Standing, IsLawful}
 use Rattle.line_io.specs.declared.source.Failed.{Failed}
 use Rattle.query_protocol.specs.Replies.{LineReply, text, reply_line}
 use Rattle.query_protocol.specs.Replies as reply
-use Rattle.session_model.specs.QuerySteps.{hit_replies, next_replies}
+use Rattle.session_model.specs.QuerySteps.{hit_replies}
 use Rattle.threshold_model.specs.Bounds.{last_distance}
 use Rattle.scatter_gather.specs.Gathering.{Gathered, seen, answer_of, all_reads, all_bounds}
 use Rattle.scatter_gather.specs.Moves.{Looks, BegunWithin}
 use Rattle.scatter_gather.specs.Kept.{AreOneLength, IsUpTo}
 use Rattle.scatter_gather.proofs.NextLemmas.{reads_stay}
 use Rattle.open_queries.specs.declared.open_query.OpenQuery.{OpenQuery}
-use Rattle.open_queries.specs.Queries.{whole_answer, answer_in, last_in, opened_query, IsSame, IsFirstAt, Removes, ReadsWithin}
+use Rattle.open_queries.specs.Queries.{whole_answer, answer_in, opened_query, IsSame}
 use Rattle.open_queries.specs.Kept.{AreOfOneKind, GivesFirst, IsKept, IsUntouched}
 use Rattle.open_queries.specs.Giving.{GivesHits}
-use Rattle.open_queries.specs.Answers.{IsGiven, GivesQuery, IsCost, IsPlan}
+use Rattle.open_queries.specs.Answers.{GivesQuery, IsCost, IsPlan}
 use Rattle.open_queries.specs.Writing.{Writes}
 use Rattle.open_queries.proofs.BoundLemmas.{reads_within_answer}
 use Rattle.open_queries.proofs.KeptLemmas.{answer_seen, same_answer, untouched_first}
-use Rattle.open_queries.proofs.PlaceLemmas.{parted_at}
 use Rattle.open_queries.proofs.WritingLemmas.{writes_after, writes_front, text_append}
 
 -- ---- the list
@@ -48,7 +46,7 @@ pub kept_more : {S : Type 0} (P : S → Type 0) (xs : List S) (x : S) → AllByR
 kept_more P [] x all p = (p, tt)
 kept_more P (y ∷ xs) x all p = (all.0, kept_more P xs x all.1 p)
 
-kept_later : {S : Type 0} (P : S → Type 0) (xs : List S) (n : ℕ) → AllByRecursion P xs → AllByRecursion P (drop n xs)
+pub kept_later : {S : Type 0} (P : S → Type 0) (xs : List S) (n : ℕ) → AllByRecursion P xs → AllByRecursion P (drop n xs)
 kept_later P xs zero all = all
 kept_later P [] (suc n) all = tt
 kept_later P (x ∷ xs) (suc n) all = kept_later P xs n all.1
@@ -65,20 +63,6 @@ kept_without P (x ∷ xs) (suc n) zero all = (all.0, kept_under P xs n (x ∷ xs
     kept_under P [] (suc n) ys all more = more
     kept_under P (x ∷ xs) (suc n) ys all more = (all.0, kept_under P xs n ys all.1 more)
 kept_without P (x ∷ xs) (suc n) (suc m) all = (all.0, kept_without P xs n m all.1)
-
--- the query of a tag was taken out
-pub removes_at : {S : Type 0} (queries : List (OpenQuery S)) (tag : List ℕ) (place : ℕ) (before : OpenQuery S)
-    (new : List (OpenQuery S)) → IsFirstAt queries tag place → before ≡ get_or queries place before
-    → new ≡ take place queries ++ drop (place + 1) queries → Removes queries new tag before
-removes_at queries tag place before new at is parts = record {
-  front = take place queries;
-  back = drop (place + 1) queries;
-  old_is = parted_at queries place before at.within
-      ∙ ap (λ h. take place queries ++ h ∷ drop (place + 1) queries) (sym is);
-  new_is = parts;
-  is_first = at.is_first;
-  has_tag = ap (λ h. h.tag) is ∙ at.has_tag before;
-}
 
 -- ---- one query
 

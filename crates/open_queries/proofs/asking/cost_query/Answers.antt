@@ -1,5 +1,4 @@
 use Rattle.std.proofs.Common.{refl}
-use Rattle.open_queries.specs.declared.open_query.OpenQuery.{OpenQuery}
 use Rattle.open_queries.proofs.QueryLemmas.{cost_of, looked_kept}
 use Rattle.open_queries.proofs.asking.cost_query.Goals as goal
 

@@ -1,6 +1,4 @@
 use Rattle.std.proofs.Common.{◌∙◌, arith, refl}
-use Rattle.query_protocol.specs.Replies.{reply_line}
-use Rattle.query_protocol.specs.Replies as reply
 use Rattle.scatter_gather.proofs.TodoLemmas.{some_of}
 use Rattle.open_queries.proofs.QueryLemmas.{plan_of, looked_kept}
 use Rattle.open_queries.proofs.asking.plan_query.Goals as goal

@@ -1,8 +1,7 @@
 -- Each hit that is given is the next of the answer as it was left at the call.
-use Rattle.std.proofs.Common.{◌≡◌, ◌∙◌, ap, arith, subst, sym, Some, None}
+use Rattle.std.proofs.Common.{◌≡◌, ◌∙◌, arith, subst, sym}
 use Rattle.query_protocol.specs.Replies.{reply_line}
 use Rattle.query_protocol.specs.Replies as reply
-use Rattle.scatter_gather.specs.Gathering.{seen, next_hit}
 use Rattle.scatter_gather.specs.Moves.{Gave}
 use Rattle.open_queries.proofs.GivingLemmas.{gave_number, gave_last, gave_part, gave_more}
 use Rattle.open_queries.proofs.giving.give_hits.Goals as goal

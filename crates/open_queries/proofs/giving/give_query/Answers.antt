@@ -1,8 +1,7 @@
-use Rattle.std.proofs.Common.{◌≡◌, ◌∙◌, true, false, refl, sym, ap, subst, Ok}
+use Rattle.std.proofs.Common.{true, false, refl, subst, Ok}
 use Rattle.line_io.specs.declared.source.Failed.{Failed}
-use Rattle.open_queries.specs.declared.open_query.OpenQuery.{OpenQuery}
 use Rattle.open_queries.specs.Giving.{GivesHits}
-use Rattle.open_queries.proofs.QueryLemmas.{done_again, query_part, query_all, query_kept, part_kept}
+use Rattle.open_queries.proofs.QueryLemmas.{done_again, query_part, query_all}
 use Rattle.open_queries.proofs.giving.give_query.Goals as goal
 
 pub returns-then-query-clause-gives : goal.returns-then-query-clause-gives

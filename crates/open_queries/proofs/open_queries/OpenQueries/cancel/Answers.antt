@@ -1,9 +1,10 @@
-use Rattle.std.proofs.Common.{◌≡◌, ◌∙◌, ap, cond, sym, inr, subst, rules, arith}
+use Rattle.std.proofs.Common.{◌≡◌, ◌∙◌, ap, cond, sym, inr, subst, rules}
 use Rattle.query_protocol.specs.Replies.{LineReply, line_of}
 use Rattle.query_protocol.specs.Replies as reply
 use Rattle.open_queries.specs.Queries.{IsFirstAt, Removes}
+use Rattle.open_queries.specs.Kept.{AreKept}
 use Rattle.open_queries.specs.Answers.{reply_to_cancel}
-use Rattle.open_queries.proofs.QueryLemmas.{removes_at}
+use Rattle.open_queries.proofs.TagLemmas.{removes_at, all_without}
 use Rattle.open_queries.proofs.open_queries.OpenQueries.cancel.Goals as goal
 use Rattle.open_queries.proofs.open_queries.OpenQueries.cancel.Goals.{then-query, else-query}
 
@@ -24,7 +25,17 @@ returns-after-query g c =
     inr (
       before,
       subst (λ old. Removes old c.remove-query.new.self.items tag before) c.self.view_is
-          (removes_at c.self.inside.queries.items tag c.in-Some.place before c.remove-query.new.self.items at (search rules)
+          (removes_at c.self.inside.queries.items tag c.in-Some.place before c.remove-query.new.self.items
+          c.self.invariant.1.own at (search rules)
           c.remove-query.ensures.by_index.2),
       told,
+    )
+
+pub invariant_of-self : goal.invariant_of-self
+invariant_of-self g c =
+    let asks = g.H.HitSource.asked in
+    let stands = g.H.HitSource.standing in (
+      search rules,
+      subst (AreKept asks stands) (sym c.remove-query.ensures.by_index.2)
+          (all_without asks stands c.self.inside.queries.items c.in-Some.place c.self.invariant.1),
     )

@@ -1,6 +1,7 @@
 use Rattle.open_queries.specs.Queries.{IsFirstAt, Changes}
 use Rattle.std.proofs.Common.{inr, rules, subst, set}
 use Rattle.open_queries.proofs.PlaceLemmas.{changes_at}
+use Rattle.open_queries.proofs.TagLemmas.{all_set}
 use Rattle.open_queries.proofs.open_queries.OpenQueries.cost.Goals as goal
 
 pub returns-in-Some : goal.returns-in-Some
@@ -16,3 +17,11 @@ returns-in-Some g c =
       c.cost_query.ensures.same,
       c.cost_query.ensures.cost,
     )
+
+pub invariant_of-self : goal.invariant_of-self
+invariant_of-self g c = (
+  search rules,
+  all_set g.H.HitSource.asked g.H.HitSource.standing c.self.inside.queries.items c.in-Some.place
+      c.cost_query.new.query c.index_mut.result.now c.self.invariant.1 (search rules) c.cost_query.ensures.same.tag
+      c.cost_query.ensures.kept,
+)

@@ -1,6 +1,7 @@
 use Rattle.open_queries.specs.Queries.{IsFirstAt, Changes}
 use Rattle.std.proofs.Common.{inr, rules, subst, set}
 use Rattle.open_queries.proofs.PlaceLemmas.{changes_at}
+use Rattle.open_queries.proofs.TagLemmas.{all_set}
 use Rattle.open_queries.proofs.open_queries.OpenQueries.next.Goals as goal
 
 pub returns-in-Some-clause-gives : goal.returns-in-Some-clause-gives
@@ -15,3 +16,11 @@ returns-in-Some-clause-gives g c =
           (changes_at c.self.inside.queries.items c.args.tag.now c.in-Some.place before c.give_query.new.query at (search rules)),
       c.give_query.ensures.gives,
     )
+
+pub invariant_of-self : goal.invariant_of-self
+invariant_of-self g c = (
+  search rules,
+  all_set g.H.HitSource.asked g.H.HitSource.standing c.self.inside.queries.items c.in-Some.place
+      c.give_query.new.query c.index_mut.result.now c.self.invariant.1 (search rules) c.give_query.ensures.gives.tag_same
+      c.give_query.ensures.kept,
+)

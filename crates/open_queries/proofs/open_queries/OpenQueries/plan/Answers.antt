@@ -3,6 +3,7 @@ use Rattle.query_protocol.specs.Replies as reply
 use Rattle.query_protocol.specs.Requests.{bad}
 use Rattle.open_queries.specs.Queries.{IsFirstAt, Changes}
 use Rattle.open_queries.proofs.PlaceLemmas.{changes_at}
+use Rattle.open_queries.proofs.TagLemmas.{all_set}
 use Rattle.open_queries.proofs.open_queries.OpenQueries.plan.Goals as goal
 
 pub returns-in-None : goal.returns-in-None
@@ -29,3 +30,11 @@ returns-in-Some g c =
       );
       is_line = c.plan_query.ensures.plan.is_line;
     }
+
+pub invariant_of-self : goal.invariant_of-self
+invariant_of-self g c = (
+  search rules,
+  all_set g.H.HitSource.asked g.H.HitSource.standing c.self.inside.queries.items c.in-Some.place
+      c.plan_query.new.query c.index_mut.result.now c.self.invariant.1 (search rules) c.plan_query.ensures.same.tag
+      c.plan_query.ensures.kept,
+)
