@@ -1,14 +1,17 @@
 -- How a desk that is alone is kept: its journal and its shards. Public clauses see it as `desk_of` does.
-use Rattle.std.specs.Prelude.{◌≡◌, ℕ, ◌*◌, ◌<◌, ◌≤◌, true, List, [], length, map, max, Option, None, slice_index_or, refl}
+use Rattle.std.specs.Prelude.{◌≡◌, ℕ, ◌*◌, ◌<◌, ◌≤◌, true, List, [], length, map, Option, None, slice_index_or, refl}
 use Rattle.std.specs.Coded.{Coded, code_by, coded×, coded_list, coded_option, coded_ℕ}
+use Rattle.hamming_model.specs.History.{JournalEntry}
 use Rattle.hamming_model.specs.Recoded.{AreStoredEntries}
 use Rattle.hamming_model.specs.declared.limits.TheConstants.{WORDS_MOST}
 use Rattle.part_layout.specs.Ranges.{IsConfig}
 use Rattle.part_layout.specs.declared.config.Config.{Config}
+use Rattle.shard_version.specs.Contents.{Contents, IsVersion, empty_of}
 use Rattle.commit_journal.specs.Journals.{JournalState, journal_code}
+use Rattle.versioned_shard.specs.Along.{version_at}
 use Rattle.versioned_shard.specs.Rule.{KeepsJournalRule}
 use Rattle.versioned_shard.specs.Shards.{ShardState, shard_code, shard_with}
-use Rattle.session_desk.specs.Desks.{DeskState, Pin, Place, no_place, pin_position}
+use Rattle.session_desk.specs.Desks.{DeskState, Pin, Place, no_place, pin_position, starting_layout}
 
 -- the Config, the journal, the position of the front that was opened last, the shards with their last pins, and the two counts
 pub record SoloState : Type 0 where
@@ -93,12 +96,32 @@ pub record ComesTo (journal : JournalState) (position : ℕ) (old new : ShardSta
   pub shards_are : new.current.shards ≡ old.current.shards
   pub layout_is : new.current.layout ≡ old.current.layout
   pub never_back : old.current.at ≤ new.current.at
-  pub not_beyond : new.current.at ≤ max old.current.at position
 
--- a shard is one that a shard came to be by a swap
+-- a version that a shard gives at a position of a history, which at the end of that has the layout in which the shard stands
+pub record GivesVersion (history : List JournalEntry) (position : ℕ) (shard : ShardState) (version : Contents) : Type 0 where
+  pub sound : IsVersion version
+  pub shard_is : version.shard ≡ shard.current.shard
+  pub shards_are : version.shards ≡ shard.current.shards
+  pub bits_are : version.layout.bits ≡ shard.current.layout.bits
+  pub at : version.at ≡ position
+  pub rows : version ≡ version_at history version position
+  pub layout_is : position ≡ length history → version.layout ≡ shard.current.layout
+
+-- a shard after a swap, or as before
 pub record IsSwapped (journal : JournalState) (old new : ShardState) : Type 0 where
   pub rule : KeepsJournalRule journal new
   pub shard_is : new.current.shard ≡ old.current.shard
   pub shards_are : new.current.shards ≡ old.current.shards
   pub bits_are : new.current.layout.bits ≡ old.current.layout.bits
   pub at_is : new.current.at ≡ old.current.at
+
+-- the shard of a number before the first entry
+abbrev pub first_of : Config → ℕ → ShardState
+first_of config number = shard_with (empty_of number config.shards (starting_layout config)) []
+
+-- the first so many shards before the first entry, none of them pinned
+pub record AreFirstShards (config : Config) (shards : List ShardState) (pins : List (Option Pin)) (number : ℕ) : Type 0 where
+  pub shards_are : length shards ≡ number
+  pub pins_are : length pins ≡ number
+  pub each : (i : ℕ) → i < number → slice_index_or shards i no_shard ≡ first_of config i
+  pub none : (i : ℕ) → slice_index_or pins i None ≡ None

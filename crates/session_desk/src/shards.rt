@@ -4,18 +4,20 @@ ghost use Rattle.std.specs.Arc.{arc_value};
 ghost use Rattle.std.specs.Prelude.{◌≡◌, ◌≢◌, ◌↔◌, ◌*◌, ◌+◌, ◌-◌, ◌<◌, ◌≤◌, [], max, IfErr, IfOk, IsErr, OnErr, OnOk};
 ghost use Rattle.hamming_model.specs.Recoded.{AreStoredEntries};
 ghost use Rattle.hamming_model.specs.declared.limits.TheConstants.{WORDS_MOST};
+ghost use Rattle.part_layout.specs.Laid.{IsLaid};
 ghost use Rattle.part_layout.specs.Ranges.{IsConfig};
-ghost use Rattle.shard_version.specs.Contents.{IsVersion, empty_of};
+ghost use Rattle.part_layout.specs.Text.{layout_text};
+ghost use Rattle.shard_version.specs.Contents.{empty_of};
 ghost use Rattle.commit_journal.specs.Fronts.{position_of};
 ghost use Rattle.commit_journal.specs.Journals.{IsLive, KnowsFront};
-ghost use Rattle.versioned_shard.specs.Along.{Follows, version_at};
+ghost use Rattle.versioned_shard.specs.Along.{Follows};
 ghost use Rattle.versioned_shard.specs.Rule.{KeepsJournalRule};
-ghost use Rattle.versioned_shard.specs.Shards.{IsOneOf, MayStandIn, contents_at, shard_with, with_layout};
+ghost use Rattle.versioned_shard.specs.Shards.{contents_at, shard_with, with_layout};
 ghost use Rattle.session_desk.specs.Desks.{starting_layout};
-ghost use Rattle.session_desk.specs.Solos.{ComesTo, IsSwapped};
+ghost use Rattle.session_desk.specs.Solos.{ComesTo, GivesVersion, IsSwapped};
 
 use commit_journal::{Front, Journal, live_fronts_come_and_go};
-use part_layout::{Config, Layout};
+use part_layout::{Config, Layout, LayoutText};
 use read_meter::{NoMemory, Steps};
 use shard_version::{Prepared, Version};
 use std::alloc::Global;
@@ -25,11 +27,13 @@ use versioned_shard::{Moved, Shard, shards_keep_the_rule};
 // The layout in which each shard starts.
 pub fn first_layout(alloc: Global, config: &Config) -> Result<Arc<Layout>, NoMemory>
     requires config { IsConfig config.now }
-    ensures { IfOk result (λ layout. arc_value layout ≡ starting_layout config.now) }
+    ensures layout { IfOk result (λ layout. arc_value layout ≡ starting_layout config.now) }
+    ensures laid { IfOk result (λ layout. IsLaid (arc_value layout)) }
 {
     let Ok(layout) = Layout::contiguous(alloc, config.bits, config.parts) else {
         return Err(NoMemory);
     };
+    let _parts = layout.parts();
     let Ok(shared) = Arc::new(alloc, layout) else {
         return Err(NoMemory);
     };
@@ -69,16 +73,24 @@ pub fn pin_shard<const W: usize, M>(
     requires known { KnowsFront journal.now front.now }
     ensures comes { ComesTo journal.now (position_of front.now) shard.old shard.new }
     ensures reached { OnOk result (shard.new.current.at ≡ max shard.old.current.at (position_of front.now)) }
-    ensures version { IfOk result (λ version. IsOneOf shard.new (position_of front.now) (contents_at version)) }
-    ensures rows { IfOk result (λ version. contents_at version
-        ≡ version_at journal.now.history (contents_at version) (position_of front.now)) }
+    ensures gives { IfOk result (λ version.
+        GivesVersion journal.now.history (position_of front.now) shard.new (contents_at version)) }
     ensures upkeep { steps.new ≤ steps.old + (position_of front.now - shard.old.current.at) }
 {
     live_fronts_come_and_go();
     shards_keep_the_rule();
     let _position = front.position();
     shard.advance(front, steps)?;
-    shard.version_for(front)
+    let version = shard.version_for(front)?;
+    let _at = version.at();
+    Ok(version)
+}
+
+// The text of a version's layout.
+pub fn text_of<const W: usize>(version: &Arc<Version<W>>) -> LayoutText
+    ensures { result ≡ layout_text (contents_at version.now).layout.parts }
+{
+    version.layout().text()
 }
 
 // Takes a version that was made apart in place of a shard's present one, where both stand at one position.

@@ -1,18 +1,18 @@
 //! A desk that is alone.
 
-ghost use Rattle.std.specs.Prelude.{◌≡◌, ◌*◌, ◌<◌, ◌≤◌, IfErr, IfOk, OnErr, is_err};
+ghost use Rattle.std.specs.Prelude.{◌≡◌, ◌*◌, ◌<◌, ◌≤◌, if◌then◌else◌, IfErr, IfOk, OnErr, is_err};
 ghost use Rattle.hamming_model.specs.Recoded.{IsStoredOperation};
 ghost use Rattle.hamming_model.specs.declared.limits.TheConstants.{WORDS_MOST};
 ghost use Rattle.part_layout.specs.Ranges.{IsConfig};
 ghost use Rattle.entry_log.specs.Entries.{kept_operation};
 ghost use Rattle.commit_journal.specs.Journals.{KnowsFront};
 ghost use Rattle.versioned_shard.specs.Shards.{contents_at};
-ghost use Rattle.session_desk.specs.Calls.{ClosesFront, CommitsAt, IsMadeFor, KeepsKnown, OnlyLearns, Swaps, one_more};
+ghost use Rattle.session_desk.specs.Calls.{ClosesFront, CommitsAt, IsMadeFor, KeepsKnown, OnlyLearns, Swaps, is_late, one_more};
 ghost use Rattle.session_desk.specs.Desks.{IsOwnFront, left_at, new_desk};
 ghost use Rattle.session_desk.specs.Solos.{desk_of};
 
 use crate::desk::Desk;
-use crate::shards::{first_layout, first_shard, pin_shard, swap_shard};
+use crate::shards::{first_layout, first_shard, pin_shard, swap_shard, text_of};
 use commit_journal::{Decided, Front, Journal};
 use entry_log::Op;
 use gph_codes::Code;
@@ -142,12 +142,12 @@ impl<const W: usize> Desk<W> for SoloDesk<W> {
     ) -> Result<Arc<Version<W>>, NoMemory> {
         let place = shard as usize;
         let version = pin_shard(&self.journal, &mut self.shards[place], front, steps)?;
-        self.pins[place] = Some((front.position(), version.layout().text()));
+        self.pins[place] = Some((front.position(), text_of(&version)));
         Ok(version)
     }
 
     fn layout_of(&mut self, shard: u32) -> LayoutText {
-        self.shards[shard as usize].current().layout().text()
+        text_of(self.shards[shard as usize].current())
     }
 
     fn swap(&mut self, shard: u32, prepared: Prepared<W>) -> Result<(), Moved<W>>
@@ -166,12 +166,21 @@ impl<const W: usize> Desk<W> for SoloDesk<W> {
                 Ok(())
             }
             Err(moved) => {
-                if position == self.last && self.last < moved.shard_at {
-                    self.late = one_more(self.late);
-                }
+                self.late = late_after(self.late, self.last, position, moved.shard_at);
                 Err(moved)
             }
         }
+    }
+}
+
+// The count of late swaps after one more that was moved.
+fn late_after(late: u64, last: u64, prepared_at: u64, shard_at: u64) -> u64
+    ensures { result ≡ if is_late last prepared_at shard_at then one_more late else late }
+{
+    if prepared_at == last && last < shard_at {
+        one_more(late)
+    } else {
+        late
     }
 }
 
