@@ -1,5 +1,5 @@
 -- What the calls of a desk that is alone do with the shard that they find at its place.
-use Rattle.std.proofs.Common.{◌≡◌, ℕ, ◌<◌, ◌≤◌, max, List, get_or, set, Option, Some, None, sym, ap, subst, ◌∙◌, arith}
+use Rattle.std.proofs.Common.{◌≡◌, ℕ, ◌<◌, max, List, get_or, set, Some, None, sym, ap, subst, ◌∙◌, arith}
 use Rattle.hamming_model.specs.Recoded.{AreStoredEntries}
 use Rattle.part_layout.specs.Text.{layout_text}
 use Rattle.shard_version.specs.Contents.{Contents}

@@ -1,5 +1,5 @@
 -- A shard that comes to a front, and the version that it gives there.
-use Rattle.std.proofs.Common.{◌≡◌, ◌≢◌, ◌↔◌, ◌⊎◌, inl, inr, ℕ, zero, suc, ◌+◌, ◌-◌, ◌<◌, ◌≤◌, nat_lt, max, min, Bool, true, false, cond, List, [], ◌∷◌, length, map, take, refl, sym, ap, subst, ◌∙◌, arith}
+use Rattle.std.proofs.Common.{◌≡◌, ◌≢◌, ◌↔◌, inl, inr, ℕ, zero, suc, nat_lt, max, Bool, true, false, cond, List, [], ◌∷◌, take, refl, sym, ap, subst, ◌∙◌, arith}
 use Rattle.std.specs.Prelude.{IsErr, OnErr, OnOk}
 use Rattle.std.specs.declared.result.Result.{Result}
 use Rattle.std.specs.declared.result.Result.TheVariants.{Ok, Err}
@@ -10,7 +10,7 @@ use Rattle.hamming_model.specs.History.{JournalEntry, rows_of, shard_rows}
 use Rattle.hamming_model.specs.Recoded.{AreStoredEntries, cut_entry, cut_history}
 use Rattle.shard_version.specs.Contents.{Contents, IsVersion}
 use Rattle.commit_journal.specs.Fronts.{FrontState, position_of}
-use Rattle.commit_journal.specs.Journals.{IsKnown, JournalState, KnowsFront}
+use Rattle.commit_journal.specs.Journals.{JournalState, KnowsFront}
 use Rattle.versioned_shard.specs.Along.{Follows, version_at}
 use Rattle.versioned_shard.specs.Rule.{IsKeptVersion, KeepsJournalRule}
 use Rattle.versioned_shard.specs.Shards.{IsOneOf, MayStandIn, ShardState, advanced, further, with_layout}

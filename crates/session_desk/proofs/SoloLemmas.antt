@@ -1,9 +1,9 @@
 -- A desk that is alone after its calls.
-use Rattle.std.proofs.Common.{◌≡◌, ◌≢◌, ◌⊎◌, inl, inr, ℕ, zero, suc, ◌+◌, ◌<◌, ◌≤◌, max, true, List, [], ◌∷◌, length, map, take, replicate, get_or, set, Option, Some, None, refl, sym, ap, subst, ◌∙◌, arith}
+use Rattle.std.proofs.Common.{◌≡◌, ◌≢◌, ◌⊎◌, inl, inr, ℕ, ◌<◌, ◌≤◌, max, List, [], length, map, take, get_or, set, Option, Some, None, refl, sym, ap, subst, ◌∙◌, arith}
 use Rattle.std.proofs.Math.ListN.{get_or-map}
 use Rattle.std.proofs.lemmas.Bool.{cases_eq}
 use Rattle.std.proofs.lemmas.List.{append-nil, get_or_default, get_or-set_other, get_or-set_same, length-map, length-set, map-set, set-get_or}
-use Rattle.hamming_model.specs.History.{JournalEntry, rows_of, shard_rows}
+use Rattle.hamming_model.specs.History.{rows_of, shard_rows}
 use Rattle.hamming_model.specs.Recoded.{AreStoredEntries, cut_history}
 use Rattle.part_layout.specs.Laid.{Laid, IsLaid}
 use Rattle.part_layout.specs.Text.{layout_text}
@@ -13,7 +13,7 @@ use Rattle.commit_journal.specs.Journals.{IsJournal, JournalState, without_front
 use Rattle.versioned_shard.specs.Rule.{KeepsJournalRule}
 use Rattle.versioned_shard.specs.Shards.{ShardState}
 use Rattle.session_desk.specs.Calls.{Comes, Learns, PinsVersion, TellsLayout}
-use Rattle.session_desk.specs.Desks.{DeskState, IsDesk, IsPlace, IsVersionOf, Pin, Place, left_at, no_place, pin_position, pinned_at, place_at}
+use Rattle.session_desk.specs.Desks.{DeskState, IsDesk, IsPlace, IsVersionOf, Pin, Place, left_at, pin_position, place_at}
 use Rattle.session_desk.specs.Solos.{ComesTo, GivesVersion, IsShardOf, IsSoloDesk, SoloState, desk_of, no_shard, place_of, solo_of}
 
 -- the shard of a number

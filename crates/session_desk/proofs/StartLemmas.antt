@@ -1,5 +1,5 @@
 -- How a desk that is alone begins, and the codes of its rows.
-use Rattle.std.proofs.Common.{◌≡◌, ◌⊎◌, inl, inr, ℕ, zero, suc, ◌+◌, ◌*◌, ◌<◌, ◌≤◌, List, [], ◌∷◌, ◌++◌, length, map, take, replicate, get_or, Option, Some, None, refl, sym, ap, subst, ◌∙◌, arith}
+use Rattle.std.proofs.Common.{◌≡◌, ◌⊎◌, inl, inr, ℕ, zero, suc, ◌+◌, ◌*◌, ◌<◌, ◌≤◌, List, [], ◌∷◌, ◌++◌, length, map, take, replicate, get_or, Option, None, refl, sym, ap, subst, ◌∙◌, arith}
 use Rattle.std.specs.Prelude.{IfSome}
 use Rattle.std.specs.List.{All}
 use Rattle.std.specs.Map.{values_of}
@@ -21,7 +21,7 @@ use Rattle.commit_journal.specs.Fronts.{positions_of}
 use Rattle.commit_journal.specs.Journals.{JournalState, empty_journal}
 use Rattle.versioned_shard.specs.Rule.{KeepsRule}
 use Rattle.versioned_shard.specs.Shards.{ShardState, shard_with}
-use Rattle.session_desk.specs.Desks.{DeskState, Pin, Place, new_desk, pin_position, starting_layout}
+use Rattle.session_desk.specs.Desks.{Pin, Place, new_desk, pin_position, starting_layout}
 use Rattle.session_desk.specs.Solos.{AreFirstShards, IsSoloDesk, desk_of, first_of, no_shard, place_of, solo_of}
 
 -- ---- the codes of rows

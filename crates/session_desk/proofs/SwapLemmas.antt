@@ -1,5 +1,5 @@
 -- A swap of a desk that is alone.
-use Rattle.std.proofs.Common.{◌≡◌, ◌≢◌, ◌↔◌, ℕ, ◌<◌, ◌≤◌, Bool, true, false, cond, List, get_or, map, set, Option, Some, None, refl, sym, ap, subst, ◌∙◌, arith}
+use Rattle.std.proofs.Common.{◌≡◌, ◌≢◌, ◌↔◌, ℕ, ◌<◌, Bool, true, false, List, get_or, map, set, None, refl, sym, ap, subst, ◌∙◌, arith}
 use Rattle.std.specs.Prelude.{◌&&◌, if◌then◌else◌}
 use Rattle.std.proofs.lemmas.List.{set-get_or}
 use Rattle.part_layout.specs.Laid.{Laid}
@@ -10,7 +10,7 @@ use Rattle.versioned_shard.specs.Shards.{ShardState}
 use Rattle.session_desk.specs.Calls.{IsMadeFor, Swaps, is_late, one_more}
 use Rattle.session_desk.specs.Desks.{DeskState, Place, left_at, place_at}
 use Rattle.session_desk.specs.Solos.{IsShardOf, IsSoloDesk, IsSwapped, SoloState, desk_of, no_shard, place_of, solo_of}
-use Rattle.session_desk.proofs.SoloLemmas.{changed_left, changed_lefts, changed_places, learns_nothing, left_there, placed_there, shard_found, shard_of, solo_with}
+use Rattle.session_desk.proofs.SoloLemmas.{changed_left, changed_lefts, changed_places, learns_nothing, placed_there, shard_found, shard_of, solo_with}
 
 module _ (words : ℕ) (s now : SoloState) (solo : IsSoloDesk words s) (is : s ≡ now) (number : ℕ) (low : number < now.config.shards)
     (found : ShardState) (at : found ≡ get_or s.shards number found) where

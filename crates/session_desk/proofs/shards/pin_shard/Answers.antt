@@ -2,7 +2,7 @@
 use Rattle.std.proofs.Common.{subst, sym, arith}
 use Rattle.commit_journal.specs.Fronts.{position_of, positions_of}
 use Rattle.versioned_shard.specs.Rule.{KeepsJournalRule}
-use Rattle.versioned_shard.specs.Shards.{ShardState, contents_at}
+use Rattle.versioned_shard.specs.Shards.{contents_at}
 use Rattle.shard_version.specs.Contents.{IsVersion}
 use Rattle.shard_version.specs.Tables.{Tabled}
 use Rattle.session_desk.specs.Solos.{ComesTo}

@@ -1,5 +1,5 @@
 -- The desk begins with its first shards.
-use Rattle.std.proofs.Common.{◌≡◌, ◌++◌, ◌∷◌, [], ℕ, ◌+◌, List, Option, subst, sym, ap, ◌∙◌, arith}
+use Rattle.std.proofs.Common.{◌≡◌, ◌++◌, ◌∷◌, [], ◌+◌, List, Option, subst, sym, ap, ◌∙◌, arith}
 use Rattle.part_layout.specs.Laid.{IsLaid, Laid}
 use Rattle.shard_version.specs.Contents.{empty_of}
 use Rattle.versioned_shard.specs.Shards.{ShardState, shard_with}

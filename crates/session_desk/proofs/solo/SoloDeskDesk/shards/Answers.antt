@@ -1,6 +1,5 @@
 -- A solo desk is a desk.
 use Rattle.std.proofs.Common.{subst}
-use Rattle.commit_journal.specs.Journals.{IsJournal}
 use Rattle.session_desk.specs.Desks.{IsDesk}
 use Rattle.session_desk.specs.Solos.{SoloState, desk_of}
 use Rattle.session_desk.proofs.SoloLemmas.{solo_is_desk}

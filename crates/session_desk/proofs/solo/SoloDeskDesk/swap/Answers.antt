@@ -1,5 +1,5 @@
 -- The shard takes the version, or stays.
-use Rattle.std.proofs.Common.{arith, refl, true, false, ap, ◌∙◌, sym, subst}
+use Rattle.std.proofs.Common.{arith, refl, false, ap}
 use Rattle.versioned_shard.specs.Shards.{ShardState, contents_at}
 use Rattle.session_desk.proofs.SwapLemmas.{now_swapped, now_swaps, swap_needs}
 use Rattle.session_desk.proofs.solo.SoloDeskDesk.swap.Goals as goal
