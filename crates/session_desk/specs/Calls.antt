@@ -9,7 +9,6 @@ use Rattle.part_layout.specs.Text.{layout_text}
 use Rattle.shard_version.specs.Contents.{Contents}
 use Rattle.commit_journal.specs.declared.decided.Decided.{Decided}
 use Rattle.commit_journal.specs.Fronts.{FrontState, live_at, position_of}
-use Rattle.versioned_shard.specs.Along.{Follows}
 use Rattle.session_desk.specs.Desks.{DeskState, IsOwnFront, IsVersionOf, Pin, left_at, pinned_at, place_at}
 
 -- what was seen before begins what is seen after, and the new entries are of others; a desk that is
@@ -100,13 +99,9 @@ pub record TellsLayout (old new : DeskState) (shard : ℕ) (told : List ℕ) : T
   pub alone : old.alone ≡ true → (laid ≡ (place_at old shard).1)
       × (left_at new shard ≡ (place_at old shard).0)
 
--- a version that was made apart for a shard, with its rows of the first entries of what the desk
--- has seen
+-- a version that was made apart for a shard, with its rows of the first entries of what was seen
 pub record IsMadeFor (desk : DeskState) (shard : ℕ) (version : Contents) : Type 0 where
-  pub shard_is : version.shard ≡ shard
-  pub shards_are : version.shards ≡ desk.config.shards
-  pub bits_are : version.layout.bits ≡ desk.config.bits
-  pub follows : Follows desk.seen version
+  pub version_is : IsVersionOf desk shard version.at version
   pub within : version.at ≤ length desk.seen
 
 -- a count of one more, which stays at the greatest number
