@@ -1,13 +1,12 @@
 -- A desk that opened a front, pinned every shard at it, and closed it.
-use Rattle.std.proofs.Common.{◌≡◌, ◌≢◌, ◌⊎◌, inl, inr, ℕ, zero, suc, ◌+◌, ◌-◌, ◌<◌, ◌≤◌, ◌==◌, Bool, true, false, cond, List, length, get_or, Option, Some, None, refl, sym, ap, subst, ◌∙◌, arith, eqb-true}
+use Rattle.std.proofs.Common.{◌≡◌, ℕ, zero, suc, ◌+◌, ◌<◌, ◌≤◌, ◌==◌, Bool, true, false, cond, List, length, get_or, Option, Some, None, refl, sym, ap, subst, ◌∙◌, arith, eqb-true}
 use Rattle.std.specs.Cmp.{nat_cmp_total, unsigned_tied}
 use Rattle.std.specs.FinMap.{get, insert, remove, get-insert, get-remove, same_map, nat_cmp-IsAntisymmetric}
-use Rattle.hamming_model.specs.History.{JournalEntry}
 use Rattle.shard_version.specs.Contents.{Contents}
 use Rattle.commit_journal.specs.Fronts.{FrontState, Live, live_at, position_of}
 use Rattle.session_desk.specs.Calls.{ClosesFront, KeepsKnown, Learns, OnlyLearns, OpensFront}
-use Rattle.session_desk.specs.Desks.{DeskState, IsOwnFront, Pin, Place, no_place, pin_position, place_at}
-use Rattle.query_opening.specs.Pinning.{ComesOn, IsPinnedShard, PinsAll, PinsFirst, behind}
+use Rattle.session_desk.specs.Desks.{DeskState, IsOwnFront, Pin, place_at}
+use Rattle.query_opening.specs.Pinning.{ComesOn, PinsAll, PinsFirst, behind}
 use Rattle.query_opening.proofs.PinLemmas.{learns_both, learns_length, version_stays}
 
 -- ---- the live fronts
@@ -107,11 +106,12 @@ module _ (old start mid new : DeskState) (front : FrontState) (opens : OpensFron
     after = omega (arith, whole, learns_length old start.seen opens.learns);
     within = omega (arith, position_seen, learns_length mid new.seen closes.learns);
     number = first.number_is ∙ ap (λ (d : DeskState). d.config.shards) opens.after;
-    each = λ shard other low. (let is = first.each shard other (subst (λ (n : ℕ). shard < n) (sym (ap (λ (d : DeskState). d.config.shards) opens.after)) low) in record {
-      version_is = version_stays mid new shard (position_of front) _ closes.learns (ap (λ (d : DeskState). d.config) closes.after) position_seen is.version_is;
-      pin = ap (λ (d : DeskState). get_or d.pins shard None) closes.after ∙ is.pin;
-      layout = λ alone. is.layout (start_alone ∙ alone) ∙ ap (λ (d : DeskState). (place_at d shard).1) opens.after;
-    });
+    each = λ shard other low. (let is = first.each shard other
+        (subst (λ (n : ℕ). shard < n) (sym (ap (λ (d : DeskState). d.config.shards) opens.after)) low) in record {
+          version_is = version_stays mid new shard (position_of front) _ closes.learns (ap (λ (d : DeskState). d.config) closes.after) position_seen is.version_is;
+          pin = ap (λ (d : DeskState). get_or d.pins shard None) closes.after ∙ is.pin;
+          layout = λ alone. is.layout (start_alone ∙ alone) ∙ ap (λ (d : DeskState). (place_at d shard).1) opens.after;
+        });
   })
 
   -- ---- upkeep
@@ -125,5 +125,10 @@ module _ (old start mid new : DeskState) (front : FrontState) (opens : OpensFron
   within_behind from to bound =
       let same : behind start.pins (position_of front) start.config.shards ≡ behind old.pins (position_of front) old.config.shards =
       ap (λ (d : DeskState). behind d.pins (position_of front) d.config.shards) opens.after in
-      omega (arith, bound, same, later_behind old.pins (position_of front) (length new.seen) old.config.shards
-      (omega (arith, position_seen, learns_length mid new.seen closes.learns)))
+      omega (
+        arith,
+        bound,
+        same,
+        later_behind old.pins (position_of front) (length new.seen) old.config.shards
+            (omega (arith, position_seen, learns_length mid new.seen closes.learns)),
+      )

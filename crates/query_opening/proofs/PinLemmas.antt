@@ -1,26 +1,26 @@
 -- A desk whose shards are pinned one after the other.
-use Rattle.std.proofs.Common.{◌≡◌, ◌≢◌, ◌⊎◌, inl, inr, ℕ, zero, suc, ◌+◌, ◌-◌, ◌<◌, ◌≤◌, Bool, true, false, cond, List, [], ◌∷◌, ◌++◌, length, map, take, get_or, set, Option, Some, None, refl, sym, ap, subst, ◌∙◌, arith}
-use Rattle.std.specs.FinMap as map
+use Rattle.std.proofs.Common.{◌≡◌, ◌≢◌, ◌⊎◌, inl, inr, ℕ, zero, suc, ◌+◌, ◌-◌, ◌<◌, ◌≤◌, List, [], ◌∷◌, ◌++◌, length, take, get_or, set, Option, Some, None, refl, sym, ap, subst, ◌∙◌, arith}
 use Rattle.std.specs.List.{AllByRecursion}
-use Rattle.std.proofs.lemmas.Bool.{cases_eq, cases_lt}
+use Rattle.std.proofs.lemmas.Bool.{cases_lt}
 use Rattle.std.proofs.lemmas.List.{append_assoc, append-nil, get_or-set_other, get_or-set_same, length-append, length-map, length-set, map-append, take-append-le}
 use Rattle.hamming_model.specs.History.{JournalEntry, rows_of, shard_rows}
 use Rattle.hamming_model.specs.Recoded.{cut_entry, cut_history}
-use Rattle.part_layout.specs.Laid.{Laid}
 use Rattle.part_layout.specs.Text.{layout_text}
 use Rattle.part_layout.specs.declared.config.Config.{Config}
 use Rattle.shard_version.specs.Contents.{Contents}
 use Rattle.commit_journal.specs.Fronts.{FrontState, position_of}
-use Rattle.session_desk.specs.Calls.{ClosesFront, Comes, Learns, OpensFront, PinsVersion}
-use Rattle.session_desk.specs.Desks.{DeskState, IsVersionOf, Pin, Place, left_at, no_place, pin_position, pinned_at, place_at}
-use Rattle.query_opening.specs.Pinning.{ComesOn, IsPinnedShard, PinsAll, PinsFirst, behind}
+use Rattle.session_desk.specs.Calls.{Comes, Learns, PinsVersion}
+use Rattle.session_desk.specs.Desks.{DeskState, IsVersionOf, Pin, Place, left_at, no_place, pin_position, pinned_at}
+use Rattle.query_opening.specs.Pinning.{ComesOn, IsPinnedShard, PinsFirst, behind}
 
-all_both : (P : JournalEntry → Type 0) (first second : List JournalEntry) → AllByRecursion P first → AllByRecursion P second → AllByRecursion P (first ++ second)
+all_both : (P : JournalEntry → Type 0) (first second : List JournalEntry) → AllByRecursion P first → AllByRecursion P second
+    → AllByRecursion P (first ++ second)
 all_both P [] second all others = others
 all_both P (entry ∷ first) second all others = (all.0, all_both P first second all.1 others)
 
 -- what is learned in two calls
-pub learns_both : (old mid : DeskState) (seen : List JournalEntry) → Learns old mid.seen → Learns mid seen → mid.who ≡ old.who → mid.alone ≡ old.alone → Learns old seen
+pub learns_both : (old mid : DeskState) (seen : List JournalEntry) → Learns old mid.seen → Learns mid seen → mid.who ≡ old.who → mid.alone ≡ old.alone
+    → Learns old seen
 learns_both old mid seen first second who alone = record {
   more = first.more ++ second.more;
   longer = second.longer ∙ ap (λ (each : List JournalEntry). each ++ second.more) first.longer ∙ append_assoc old.seen first.more second.more;
@@ -51,7 +51,8 @@ version_stays old new shard position version learns config within is = record {
   bits_are = is.bits_are ∙ sym (ap (λ (each : Config). each.bits) config);
   at = is.at;
   rows = is.rows
-      ∙ ap (λ (entries : List JournalEntry). shard_rows shard old.config.shards (rows_of entries)) (sym (first_stays old new position learns within old.config.bits))
+      ∙ ap (λ (entries : List JournalEntry). shard_rows shard old.config.shards (rows_of entries))
+      (sym (first_stays old new position learns within old.config.bits))
       ∙ ap (λ (each : Config). shard_rows shard each.shards (rows_of (take position (cut_history each.bits new.seen)))) (sym config);
 }
 
@@ -95,11 +96,11 @@ one_came old mid new shard pins first second = record {
       ∙ layout_kept mid.places shard other (left_at new shard) ∙ first.layouts is other;
 }
 
-last_of : {A : Type 0} (items : List A) (item none : A) → get_or (items ++ item ∷ []) (length items) none ≡ item
+pub last_of : {A : Type 0} (items : List A) (item none : A) → get_or (items ++ item ∷ []) (length items) none ≡ item
 last_of [] item none = refl
 last_of (first ∷ items) item none = last_of items item none
 
-before_last : {A : Type 0} (items : List A) (item none : A) (i : ℕ) → i < length items → get_or (items ++ item ∷ []) i none ≡ get_or items i none
+pub before_last : {A : Type 0} (items : List A) (item none : A) (i : ℕ) → i < length items → get_or (items ++ item ∷ []) i none ≡ get_or items i none
 before_last [] item none i low = absurd (omega arith)
 before_last (first ∷ items) item none zero low = refl
 before_last (first ∷ items) item none (suc i) low = before_last items item none i (omega arith)
@@ -152,7 +153,8 @@ module _ (old mid new : DeskState) (front : FrontState) (versions : List Content
                 ∙ get_or-set_same mid.pins number (Some (position_of front, layout_text version.layout.parts)) None (omega (arith, low, first.all));
             layout = λ alone.
                 pins.layout (first.comes.alone ∙ alone)
-                (first.whole ∙ ap length (sym (first.comes.learns.longer ∙ ap (λ (more : List JournalEntry). old.seen ++ more) (first.comes.learns.all alone) ∙ append-nil old.seen)))
+                (first.whole ∙ ap length (sym (first.comes.learns.longer ∙ ap (λ (more : List JournalEntry). old.seen ++ more) (first.comes.learns.all alone)
+                ∙ append-nil old.seen)))
                 ∙ first.comes.layouts alone number;
           }))
 

@@ -2,6 +2,8 @@
 //! Nothing else of the desk changes, and upkeep rises by at most the entries that the shards were behind.
 #![tactic(auto)]
 
+mod opening;
 mod pinning;
 
+pub use opening::{Opened, open_range};
 pub use pinning::{Pinned, pin_all};

@@ -4,7 +4,6 @@ use Rattle.std.proofs.lemmas.List.{map-append}
 use Rattle.shard_version.specs.Contents.{Contents}
 use Rattle.commit_journal.specs.Fronts.{live_at, position_of}
 use Rattle.versioned_shard.specs.Shards.{contents_at}
-use Rattle.session_desk.specs.Calls.{KeepsKnown}
 use Rattle.session_desk.specs.Desks.{DeskState, IsOwnFront}
 use Rattle.query_opening.specs.Pinning.{PinsFirst, contents_of_all}
 use Rattle.query_opening.proofs.PinLemmas.{behind_all, behind_more, one_came, pins_more}
@@ -44,13 +43,20 @@ loop-shard-preserved g c =
     let fronts = ap (λ (d : DeskState). d.fronts) pins.comes.after in
     let more : contents_of_all c.push.new.self.items ≡ items ++ contents_at c.in_ok-version.version ∷ [] = ap contents_of_all c.in-Ok.ensures.items
     ∙ map-append contents_at c.loop-shard.versions.items (c.in_ok-version.version ∷ []) in
-    let own : IsOwnFront new front = ap (λ live. live_at live front.id) fronts ∙ c.loop-shard.invariant.1.0 in
-    (subst (λ (versions : List Contents). PinsFirst old new (position_of front) versions (c.loop-shard.shard + 1)) (sym more)
-    (pins_more old mid new front items c.loop-shard.shard (contents_at c.in_ok-version.version) first pins
-    (omega (arith, c.loop-shard-test.true, c.shards-shard-end.ensures.shards))),
-    (own,
-    (c.pin.ensures.known front own c.loop-shard.invariant.1.1.0,
-    ((λ other there known. c.pin.ensures.known other there
-    (c.loop-shard.invariant.1.1.1.0 other (ap (λ live. live_at live other.id) (sym fronts) ∙ there) known)),
-    behind_more old mid (position_of front) items c.loop-shard.shard c.args.steps.now c.loop-shard.steps c.pin.new.steps first
-    c.loop-shard.invariant.1.1.1.1 c.pin.ensures.upkeep))))
+    let own : IsOwnFront new front = ap (λ live. live_at live front.id) fronts ∙ c.loop-shard.invariant.1.0 in (
+      subst (λ (versions : List Contents). PinsFirst old new (position_of front) versions (c.loop-shard.shard + 1)) (sym more)
+          (pins_more old mid new front items c.loop-shard.shard (contents_at c.in_ok-version.version) first pins
+          (omega (arith, c.loop-shard-test.true, c.shards-shard-end.ensures.shards))),
+      (
+        own,
+        (
+          c.pin.ensures.known front own c.loop-shard.invariant.1.1.0,
+          (
+            (λ other there known. c.pin.ensures.known other there
+                (c.loop-shard.invariant.1.1.1.0 other (ap (λ live. live_at live other.id) (sym fronts) ∙ there) known)),
+            behind_more old mid (position_of front) items c.loop-shard.shard c.args.steps.now c.loop-shard.steps c.pin.new.steps first
+                c.loop-shard.invariant.1.1.1.1 c.pin.ensures.upkeep,
+          ),
+        ),
+      ),
+    )

@@ -1,5 +1,5 @@
 -- What the loop keeps: the first shards are pinned, and the front is still the desk's own.
-use Rattle.std.proofs.Common.{◌≡◌, ◌+◌, ◌≤◌, length}
+use Rattle.std.proofs.Common.{◌+◌, ◌≤◌}
 use Rattle.commit_journal.specs.Fronts.{position_of}
 use Rattle.session_desk.specs.Calls.{KeepsKnown}
 use Rattle.session_desk.specs.Desks.{IsOwnFront}
