@@ -1,9 +1,10 @@
 -- No line feed stands within a reply.
-use Rattle.std.proofs.Common.{◌≡◌, ℕ, suc, ℤ, pos, negsuc, All, ◌<◌, ◌^◌, ◌==◌, ◌&&◌, not, nat_le, Bool, true, false, List, [], ◌∷◌, ◌++◌, if◌then◌else◌, length, codes, decimal, refl, subst, arith}
+use Rattle.std.proofs.Common.{◌≡◌, ℕ, suc, ℤ, pos, negsuc, All, ◌+◌, ◌*◌, ◌<◌, ◌^◌, ◌==◌, ◌&&◌, not, nat_le, Bool, true, false, List, [], ◌∷◌, ◌++◌, if◌then◌else◌, length, codes, decimal, refl, subst, arith}
 use Rattle.std.proofs.lemmas.Bool.Decides.{nat_tests}
 use Rattle.std.proofs.lemmas.Fmt.{digits_decimal}
 use Rattle.std.proofs.lemmas.List.Folds.{list_all-append}
 use Rattle.std.proofs.lemmas.Str.Parse.{numerals_by_value, tells_digits, digit_from_value}
+use Rattle.std.specs.Char.{digit_char}
 use Rattle.std.specs.Int.{IsInRange}
 use Rattle.std.specs.List.{list_all}
 use Rattle.std.specs.Str.Parse.{AllDigits}
@@ -11,7 +12,7 @@ use Rattle.line_forms.specs.Forms.{is_tag, is_letter_or_digit}
 use Rattle.part_layout.specs.Text.{layout_text, is_layout_byte, HasLayoutBytes, IsTextOfLayout}
 use Rattle.part_layout.specs.Laid.{Laid, IsLaid}
 use Rattle.query_protocol.specs.Replies as reply
-use Rattle.query_protocol.specs.Replies.{LineReply, has_no_feed, IsWritten, IsSigned64, reply_text, fault_text, threshold_text, thresholds_text}
+use Rattle.query_protocol.specs.Replies.{LineReply, hex_text, has_no_feed, IsWritten, IsSigned64, reply_text, fault_text, threshold_text, thresholds_text}
 use Rattle.query_protocol.specs.declared.bad.Bad.{Bad}
 
 -- two tests that are true
@@ -115,6 +116,26 @@ thresholds_no_feed (threshold ∷ others) all =
     no_feed_joined (threshold_text threshold) (thresholds_text others) (threshold_no_feed threshold first)
     (thresholds_no_feed others rest)
 
+-- the digit of a value below sixteen
+digit_of_value : (value : ℕ) → value < 16 → not (digit_char value == 10) ≡ true
+digit_of_value value small = grind (arith, nat_tests)
+
+-- hexadecimal digits
+hex_no_feed : (code : List ℕ) → All (λ bit. bit < 2) code → has_no_feed (hex_text code) ≡ true
+unfolding hex_text
+hex_no_feed [] all = refl
+hex_no_feed (a ∷ []) all = refl
+hex_no_feed (a ∷ b ∷ []) all = refl
+hex_no_feed (a ∷ b ∷ c ∷ []) all = refl
+hex_no_feed (a ∷ b ∷ c ∷ d ∷ code) all =
+    let first : a < 2 = all 0 0 (omega arith) in
+    let second : b < 2 = all 1 0 (omega arith) in
+    let third : c < 2 = all 2 0 (omega arith) in
+    let fourth : d < 2 = all 3 0 (omega arith) in
+    both (not (digit_char (8 * a + 4 * b + 2 * c + d) == 10)) (has_no_feed (hex_text code))
+    (digit_of_value (8 * a + 4 * b + 2 * c + d) (omega arith))
+    (hex_no_feed code (λ at other inside. all (suc (suc (suc (suc at)))) other (omega arith)))
+
 -- the text of a fault
 fault_no_feed : (fault : Bad) → fault.number < 2 ^ 64 → fault.word < 2 ^ 64 → has_no_feed (fault_text fault) ≡ true
 fault_no_feed fault number word = step (fault.number == 5)
@@ -133,6 +154,19 @@ fault_no_feed fault number word = step (fault.number == 5)
 pub reply_no_feed : AllHaveLayoutBytes → (one : LineReply) → IsWritten one → has_no_feed (reply_text one) ≡ true
 reply_no_feed each (reply.Added key at) is =
     four (codes "added ") (decimal key) (codes " at ") (decimal at) refl (number_no_feed key is.0) refl (number_no_feed at is.1)
+reply_no_feed each (reply.Deleted key at) is =
+    four (codes "deleted ") (decimal key) (codes " at ") (decimal at) refl (number_no_feed key is.0) refl (number_no_feed at is.1)
+reply_no_feed each (reply.Absent key at) is =
+    four (codes "absent ") (decimal key) (codes " at ") (decimal at) refl (number_no_feed key is.0) refl (number_no_feed at is.1)
+reply_no_feed each (reply.Code key code at) is =
+    no_feed_joined (codes "code " ++ decimal key ++ codes " " ++ hex_text code ++ codes " at ") (decimal at)
+    (no_feed_joined (codes "code " ++ decimal key ++ codes " " ++ hex_text code) (codes " at ")
+    (four (codes "code ") (decimal key) (codes " ") (hex_text code) refl (number_no_feed key is.0) refl (hex_no_feed code is.1)) refl)
+    (number_no_feed at is.2)
+reply_no_feed each (reply.Cancelled tag count) is =
+    four (codes "cancelled ") tag (codes " ") (decimal count) refl (tag_no_feed tag is.0) refl (number_no_feed count is.1)
+reply_no_feed each (reply.Closed tag count) is =
+    four (codes "closed ") tag (codes " ") (decimal count) refl (tag_no_feed tag is.0) refl (number_no_feed count is.1)
 reply_no_feed each (reply.Taken key at) is =
     four (codes "taken ") (decimal key) (codes " at ") (decimal at) refl (number_no_feed key is.0) refl (number_no_feed at is.1)
 reply_no_feed each (reply.Full at) is = no_feed_joined (codes "full at ") (decimal at) refl (number_no_feed at is)

@@ -1,2 +1,4 @@
 pub mod Requests
+pub mod Lines
+pub mod Stored
 pub mod Replies

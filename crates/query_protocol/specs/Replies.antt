@@ -1,5 +1,6 @@
 -- The text of replies: a line each.
-use Rattle.std.specs.Prelude.{◌≡◌, ℕ, ◌<◌, ◌^◌, ◌==◌, not, Bool, true, if◌then◌else◌, List, [], ◌∷◌, ◌++◌, All, ℤ, pos, negsuc, suc, codes, decimal}
+use Rattle.std.specs.Prelude.{◌≡◌, ℕ, ◌<◌, ◌^◌, ◌==◌, not, Bool, true, if◌then◌else◌, List, [], ◌∷◌, ◌++◌, All, ℤ, pos, negsuc, suc, ◌+◌, ◌*◌, codes, decimal}
+use Rattle.std.specs.Char.{digit_char}
 use Rattle.std.specs.Fmt.{signed_decimal}
 use Rattle.std.specs.List.{flat_map, list_all}
 use Rattle.line_forms.specs.Forms.{is_tag}
@@ -11,14 +12,19 @@ use Rattle.query_protocol.specs.declared.reply.Reply.TheVariants as reply
 -- a line of output
 pub data LineReply : Type 0 where
   Added : ℕ → ℕ → LineReply
+  Deleted : ℕ → ℕ → LineReply
   Taken : ℕ → ℕ → LineReply
+  Absent : ℕ → ℕ → LineReply
   Full : ℕ → LineReply
+  Code : ℕ → List ℕ → ℕ → LineReply
   Open : List ℕ → ℕ → LineReply
   Hit : List ℕ → ℕ → ℕ → LineReply
   More : List ℕ → LineReply
   Done : List ℕ → ℕ → LineReply
   Cost : List ℕ → ℕ → ℕ → LineReply
   Plan : List ℕ → ℕ → ℕ → List ℤ → LineReply
+  Cancelled : List ℕ → ℕ → LineReply
+  Closed : List ℕ → ℕ → LineReply
   Layout : ℕ → List ℕ → LineReply
   Bad : fault.Bad → LineReply
   NoMemory : LineReply
@@ -26,14 +32,23 @@ pub data LineReply : Type 0 where
 -- the line that a reply is
 abbrev pub line_of : Reply → LineReply
 line_of (reply.Added key at) = Added key at
+line_of (reply.Deleted key at) = Deleted key at
 line_of (reply.Taken key at) = Taken key at
+line_of (reply.Absent key at) = Absent key at
 line_of (reply.Full at) = Full at
 line_of (reply.Open tag at) = Open tag at
 line_of (reply.More tag) = More tag
 line_of (reply.Done tag count) = Done tag count
 line_of (reply.Cost tag reads bound) = Cost tag reads bound
+line_of (reply.Cancelled tag count) = Cancelled tag count
+line_of (reply.Closed tag count) = Closed tag count
 line_of (reply.Bad fault) = Bad fault
 line_of reply.NoMemory = NoMemory
+
+-- the hexadecimal digits of a code in lower case, four bits a digit
+unfoldable pub hex_text : List ℕ → List ℕ
+hex_text (a ∷ b ∷ c ∷ d ∷ code) = digit_char (8 * a + 4 * b + 2 * c + d) ∷ hex_text code
+hex_text rest = []
 
 -- the text of a fault
 abbrev pub fault_text : fault.Bad → List ℕ
@@ -51,8 +66,12 @@ thresholds_text thresholds = flat_map threshold_text thresholds
 -- a reply without its line feed
 abbrev pub reply_text : LineReply → List ℕ
 reply_text (Added key at) = codes "added " ++ decimal key ++ codes " at " ++ decimal at
+reply_text (Deleted key at) = codes "deleted " ++ decimal key ++ codes " at " ++ decimal at
 reply_text (Taken key at) = codes "taken " ++ decimal key ++ codes " at " ++ decimal at
+reply_text (Absent key at) = codes "absent " ++ decimal key ++ codes " at " ++ decimal at
 reply_text (Full at) = codes "full at " ++ decimal at
+reply_text (Code key code at) =
+    codes "code " ++ decimal key ++ codes " " ++ hex_text code ++ codes " at " ++ decimal at
 reply_text (Open tag at) = codes "open " ++ tag ++ codes " at " ++ decimal at
 reply_text (Hit tag dist key) = codes "hit " ++ tag ++ codes " " ++ decimal dist ++ codes " " ++ decimal key
 reply_text (More tag) = codes "more " ++ tag
@@ -61,6 +80,8 @@ reply_text (Cost tag reads bound) =
     codes "cost " ++ tag ++ codes " reads " ++ decimal reads ++ codes " bound " ++ decimal bound
 reply_text (Plan tag shard cost thresholds) =
     codes "plan " ++ tag ++ codes " " ++ decimal shard ++ codes " cost " ++ decimal cost ++ thresholds_text thresholds
+reply_text (Cancelled tag count) = codes "cancelled " ++ tag ++ codes " " ++ decimal count
+reply_text (Closed tag count) = codes "closed " ++ tag ++ codes " " ++ decimal count
 reply_text (Layout shard text) = codes "layout " ++ decimal shard ++ codes " " ++ text
 reply_text (Bad fault) = fault_text fault
 reply_text NoMemory = codes "nomem"
@@ -89,8 +110,11 @@ IsSigned64 (negsuc number) = IsWord64 (suc number)
 -- what a reply may hold: numbers of at most 64 bits, tags of the form of tags, and the texts of layouts
 abbrev pub IsWritten : LineReply → Type 0
 IsWritten (Added key at) = IsWord64 key × IsWord64 at
+IsWritten (Deleted key at) = IsWord64 key × IsWord64 at
 IsWritten (Taken key at) = IsWord64 key × IsWord64 at
+IsWritten (Absent key at) = IsWord64 key × IsWord64 at
 IsWritten (Full at) = IsWord64 at
+IsWritten (Code key code at) = IsWord64 key × All (λ bit. bit < 2) code × IsWord64 at
 IsWritten (Open tag at) = (is_tag tag ≡ true) × IsWord64 at
 IsWritten (Hit tag dist key) = (is_tag tag ≡ true) × IsWord64 dist × IsWord64 key
 IsWritten (More tag) = is_tag tag ≡ true
@@ -98,6 +122,8 @@ IsWritten (Done tag count) = (is_tag tag ≡ true) × IsWord64 count
 IsWritten (Cost tag reads bound) = (is_tag tag ≡ true) × IsWord64 reads × IsWord64 bound
 IsWritten (Plan tag shard cost thresholds) =
     (is_tag tag ≡ true) × IsWord64 shard × IsWord64 cost × All IsSigned64 thresholds
+IsWritten (Cancelled tag count) = (is_tag tag ≡ true) × IsWord64 count
+IsWritten (Closed tag count) = (is_tag tag ≡ true) × IsWord64 count
 IsWritten (Layout shard text) = IsWord64 shard × IsTextOfLayout text
 IsWritten (Bad fault) = IsWord64 fault.number × IsWord64 fault.word
 IsWritten NoMemory = Unit {0}

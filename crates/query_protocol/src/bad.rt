@@ -1,7 +1,8 @@
 ghost use Rattle.std.specs.Prelude.{◌≡◌, ℕ, ◌<◌, List, length, Err};
 ghost use Rattle.line_io.specs.declared.cutter.TheConstants.{LINE_MOST};
 ghost use Rattle.part_layout.specs.declared.config.Config.{Config};
-ghost use Rattle.query_protocol.specs.Requests.{bad, bad_word, reading};
+ghost use Rattle.query_protocol.specs.Lines.{reading};
+ghost use Rattle.query_protocol.specs.Requests.{bad, bad_word};
 
 /// Why a line is no request, or why a request can't be met, as its reply `bad N` or `bad 5 W` prints it.
 #[derive(Clone, Copy, Debug, PartialEq, Eq)]

@@ -12,5 +12,5 @@ pub use bad::Bad;
 pub use laws::lines_of_replies;
 pub use line_forms::Tag;
 pub use reading::read_line;
-pub use reply::{Reply, write_hit, write_layout, write_plan};
+pub use reply::{Reply, write_code, write_hit, write_layout, write_plan};
 pub use request::{Request, RequestWord};

@@ -4,7 +4,9 @@ ghost use Rattle.std.specs.Prelude.{◌≡◌, ℕ, ◌≤◌, length};
 ghost use Rattle.gph_codes.specs.Allowed.{IsAllowed};
 ghost use Rattle.line_io.specs.declared.cutter.TheConstants.{LINE_MOST};
 ghost use Rattle.line_forms.specs.Words.{words};
-ghost use Rattle.query_protocol.specs.Requests.{reading, of_words, request_word, with_words, add_asked, range_asked, next_asked, cost_asked, plan_asked, layout_asked, quit_asked, ReadsAs};
+ghost use Rattle.query_protocol.specs.Lines.{reading, of_words, request_word, with_words};
+ghost use Rattle.query_protocol.specs.Requests.{add_asked, range_asked, next_asked, plan_asked, layout_asked, quit_asked, key_alone, tag_alone};
+ghost use Rattle.query_protocol.specs.Stored.{ReadsAs, NamesShard};
 
 use crate::{Bad, Request, RequestWord};
 use line_forms::{Tag, code_of, count_of, is_printable, key_of, next_word, radius_of, shard_of};
@@ -21,6 +23,7 @@ pub fn read_line<const W: usize>(config: &Config, line: &[u8]) -> Result<Option<
     requires allowed { IsAllowed W config.now.bits }
     requires short { length line.now ≤ LINE_MOST }
     ensures reads { ReadsAs W config.now.bits result (reading config.now line.now) }
+    ensures shard { NamesShard config.now.shards result }
 {
     if !is_printable(line) {
         return Err(Bad::no_text());
@@ -32,7 +35,8 @@ pub fn read_line<const W: usize>(config: &Config, line: &[u8]) -> Result<Option<
 fn read_words<const W: usize>(config: &Config, line: &[u8]) -> Result<Option<Request<W>>, Bad>
     requires few_words { W ≤ 8 }
     requires allowed { IsAllowed W config.now.bits }
-    ensures { ReadsAs W config.now.bits result (of_words config.now (words line.now)) }
+    ensures reads { ReadsAs W config.now.bits result (of_words config.now (words line.now)) }
+    ensures shard { NamesShard config.now.shards result }
 {
     match next_word(line) {
         None => Ok(None),
@@ -48,15 +52,27 @@ fn read_after<const W: usize>(
 ) -> Result<Option<Request<W>>, Bad>
     requires few_words { W ≤ 8 }
     requires allowed { IsAllowed W config.now.bits }
-    ensures { ReadsAs W config.now.bits result (with_words config.now word (words after.now)) }
+    ensures reads { ReadsAs W config.now.bits result (with_words config.now word (words after.now)) }
+    ensures shard { NamesShard config.now.shards result }
 {
     match word {
         None => Err(Bad::no_request_word()),
         Some(RequestWord::AddWord) => read_add(config.bits, after),
+        Some(RequestWord::DelWord) => Ok(Some(Request::Del {
+            key: key_alone(after)?,
+        })),
+        Some(RequestWord::GetWord) => Ok(Some(Request::Get {
+            key: key_alone(after)?,
+        })),
         Some(RequestWord::RangeWord) => read_range(config.bits, after),
         Some(RequestWord::NextWord) => read_next(after),
-        Some(RequestWord::CostWord) => read_cost(after),
+        Some(RequestWord::CostWord) => Ok(Some(Request::Cost {
+            tag: tag_alone(after)?,
+        })),
         Some(RequestWord::PlanWord) => read_plan(config.shards, after),
+        Some(RequestWord::CancelWord) => Ok(Some(Request::Cancel {
+            tag: tag_alone(after)?,
+        })),
         Some(RequestWord::LayoutWord) => read_layout(config.shards, after),
         Some(RequestWord::QuitWord) => read_quit(after),
     }
@@ -68,6 +84,10 @@ fn request_word(word: &[u8]) -> Option<RequestWord>
 {
     if word == b"add".as_slice() {
         Some(RequestWord::AddWord)
+    } else if word == b"del".as_slice() {
+        Some(RequestWord::DelWord)
+    } else if word == b"get".as_slice() {
+        Some(RequestWord::GetWord)
     } else if word == b"range".as_slice() {
         Some(RequestWord::RangeWord)
     } else if word == b"next".as_slice() {
@@ -76,6 +96,8 @@ fn request_word(word: &[u8]) -> Option<RequestWord>
         Some(RequestWord::CostWord)
     } else if word == b"plan".as_slice() {
         Some(RequestWord::PlanWord)
+    } else if word == b"cancel".as_slice() {
+        Some(RequestWord::CancelWord)
     } else if word == b"layout".as_slice() {
         Some(RequestWord::LayoutWord)
     } else if word == b"quit".as_slice() {
@@ -89,7 +111,8 @@ fn request_word(word: &[u8]) -> Option<RequestWord>
 fn read_add<const W: usize>(bits: u32, after: &[u8]) -> Result<Option<Request<W>>, Bad>
     requires few_words { W ≤ 8 }
     requires allowed { IsAllowed W bits }
-    ensures { ReadsAs W bits result (add_asked bits (words after.now)) }
+    ensures reads { ReadsAs W bits result (add_asked bits (words after.now)) }
+    ensures shard { (shards : ℕ) → NamesShard shards result }
 {
     let Some((key, after)) = next_word(after) else {
         return Err(Bad::other_number_of_words());
@@ -113,7 +136,8 @@ fn read_add<const W: usize>(bits: u32, after: &[u8]) -> Result<Option<Request<W>
 fn read_range<const W: usize>(bits: u32, after: &[u8]) -> Result<Option<Request<W>>, Bad>
     requires few_words { W ≤ 8 }
     requires allowed { IsAllowed W bits }
-    ensures { ReadsAs W bits result (range_asked bits (words after.now)) }
+    ensures reads { ReadsAs W bits result (range_asked bits (words after.now)) }
+    ensures shard { (shards : ℕ) → NamesShard shards result }
 {
     let Some((tag, after)) = next_word(after) else {
         return Err(Bad::other_number_of_words());
@@ -141,7 +165,8 @@ fn read_range<const W: usize>(bits: u32, after: &[u8]) -> Result<Option<Request<
 
 // The words after `next`.
 fn read_next<const W: usize>(after: &[u8]) -> Result<Option<Request<W>>, Bad>
-    ensures { (bits : ℕ) → ReadsAs W bits result (next_asked (words after.now)) }
+    ensures reads { (bits : ℕ) → ReadsAs W bits result (next_asked (words after.now)) }
+    ensures shard { (shards : ℕ) → NamesShard shards result }
 {
     let Some((tag, after)) = next_word(after) else {
         return Err(Bad::other_number_of_words());
@@ -161,9 +186,22 @@ fn read_next<const W: usize>(after: &[u8]) -> Result<Option<Request<W>>, Bad>
     Ok(Some(Request::Next { tag, n }))
 }
 
-// The words after `cost`.
-fn read_cost<const W: usize>(after: &[u8]) -> Result<Option<Request<W>>, Bad>
-    ensures { (bits : ℕ) → ReadsAs W bits result (cost_asked (words after.now)) }
+// The key of a request that has no other word.
+fn key_alone(after: &[u8]) -> Result<u64, Bad>
+    ensures { result ≡ key_alone (words after.now) }
+{
+    let Some((key, after)) = next_word(after) else {
+        return Err(Bad::other_number_of_words());
+    };
+    if next_word(after).is_some() {
+        return Err(Bad::other_number_of_words());
+    }
+    key_of(key).ok_or(Bad::of_word(2))
+}
+
+// The tag of a request that has no other word.
+fn tag_alone(after: &[u8]) -> Result<Tag, Bad>
+    ensures { result ≡ tag_alone (words after.now) }
 {
     let Some((tag, after)) = next_word(after) else {
         return Err(Bad::other_number_of_words());
@@ -171,15 +209,13 @@ fn read_cost<const W: usize>(after: &[u8]) -> Result<Option<Request<W>>, Bad>
     if next_word(after).is_some() {
         return Err(Bad::other_number_of_words());
     }
-    let Some(tag) = Tag::of(tag) else {
-        return Err(Bad::of_word(2));
-    };
-    Ok(Some(Request::Cost { tag }))
+    Tag::of(tag).ok_or(Bad::of_word(2))
 }
 
 // The words after `plan`.
 fn read_plan<const W: usize>(shards: u32, after: &[u8]) -> Result<Option<Request<W>>, Bad>
-    ensures { (bits : ℕ) → ReadsAs W bits result (plan_asked shards (words after.now)) }
+    ensures reads { (bits : ℕ) → ReadsAs W bits result (plan_asked shards (words after.now)) }
+    ensures shard { NamesShard shards result }
 {
     let Some((tag, after)) = next_word(after) else {
         return Err(Bad::other_number_of_words());
@@ -204,7 +240,8 @@ fn read_plan<const W: usize>(shards: u32, after: &[u8]) -> Result<Option<Request
 
 // The words after `layout`.
 fn read_layout<const W: usize>(shards: u32, after: &[u8]) -> Result<Option<Request<W>>, Bad>
-    ensures { (bits : ℕ) → ReadsAs W bits result (layout_asked shards (words after.now)) }
+    ensures reads { (bits : ℕ) → ReadsAs W bits result (layout_asked shards (words after.now)) }
+    ensures shard { NamesShard shards result }
 {
     let Some((shard, after)) = next_word(after) else {
         return Err(Bad::other_number_of_words());
@@ -224,7 +261,8 @@ fn read_layout<const W: usize>(shards: u32, after: &[u8]) -> Result<Option<Reque
 
 // The words after `quit`.
 fn read_quit<const W: usize>(after: &[u8]) -> Result<Option<Request<W>>, Bad>
-    ensures { (bits : ℕ) → ReadsAs W bits result (quit_asked (words after.now)) }
+    ensures reads { (bits : ℕ) → ReadsAs W bits result (quit_asked (words after.now)) }
+    ensures shard { (shards : ℕ) → NamesShard shards result }
 {
     if next_word(after).is_some() {
         return Err(Bad::other_number_of_words());

@@ -1,22 +1,32 @@
-ghost use Rattle.std.specs.Prelude.{◌≡◌, ◌≤◌, ◌+◌, ◌*◌, [], ◌++◌, ◌∷◌, length, decimal, codes};
+ghost use Rattle.std.specs.Prelude.{◌≡◌, ℕ, List, ◌≤◌, ◌+◌, ◌*◌, [], ◌++◌, ◌∷◌, length, decimal, codes};
+ghost use Rattle.gph_codes.specs.Allowed.{IsAllowed};
+ghost use Rattle.hamming_model.specs.Codes.{StandsFor};
 ghost use Rattle.line_io.specs.declared.cutter.TheConstants.{LINE_MOST};
 ghost use Rattle.query_protocol.specs.Replies.{reply_line, line_of, threshold_text, thresholds_text};
 ghost use Rattle.hamming_model.specs.declared.limits.TheConstants.{PARTS_MOST};
 ghost use Rattle.query_protocol.specs.Replies as reply;
 
 use crate::Bad;
+use gph_codes::Code;
 use line_forms::Tag;
 use line_io::LineBuf;
 use part_layout::LayoutText;
 
-/// A line of output. A hit, a plan and a layout are lines too, and have calls of their own in place of a variant: a hit comes
-/// often, and the other two are long, so that no other reply has to have room for them.
+// The greatest number of hexadecimal digits of a code.
+const DIGITS_MOST: usize = 128;
+
+/// A line of output. A hit, a code, a plan and a layout are lines too, and have calls of their own in place of a variant: a hit
+/// comes often, and the other three are long, so that no other reply has to have room for them.
 #[derive(Debug, Drop)]
 pub enum Reply {
     /// The entry that adds the key was accepted, as the entry of this number.
     Added { key: u64, at: u64 },
+    /// The entry that takes the key's row out was accepted, as the entry of this number.
+    Deleted { key: u64, at: u64 },
     /// The key is taken, in the rows of the first `at` entries.
     Taken { key: u64, at: u64 },
+    /// No row has the key, in the rows of the first `at` entries.
+    Absent { key: u64, at: u64 },
     /// No entry was accepted: the history of `at` entries is as long as it may be.
     Full { at: u64 },
     /// The query stands at the first `at` entries.
@@ -27,6 +37,10 @@ pub enum Reply {
     Done { tag: Tag, count: u64 },
     /// How many postings the query has read, and the bound that its reads stay within.
     Cost { tag: Tag, reads: u64, bound: u64 },
+    /// The query ended before its answer was given whole; `count` is the number of hits given.
+    Cancelled { tag: Tag, count: u64 },
+    /// The query ended after its answer was given whole; `count` is the number of its hits.
+    Closed { tag: Tag, count: u64 },
     /// The line is no request, or the request can't be met.
     Bad(Bad),
     /// There was no memory for the request, and it changed nothing.
@@ -41,12 +55,16 @@ impl Reply {
     {
         match self {
             Reply::Added { key, at } => write_key(b"added ", *key, *at, out),
+            Reply::Deleted { key, at } => write_key(b"deleted ", *key, *at, out),
             Reply::Taken { key, at } => write_key(b"taken ", *key, *at, out),
+            Reply::Absent { key, at } => write_key(b"absent ", *key, *at, out),
             Reply::Full { at } => write_full(*at, out),
             Reply::Open { tag, at } => write_open(tag, *at, out),
             Reply::More { tag } => write_more(tag, out),
-            Reply::Done { tag, count } => write_done(tag, *count, out),
+            Reply::Done { tag, count } => write_count(b"done ", tag, *count, out),
             Reply::Cost { tag, reads, bound } => write_cost(tag, *reads, *bound, out),
+            Reply::Cancelled { tag, count } => write_count(b"cancelled ", tag, *count, out),
+            Reply::Closed { tag, count } => write_count(b"closed ", tag, *count, out),
             Reply::Bad(fault) => write_fault(fault, out),
             Reply::NoMemory => out.put(b"nomem\n"),
         }
@@ -64,6 +82,25 @@ pub fn write_hit(tag: &Tag, dist: u32, key: u64, out: &mut LineBuf)
     out.put_number(u64::from(dist));
     out.put(b" ");
     out.put_number(key);
+    out.put(b"\n");
+}
+
+/// Writes the line of a row's code, in the rows of the first `at` entries.
+pub fn write_code<const W: usize>(key: u64, bits: u32, code: &Code<W>, at: u64, out: &mut LineBuf)
+    requires few_words { W ≤ 8 }
+    requires allowed { IsAllowed W bits }
+    requires empty { out.old ≡ [] }
+    ensures { (one : List ℕ) → StandsFor W bits code.now one → out.new ≡ reply_line (reply.Code key one at) }
+{
+    let mut digits = [0; DIGITS_MOST];
+    let digits = &mut digits[..bits as usize / 4];
+    code.to_hex(bits, digits);
+    out.put(b"code ");
+    out.put_number(key);
+    out.put(b" ");
+    out.put(digits);
+    out.put(b" at ");
+    out.put_number(at);
     out.put(b"\n");
 }
 
@@ -108,11 +145,12 @@ fn write_more(tag: &Tag, out: &mut LineBuf)
     out.put(b"\n");
 }
 
-fn write_done(tag: &Tag, count: u64, out: &mut LineBuf)
-    requires { out.old ≡ [] }
-    ensures { out.new ≡ reply_line (reply.Done tag.now count) }
+fn write_count(word: &[u8], tag: &Tag, count: u64, out: &mut LineBuf)
+    requires empty { out.old ≡ [] }
+    requires short { length word.now ≤ 10 }
+    ensures { out.new ≡ word.now ++ tag.now ++ codes " " ++ decimal count ++ 10 ∷ [] }
 {
-    out.put(b"done ");
+    out.put(word);
     out.put(tag.bytes());
     out.put(b" ");
     out.put_number(count);

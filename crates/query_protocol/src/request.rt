@@ -5,10 +5,13 @@ use line_forms::Tag;
 #[derive(Clone, Copy, Debug, PartialEq, Eq)]
 pub enum RequestWord {
     AddWord,
+    DelWord,
+    GetWord,
     RangeWord,
     NextWord,
     CostWord,
     PlanWord,
+    CancelWord,
     LayoutWord,
     QuitWord,
 }
@@ -18,6 +21,10 @@ pub enum RequestWord {
 pub enum Request<const W: usize> {
     /// Commits an entry that adds a row.
     Add { key: u64, code: Code<W> },
+    /// Commits an entry that takes a row out.
+    Del { key: u64 },
+    /// Asks for the code of a row, at the present length of the history.
+    Get { key: u64 },
     /// Opens a query for all codes at most `tau` positions away.
     Range { tag: Tag, tau: u32, code: Code<W> },
     /// Asks for the next hits of a query, at most `n`.
@@ -26,6 +33,8 @@ pub enum Request<const W: usize> {
     Cost { tag: Tag },
     /// Asks for the thresholds of a query in a shard.
     Plan { tag: Tag, shard: u32 },
+    /// Ends a query, so that its tag is free again.
+    Cancel { tag: Tag },
     /// Asks for the present layout of a shard.
     Layout { shard: u32 },
     /// Ends the session.
