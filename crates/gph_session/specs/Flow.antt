@@ -1,6 +1,6 @@
 -- What a session has written for what it has read, while it goes on.
 -- No public clause cites this module.
-use Rattle.std.specs.Prelude.{◌≡◌, ℕ, ◌+◌, ◌≤◌, min, true, Option, Result, Ok, Err, OnOk, Bool}
+use Rattle.std.specs.Prelude.{◌≡◌, ℕ, ◌+◌, ◌≤◌, min, true, Option, Some, Result, Ok, Err, OnOk, Bool}
 use Rattle.std.specs.Prelude.{List, [], ◌++◌, length, if◌then◌else◌}
 use Rattle.std.specs.List.{AllByRecursion}
 use Rattle.std.specs.Io.KnownBytes.{Appends}
@@ -9,7 +9,7 @@ use Rattle.line_io.specs.Lines.{ended_lines, unended, lines}
 use Rattle.line_io.specs.declared.source.Failed.{Failed}
 use Rattle.hamming_model.specs.History.{JournalEntry}
 use Rattle.part_layout.specs.declared.config.Config.{Config}
-use Rattle.query_protocol.specs.Requests.{LineReading}
+use Rattle.query_protocol.specs.Requests.{LineReading, LineRequest}
 use Rattle.query_protocol.specs.Lines.{reading}
 use Rattle.query_protocol.specs.Replies.{text}
 use Rattle.session_desk.specs.Desks.{DeskState, seen_history}
@@ -54,8 +54,14 @@ pub record OneStep {A : Type 0} (W : ℕ) (config : Config) (history : List Jour
   pub keeps : KeepsDesk old.desk new.desk
   pub keep : OnOk result (AllKeep config (history ++ commit_of s.who config exchange) new.cursors
       (open_queries state.queries))
-  pub requests : new.requests ≡ counted (reading config line) old.requests
   pub position : new.position ≡ state.position
+
+-- and the requests were counted
+pub record OneLine {A : Type 0} (W : ℕ) (config : Config) (history : List JournalEntry) (s : State)
+    (line : List ℕ) (before after : Option (List ℕ)) (result : Result A Failed)
+    (old new : Moment W) : Type 0 where
+  pub step : OneStep W config history s line before after result old new
+  pub requests : new.requests ≡ counted (reading config line) old.requests
 
 -- a moment means a state, in the history so far
 pub record Stands {W : ℕ} (config : Config) (now : Moment W) (history : List JournalEntry)
@@ -69,11 +75,19 @@ pub record Stands {W : ℕ} (config : Config) (now : Moment W) (history : List J
 abbrev pub TurnIs : Result Turn Failed → (W : ℕ) → Config → List JournalEntry → State → List ℕ
     → Option (List ℕ) → Option (List ℕ) → Moment W → Moment W → Type 0
 TurnIs (Ok Goes) W config history s line before after old new =
-    OneStep {A = Turn} W config history s line before after (Ok Goes) old new
+    OneLine W config history s line before after (Ok Goes) old new
 TurnIs (Ok Quits) W config history s line before after old new =
     (asks_quit (reading config line) ≡ true) × Appends before after [] × (new ≡ old)
 TurnIs (Err failed) W config history s line before after old new =
-    OneStep {A = Turn} W config history s line before after (Err failed) old new
+    OneLine W config history s line before after (Err failed) old new
+
+-- a request is answered so, whatever line asks it and whatever state the session means
+abbrev pub AnswersRequest : {A : Type 0} {W : ℕ} → LineRequest → Result A Failed → Config
+    → Option (List ℕ) → Option (List ℕ) → Moment W → Moment W → Type 0
+AnswersRequest {A} {W} asked result config before after old new =
+    (line : List ℕ) → reading config line ≡ Ok (Some asked) →
+    (history : List JournalEntry) (s : State) → Stands config old history s →
+    OneStep W config history s line before after result old new
 
 -- a session answers a line so, whatever state it means
 abbrev pub AnswersAs : {W : ℕ} → Result Turn Failed → Config → List ℕ → Option (List ℕ)
@@ -92,22 +106,32 @@ abbrev pub history_after : Start → Config → List Exchange → List JournalEn
 history_after start config exchanges =
     seen_history start.desk ++ commits start.desk.who config exchanges
 
+-- these exchanges lead a session that is alone from what it began with to a moment and a state
+pub record HasRun {W : ℕ} (config : Config) (start : Start) (now : Moment W)
+    (exchanges : List Exchange) (state : State) : Type 0 where
+  pub run : (later : List JournalEntry) → Run (IsAlone config) config
+      (history_after start config exchanges ++ later) (state_of start.desk) exchanges state
+  pub reads : ReadsTo start.ledgers.reads now.ledgers.reads [] state.queries
+  pub spent : Spends start.desk now.desk start.ledgers.upkeep now.ledgers.upkeep
+      (all_vain_steps config.shards exchanges)
+  pub means : Means config now.desk (history_after start config exchanges) state
+  pub settled :
+      AllByRecursion (IsSettled config (history_after start config exchanges)) state.queries
+  pub keeps : KeepsDesk start.desk now.desk
+  pub requests : now.requests ≡ min (requests_of config exchanges) 18446744073709551615
+  pub position : now.position ≡ state.position
+
 -- the session goes on: all whole lines of these bytes were answered by that output, the rest is kept,
 -- and the ledgers rose by what was read since it began
 pub record GoesOn {W : ℕ} (config : Config) (start : Start) (now : Moment W)
     (bytes output : List ℕ) (begun : Option (List ℕ)) : Type 0 where
   pub exchanges : List Exchange
   pub state : State
-  pub run : (later : List JournalEntry) → Run (IsAlone config) config
-      (history_after start config exchanges ++ later) (state_of start.desk) exchanges state
+  pub ran : HasRun config start now exchanges state
+  pub keep : AllKeep config (history_after start config exchanges) now.cursors
+      (open_queries state.queries)
   pub lines_are : lines_of exchanges ≡ ended_lines [] bytes
   pub output_is : output ≡ written_text exchanges
-  pub reads : ReadsTo start.ledgers.reads now.ledgers.reads [] state.queries
-  pub spent : Spends start.desk now.desk start.ledgers.upkeep now.ledgers.upkeep
-      (all_vain_steps config.shards exchanges)
-  pub stands : Stands config now (history_after start config exchanges) state
-  pub keeps : KeepsDesk start.desk now.desk
-  pub requests : now.requests ≡ min (requests_of config exchanges) 18446744073709551615
   pub begun_is : begun ≡ held_of (unended [] bytes)
 
 -- a session that began so answers these lines by that output

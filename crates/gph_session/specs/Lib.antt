@@ -2,5 +2,6 @@ pub mod Cursors
 pub mod Sessions
 pub mod Moments
 pub mod Meaning
+pub mod Commits
 pub mod Flow
 pub mod Serving

@@ -3,9 +3,10 @@
 use Rattle.std.specs.Prelude.{◌≡◌, ℕ, ◌+◌, ◌<◌, ◌≤◌, List, length, slice_index}
 use Rattle.session_desk.specs.Desks.{DeskState}
 use Rattle.session_model.specs.State.{Query}
-use Rattle.session_model.specs.Ledger.{Ledgers, column, readings_of}
+use Rattle.session_model.specs.Ledger.{Ledgers, ledgers, column, readings_of}
 use Rattle.session_model.specs.Upkeep.{entries_beyond}
 use Rattle.gph_session.specs.Sessions.{pins_of}
+use Rattle.gph_session.specs.declared.session.Session.{Session}
 use Rattle.gph_session.specs.Cursors.{Cursor}
 
 -- the desk, the open queries and the ledgers, how many requests were answered, and the last position
@@ -15,16 +16,6 @@ pub record Moment (W : ℕ) : Type 0 where
   pub ledgers : Ledgers
   pub requests : ℕ
   pub position : ℕ
-
--- such a moment
-abbrev pub moment : {W : ℕ} → DeskState → List (Cursor W) → Ledgers → ℕ → ℕ → Moment W
-moment {W} desk cursors ledgers requests position = record {
-  desk = desk;
-  cursors = cursors;
-  ledgers = ledgers;
-  requests = requests;
-  position = position;
-}
 
 -- each ledger of the queries rose by what they have read on its shard since they had read less
 pub record ReadsTo (from to : List ℕ) (before after : List Query) : Type 0 where
@@ -40,3 +31,13 @@ pub record Spends (old new : DeskState) (from to vain : ℕ) : Type 0 where
   pub longer : length old.seen ≤ length new.seen
   pub within : (most : ℕ) → length new.seen ≤ most →
       to + entries_beyond (pins_of new) most ≤ from + entries_beyond (pins_of old) most + vain
+
+-- the moment at which a session stands, with its desk and its ledgers
+abbrev pub moment_of : {W : ℕ} → DeskState → Session W → List ℕ → ℕ → Moment W
+moment_of {W} desk session reads upkeep = record {
+  desk = desk;
+  cursors = session.queries;
+  ledgers = ledgers reads upkeep;
+  requests = session.requests;
+  position = session.position;
+}
