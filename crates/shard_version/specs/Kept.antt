@@ -62,7 +62,7 @@ pub record IsPlace (rows : List (ℕ × List ℕ)) (key place : ℕ) : Type 0 wh
 
 -- the tables of no rows
 abbrev pub no_rows : {W : ℕ} → ℕ → PartTable W
-no_rows width = record { postings = postings.empty_table width; counts = counts.empty_table width }
+no_rows width = record { postings = postings.no_postings width; counts = counts.empty_table width }
 
 -- there is room for a row with a value, and its key isn't there
 pub record TakesRow {W : ℕ} (table : PartTable W) (value key : ℕ) : Type 0 where
