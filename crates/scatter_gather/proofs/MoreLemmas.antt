@@ -19,7 +19,7 @@ use Rattle.scatter_gather.proofs.KeepLemmas.{asked_seen}
 use Rattle.scatter_gather.proofs.ReadyLemmas.{all_lawful}
 use Rattle.scatter_gather.proofs.GiveLemmas.{nobody, none_at_end}
 
-length_in_order : (hits : List Hit) → length (in_order hits) ≡ length hits
+pub length_in_order : (hits : List Hit) → length (in_order hits) ≡ length hits
 length_in_order hits = length_permutation hits (in_order hits) (in_order_permutation hits)
 
 none_waits : (hits : List Hit) (n : ℕ) (others : List Hit) → is_some (first_of hits) ≡ true → hits ≡ take n others

@@ -46,7 +46,12 @@ round_keeps asks stands budget old new from to limit given last polls is =
 -- no reads
 pub reads_stay : {S : Type 0} (stands : S → Standing) (hs : List S) (steps : List ℕ)
     → ReadsRise stands hs hs steps steps
-reads_stay stands hs steps = record { count = refl; at = λ i d within. refl; beyond = λ i past. refl }
+reads_stay stands hs steps = record {
+  count = refl;
+  at = λ i d within. refl;
+  rises = λ i d within. omega arith;
+  beyond = λ i past. refl;
+}
 
 -- the reads of a round of polls
 round_reads : {S : Type 0} (asks : S → Asked) (stands : S → Standing) (budget : ℕ) (old new : List S)
@@ -60,14 +65,22 @@ round_reads asks stands budget old new from to polls = record {
         | inr held ↦ (let same = MatchBool-at_false _ _ held (polls.at i d within) in
             omega (arith, same.1, ap (λ x. (stands x).reads) same.0))
       ];
+  rises = λ i d within. elim
+      (cases_Bool (may_have_next (least_floor (sources_of asks stands old)) (source_of asks stands (get_or old i d)))) [
+        | inl may ↦ (let one : PollsOnce asks stands budget (get_or old i d) (get_or from i 0) (get_or new i d)
+            (get_or to i 0) = MatchBool-at_true _ _ may (polls.at i d within) in one.polls.rises)
+        | inr held ↦ (let same = MatchBool-at_false _ _ held (polls.at i d within) in
+            omega (arith, ap (λ x. (stands x).reads) same.0))
+      ];
   beyond = polls.beyond;
 }
 
-reads_again : {S : Type 0} (stands : S → Standing) (old mid new : List S) (from at to : List ℕ)
+pub reads_again : {S : Type 0} (stands : S → Standing) (old mid new : List S) (from at to : List ℕ)
     → ReadsRise stands old mid from at → ReadsRise stands mid new at to → ReadsRise stands old new from to
 reads_again stands old mid new from at to first later = record {
   count = omega (arith, first.count, later.count);
   at = λ i d within. omega (arith, first.at i d within, later.at i d (omega (arith, within, first.count)));
+  rises = λ i d within. omega (arith, first.rises i d within, later.rises i d (omega (arith, within, first.count)));
   beyond = λ i past. later.beyond i (omega (arith, past, first.count)) ∙ first.beyond i past;
 }
 
@@ -130,6 +143,7 @@ gave_one {S = S} asks stands old mid new from to hit waited gives = record {
   ledgers = reads_again stands old.sources mid.sources new.sources from to to waited.ledgers record {
     count = omega (arith, ap length sources, length-set mid.sources shard (get_or new.sources shard d));
     at = λ i e within. ap (λ n. get_or to i 0 + n) (sym (reads i e within));
+    rises = λ i e within. omega (arith, reads i e within);
     beyond = λ i past. refl;
   };
 }

@@ -35,12 +35,14 @@ abbrev pub GivesReady : {S : Type 0} → (S → Asked) → (S → Standing) → 
 GivesReady asks stands old new None = new ≡ old
 GivesReady {S} asks stands old new (Some hit) = (shard : ℕ) × GivesOne asks stands shard old new hit
 
--- each ledger rises by the reads of its source, and the ledgers past the sources stay
+-- the reads of no source fall, each ledger rises by those of its source, and the ledgers past the sources stay
 pub record ReadsRise {S : Type 0} (stands : S → Standing) (old new : List S) (from to : List ℕ) : Type 0 where
   pub count : length new ≡ length old
   pub at : (i : ℕ) (d : S) → i < length old
       → slice_index to i + (stands (slice_index_or old i d)).reads
       ≡ slice_index from i + (stands (slice_index_or new i d)).reads
+  pub rises : (i : ℕ) (d : S) → i < length old
+      → (stands (slice_index_or old i d)).reads ≤ (stands (slice_index_or new i d)).reads
   pub beyond : (i : ℕ) → length old ≤ i → slice_index to i ≡ slice_index from i
 
 -- sources were polled and gave no hit

@@ -7,7 +7,7 @@ ghost use Rattle.std.specs.Thread.{IsSync};
 ghost use Rattle.hamming_model.specs.declared.hit.Hit.{Hit};
 ghost use Rattle.hamming_model.specs.declared.limits.TheConstants.{SHARDS_MOST};
 ghost use Rattle.hit_source.specs.Sources.{IsFresh};
-ghost use Rattle.scatter_gather.specs.Gathering.{gathered, seen, source_of, next_hit, has_more};
+ghost use Rattle.scatter_gather.specs.Gathering.{gathered, seen, source_of, next_hit, has_more, answer_of};
 ghost use Rattle.scatter_gather.specs.Gathering.{all_reads, all_bounds, reaches_by_rows};
 ghost use Rattle.scatter_gather.specs.Due.{is_due, some_due};
 ghost use Rattle.scatter_gather.specs.Heads.{MayGo};
@@ -306,6 +306,9 @@ impl<H: HitSource> Gather<H> {
         // Where no source began a radius above the last hit's distance, it reads within the bound.
         ensures within { BegunWithin H.standing self.old.last self.old.sources
             → result.0 ≤ result.1 }
+        // Where the hits given are hits of the answer, it reads one posting for each at least.
+        ensures no_less { self.old.given ≤ length (answer_of (seen H.asked H.standing self.old))
+            → self.old.given ≤ result.0 }
     {
         let last = self.last;
         let reads = reads_of(&self.sources);

@@ -1,0 +1,6 @@
+mod WritingLemmas
+mod PlaceLemmas
+mod AnswerLemmas
+mod KeptLemmas
+mod GivingLemmas
+mod QueryLemmas

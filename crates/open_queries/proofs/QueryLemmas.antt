@@ -1,0 +1,1 @@
+-- Lemmas on a query and its reply.
