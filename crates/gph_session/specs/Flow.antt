@@ -192,3 +192,11 @@ EndsOn {W} result config old new begun before after =
     (start : Start) (bytes output : List ℕ) → GoesOn config start old bytes output begun →
     (more : List ℕ) × Appends before after more
     × EndIs result config start new bytes (output ++ more)
+
+-- what a session begins with at a moment
+abbrev pub start_at : {W : ℕ} → Moment W → Start
+start_at now = record { desk = now.desk; ledgers = now.ledgers }
+
+-- a session that has read nothing goes on
+abbrev pub HasBegun : {W : ℕ} → Config → Moment W → Option (List ℕ) → Type 0
+HasBegun config now begun = GoesOn config (start_at now) now [] [] begun

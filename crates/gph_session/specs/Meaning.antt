@@ -12,6 +12,8 @@ use Rattle.threshold_model.specs.Vectors.{IsChoice, IsLeast, row_counts}
 use Rattle.part_layout.specs.declared.config.Config.{Config}
 use Rattle.part_layout.specs.Ranges.{IsConfig}
 use Rattle.gph_codes.specs.Allowed.{IsAllowed}
+use Rattle.query_protocol.specs.declared.request.Request.{Request}
+use Rattle.query_protocol.specs.declared.request.Request.TheVariants as request
 use Rattle.session_desk.specs.Desks.{DeskState, seen_history}
 use Rattle.session_model.specs.State.{Query, State, open_queries}
 use Rattle.session_model.specs.Step.{AreLayouts}
@@ -82,3 +84,13 @@ pub record IsReady (W : ℕ) (config : Config) : Type 0 where
   pub few_words : W ≤ WORDS_MOST
   pub allowed : IsAllowed W config.bits
   pub is_config : IsConfig config
+
+-- a source stands behind each cursor for each shard
+abbrev pub HaveShards : {W : ℕ} → ℕ → List (Cursor W) → Type 0
+HaveShards {W} shards cursors =
+    AllByRecursion (λ cursor. length cursor.gather.sources ≡ shards) cursors
+
+-- a request that has an answer: all but `quit`
+abbrev pub IsAnswered : {W : ℕ} → Request W → Type 0
+IsAnswered request.Quit = ⊥
+IsAnswered other = Unit {0}

@@ -102,12 +102,18 @@ IsWithin config input =
 abbrev pub IsDoneOrNoMemory : Outcome → Type 0
 IsDoneOrNoMemory outcome = (outcome ≡ Done) ⊎ (outcome ≡ NoMemory)
 
--- a fact of an ending and of how much the ledgers rose, for what the words asked for
+-- an ending, by how much the ledgers rose
+pub record EndsWith (P : Ends → Ends → Ends → Ends → Rise → Type 0)
+    (source source' sink sink' : Ends) (old new : Ledgers) : Type 0 where
+  pub rise : Rise
+  pub rises : RisesBy old new rise
+  pub ended : P source source' sink sink' rise
+
+-- an ending, for what the words asked for
 abbrev pub ForConfig : (Config → Ends → Ends → Ends → Ends → Rise → Type 0) → Result Config ℕ
     → Ends → Ends → Ends → Ends → Ledgers → Ledgers → Type 0
 ForConfig P asked source source' sink sink' old new =
-    (config : Config) × (rise : Rise) × (asked ≡ Ok config) × RisesBy old new rise
-    × P config source source' sink sink' rise
+    (config : Config) × (asked ≡ Ok config) × EndsWith (P config) source source' sink sink' old new
 
 -- within the limit and with no fault the call ends well, if memory doesn't lack
 abbrev pub IsComplete : Outcome → Result Config ℕ → Ends → Ends → Ends → Ends → Type 0
