@@ -11,25 +11,27 @@ use Rattle.command_line.specs.Kept.{given_option, entry_at, put, options_kept, k
 use Rattle.command_line.proofs.WordLemmas.{from_first}
 use Rattle.command_line.proofs.OptionLemmas.{named_name, number_range}
 use Rattle.command_line.specs.declared.command_option.CommandOption.{CommandOption}
-use Rattle.command_line.specs.declared.command_option.CommandOption.TheVariants.{Bits, Parts, Input}
+use Rattle.command_line.specs.declared.command_option.CommandOption.TheVariants.{Bits, Parts, Shards, Room, Entries, Input}
 use Rattle.command_line.specs.declared.given.GivenNumber.{GivenNumber}
 use Rattle.command_line.specs.declared.given.Given.{Given}
 
 -- what is kept with one more option of a name
-put_named : (before : List Written) (one : Written) (option : CommandOption) → bytes_eq one.name (name_of Bits) ≡ bytes_eq (name_of option) (name_of Bits)
-    → bytes_eq one.name (name_of Parts) ≡ bytes_eq (name_of option) (name_of Parts) → bytes_eq one.name (name_of Input) ≡ bytes_eq (name_of option) (name_of Input)
+put_named : (before : List Written) (one : Written) (option : CommandOption)
+    → ((other : CommandOption) → bytes_eq one.name (name_of other) ≡ bytes_eq (name_of option) (name_of other))
     → put option (given_option option one) (options_kept before) ≡ options_kept (one ∷ before)
-put_named before one Bits bits parts input = rw (bits, parts, input)
-put_named before one Parts bits parts input = rw (bits, parts, input)
-put_named before one Input bits parts input = rw (bits, parts, input)
+put_named before one Bits same = rw (same Bits, same Parts, same Shards, same Room, same Entries, same Input)
+put_named before one Parts same = rw (same Bits, same Parts, same Shards, same Room, same Entries, same Input)
+put_named before one Shards same = rw (same Bits, same Parts, same Shards, same Room, same Entries, same Input)
+put_named before one Room same = rw (same Bits, same Parts, same Shards, same Room, same Entries, same Input)
+put_named before one Entries same = rw (same Bits, same Parts, same Shards, same Room, same Entries, same Input)
+put_named before one Input same = rw (same Bits, same Parts, same Shards, same Room, same Entries, same Input)
 
 -- what is kept with one more option
 pub put_one : (before : List Written) (one : Written) (option : CommandOption) → option_named one.name ≡ Some option
     → put option (given_option option one) (options_kept before) ≡ options_kept (one ∷ before)
 put_one before one option named =
     let same : one.name ≡ name_of option = named_name one.name option named in
-    put_named before one option (ap (λ (name : List ℕ). bytes_eq name (name_of Bits)) same) (ap (λ (name : List ℕ). bytes_eq name (name_of Parts)) same)
-    (ap (λ (name : List ℕ). bytes_eq name (name_of Input)) same)
+    put_named before one option (λ other. ap (λ (name : List ℕ). bytes_eq name (name_of other)) same)
 
 -- an option is kept where it was given
 kept_some : (option : CommandOption) (found : Option Written) → is_some (option_map (given_option option) found) ≡ is_some found
@@ -40,6 +42,9 @@ kept_some option (Some one) = refl
 pub at_some : (before : List Written) (option : CommandOption) → is_some (entry_at option (options_kept before)) ≡ is_some (given option before)
 at_some before Bits = kept_some Bits (given Bits before)
 at_some before Parts = kept_some Parts (given Parts before)
+at_some before Shards = kept_some Shards (given Shards before)
+at_some before Room = kept_some Room (given Room before)
+at_some before Entries = kept_some Entries (given Entries before)
 at_some before Input = kept_some Input (given Input before)
 
 -- a new option with a value that may stand has no fault
@@ -123,13 +128,18 @@ kept_has : (option : CommandOption) (found : Option Written) → IsEntryOf optio
 kept_has option None = tt
 kept_has option (Some one) = value_has option one.value
 
+-- what is kept of an option is an entry of it, by its place in what is kept
+entry_has : (before : List Written) (option : CommandOption) → IsEntryOf option (entry_at option (options_kept before))
+entry_has before Bits = kept_has Bits (given Bits before)
+entry_has before Parts = kept_has Parts (given Parts before)
+entry_has before Shards = kept_has Shards (given Shards before)
+entry_has before Room = kept_has Room (given Room before)
+entry_has before Entries = kept_has Entries (given Entries before)
+entry_has before Input = kept_has Input (given Input before)
+
 -- what is kept are entries of their options
 kept_entries : (before : List Written) → AreEntries (options_kept before)
-kept_entries before = record {
-  of_bits = kept_has Bits (given Bits before);
-  of_parts = kept_has Parts (given Parts before);
-  of_input = kept_has Input (given Input before);
-}
+kept_entries before = record { each = entry_has before }
 
 -- the same of what equals it
 pub are_entries : (before : List Written) (given : Given) → given ≡ options_kept before → AreEntries given
@@ -146,13 +156,25 @@ absent_none None absent = refl
 absent_none (Some entry) absent = cc
 
 -- no more options are given than there are
-pub size_few : (given : Given) → size given ≤ 3
-size_few given = omega (arith, present_few given.bits, present_few given.parts, present_few given.input)
+pub size_few : (given : Given) → size given ≤ 6
+size_few given =
+    omega (
+      arith,
+      present_few given.bits,
+      present_few given.parts,
+      present_few given.shards,
+      present_few given.room,
+      present_few given.entries,
+      present_few given.input,
+    )
 
 -- a new option counts for one
 pub size_more : (option : CommandOption) (entry : GivenNumber) (given : Given) → is_some (entry_at option given) ≡ false → size (put option entry given) ≡ size given + 1
 size_more Bits entry given absent = omega (arith, absent_none given.bits absent)
 size_more Parts entry given absent = omega (arith, absent_none given.parts absent)
+size_more Shards entry given absent = omega (arith, absent_none given.shards absent)
+size_more Room entry given absent = omega (arith, absent_none given.room absent)
+size_more Entries entry given absent = omega (arith, absent_none given.entries absent)
 size_more Input entry given absent = omega (arith, absent_none given.input absent)
 
 -- the words from the first one on write the same

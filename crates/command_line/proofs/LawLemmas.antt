@@ -14,7 +14,7 @@ use Rattle.command_line.specs.WrittenOptions.{Written, parted, has_no_equals, in
 use Rattle.command_line.proofs.OptionLemmas.{named_name}
 use Rattle.command_line.proofs.GivenLemmas.{written_one, written_two}
 use Rattle.command_line.specs.declared.command_option.CommandOption.{CommandOption}
-use Rattle.command_line.specs.declared.command_option.CommandOption.TheVariants.{Bits, Parts, Input}
+use Rattle.command_line.specs.declared.command_option.CommandOption.TheVariants.{Bits, Parts, Shards, Room, Entries, Input}
 
 -- an option without its places
 abbrev Bare : Type 0
@@ -60,14 +60,24 @@ abbrev bare_parts : ℕ → Option (Option (List ℕ)) → Option ℕ
 bare_parts bits None = Some (bits / 8)
 bare_parts bits (Some value) = laid_parts bits (number_in Parts value)
 
--- what is asked for by numbers
-abbrev bare_config : ℕ → ℕ → Option (Option (List ℕ)) → Option Config
-bare_config bits input found = option_map (λ parts. config bits parts input) (bare_parts bits found)
+-- a session of so many bits and parts
+abbrev bare_session : ℕ → List Bare → ℕ → Config
+bare_session bits before parts = record {
+  bits = bits;
+  parts = parts;
+  shards = bare_number Shards 4 (bare_given Shards before);
+  room = bare_number Room 64 (bare_given Room before);
+  entries = bare_number Entries 1048576 (bare_given Entries before);
+  input = bare_number Input 4294967296 (bare_given Input before);
+}
+
+-- what is asked for, where the parts can be had
+abbrev bare_config : ℕ → List Bare → Option (Option (List ℕ)) → Option Config
+bare_config bits before found = option_map (bare_session bits before) (bare_parts bits found)
 
 -- what options ask for that are written after others, without their places
 abbrev bare_asked : List Bare → List Bare → Option Config
-bare_asked before [] =
-    bare_config (bare_number Bits 64 (bare_given Bits before)) (bare_number Input 4294967296 (bare_given Input before)) (bare_given Parts before)
+bare_asked before [] = bare_config (bare_number Bits 64 (bare_given Bits before)) before (bare_given Parts before)
 bare_asked before (one ∷ others) = cond (passes before one) (bare_asked (one ∷ before) others) None
 
 -- the value of an option that is found
@@ -143,33 +153,44 @@ abbrev parts_found : ℕ → Option Written → Result ℕ ℕ
 parts_found bits found = elim found [ None ↦ Ok (bits / 8) | Some one ↦ parts_for bits one ]
 
 -- a session of the parts
-abbrev with_parts : ℕ → ℕ → Result ℕ ℕ → Result Config ℕ
-with_parts bits input parts = elim parts [ Err place ↦ Err place | Ok parts ↦ Ok (config bits parts input) ]
+abbrev with_parts : ℕ → List Written → Result ℕ ℕ → Result Config ℕ
+with_parts bits before parts = elim parts [ Err place ↦ Err place | Ok parts ↦ Ok (config bits parts before) ]
+
+-- a session, without the places of its numbers
+session_bare : (bits : ℕ) (before : List Written) (parts : ℕ) → config bits parts before ≡ bare_session bits (map bare before) parts
+session_bare bits before parts =
+    rw (
+      number_or_bare Shards 4 before,
+      number_or_bare Room 64 before,
+      number_or_bare Entries 1048576 before,
+      number_or_bare Input 4294967296 before,
+    ) refl
 
 -- parts that were judged
-judged_bare : (bits input place parts : ℕ) (passed : Bool)
-    → result_ok (with_parts bits input (cond passed (Ok parts) (Err place))) ≡ option_map (λ parts. config bits parts input) (cond passed (Some parts) None)
-judged_bare bits input place parts true = refl
-judged_bare bits input place parts false = refl
+judged_bare : (bits : ℕ) (before : List Written) (place parts : ℕ) (passed : Bool)
+    → result_ok (with_parts bits before (cond passed (Ok parts) (Err place)))
+    ≡ option_map (bare_session bits (map bare before)) (cond passed (Some parts) None)
+judged_bare bits before place parts true = ap (λ (one : Config). Some one) (session_bare bits before parts)
+judged_bare bits before place parts false = refl
 
 -- parts by their number
-parts_by_bare : (bits input place : ℕ) (number : Option ℕ)
-    → result_ok (with_parts bits input (parts_by bits place number)) ≡ option_map (λ parts. config bits parts input) (laid_parts bits number)
-parts_by_bare bits input place None = refl
-parts_by_bare bits input place (Some parts) = judged_bare bits input place parts (can_be_cut bits parts)
+parts_by_bare : (bits : ℕ) (before : List Written) (place : ℕ) (number : Option ℕ)
+    → result_ok (with_parts bits before (parts_by bits place number)) ≡ option_map (bare_session bits (map bare before)) (laid_parts bits number)
+parts_by_bare bits before place None = refl
+parts_by_bare bits before place (Some parts) = judged_bare bits before place parts (can_be_cut bits parts)
 
 -- what is asked for, by what was found of the parts
-config_bare : (bits input : ℕ) (found : Option Written) → result_ok (with_parts bits input (parts_found bits found)) ≡ bare_config bits input (value_of found)
-config_bare bits input None = refl
-config_bare bits input (Some one) = parts_by_bare bits input one.value_place (number_given Parts one)
+config_bare : (bits : ℕ) (before : List Written) (found : Option Written)
+    → result_ok (with_parts bits before (parts_found bits found)) ≡ bare_config bits (map bare before) (value_of found)
+config_bare bits before None = ap (λ (one : Config). Some one) (session_bare bits before (bits / 8))
+config_bare bits before (Some one) = parts_by_bare bits before one.value_place (number_given Parts one)
 
 -- what options ask for, without their places
 pub asked_bare : (before settings : List Written) → result_ok (asked_after before settings) ≡ bare_asked (map bare before) (map bare settings)
 asked_bare before [] =
-    config_bare (number_or Bits 64 before) (number_or Input 4294967296 before) (given Parts before)
-    ∙ ap (bare_config (number_or Bits 64 before) (number_or Input 4294967296 before)) (given_bare Parts before)
-    ∙ ap (λ (bits : ℕ). bare_config bits (number_or Input 4294967296 before) (bare_given Parts (map bare before))) (number_or_bare Bits 64 before)
-    ∙ ap (λ (input : ℕ). bare_config (bare_number Bits 64 (bare_given Bits (map bare before))) input (bare_given Parts (map bare before))) (number_or_bare Input 4294967296 before)
+    config_bare (number_or Bits 64 before) before (given Parts before)
+    ∙ ap (bare_config (number_or Bits 64 before) (map bare before)) (given_bare Parts before)
+    ∙ ap (λ (bits : ℕ). bare_config bits (map bare before) (bare_given Parts (map bare before))) (number_or_bare Bits 64 before)
 asked_bare before (one ∷ others) =
     stood (fault_of_option before one) (asked_after (one ∷ before) others)
     ∙ ap (λ (passed : Bool). cond passed (result_ok (asked_after (one ∷ before) others)) None) (named_passes before one (option_named one.name))
@@ -186,12 +207,22 @@ passes_same before other one None same = refl
 passes_same before other one (Some option) same =
     ap (λ (found : Option (Option (List ℕ))). cond (is_some found) false (stands option one.1)) (same option)
 
+-- a session by what was given
+session_same : (bits : ℕ) (before other : List Bare) (parts : ℕ) → GivesSame before other → bare_session bits before parts ≡ bare_session bits other parts
+session_same bits before other parts same = rw (same Shards, same Room, same Entries, same Input) refl
+
+-- what is asked for by what was given, once the parts are judged
+config_same : (bits : ℕ) (before other : List Bare) (parts : Option ℕ) → GivesSame before other
+    → option_map (bare_session bits before) parts ≡ option_map (bare_session bits other) parts
+config_same bits before other None same = refl
+config_same bits before other (Some parts) same = ap (λ (one : Config). Some one) (session_same bits before other parts same)
+
 -- what was given decides what is asked for
 asked_same : (before other settings : List Bare) → GivesSame before other → bare_asked before settings ≡ bare_asked other settings
 asked_same before other [] same =
-    ap (λ (found : Option (Option (List ℕ))). bare_config (bare_number Bits 64 found) (bare_number Input 4294967296 (bare_given Input before)) (bare_given Parts before)) (same Bits)
-    ∙ ap (λ (found : Option (Option (List ℕ))). bare_config (bare_number Bits 64 (bare_given Bits other)) (bare_number Input 4294967296 found) (bare_given Parts before)) (same Input)
-    ∙ ap (bare_config (bare_number Bits 64 (bare_given Bits other)) (bare_number Input 4294967296 (bare_given Input other))) (same Parts)
+    ap (λ (found : Option (Option (List ℕ))). bare_config (bare_number Bits 64 found) before (bare_given Parts before)) (same Bits)
+    ∙ ap (bare_config (bare_number Bits 64 (bare_given Bits other)) before) (same Parts)
+    ∙ config_same (bare_number Bits 64 (bare_given Bits other)) before other (bare_parts (bare_number Bits 64 (bare_given Bits other)) (bare_given Parts other)) same
 asked_same before other (one ∷ others) same =
     ap (λ (passed : Bool). cond passed (bare_asked (one ∷ before) others) None) (passes_same before other one (option_named one.0) same)
     ∙ ap (λ (asked : Option Config). cond (passes other one) asked None)

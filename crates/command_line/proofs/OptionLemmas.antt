@@ -1,5 +1,5 @@
 -- Names and numbers of options.
-use Rattle.std.proofs.Common.{◌≡◌, ℕ, ◌%◌, ◌==◌, ◌≤◌, ◌&&◌, Bool, true, false, cond, nat_le, List, Option, Some, None, IfSome, refl}
+use Rattle.std.proofs.Common.{◌≡◌, ℕ, ◌%◌, ◌==◌, ◌≤◌, ◌&&◌, Bool, true, false, cond, nat_le, List, Option, Some, None, IfSome, refl, sym, ap, ◌∙◌}
 use Rattle.std.specs.Option.{option_and_then}
 use Rattle.std.specs.Str.{bytes_eq}
 use Rattle.std.specs.Str.Parse.{digits_value}
@@ -9,30 +9,25 @@ use Rattle.line_forms.specs.Forms.{is_decimal, number_of}
 use Rattle.command_line.specs.CommandOptions.{name_of, option_named, number, multiple_of_8, least, greatest}
 use Rattle.command_line.specs.Kept.{IsNumberOf}
 use Rattle.command_line.specs.declared.command_option.CommandOption.{CommandOption}
-use Rattle.command_line.specs.declared.command_option.CommandOption.TheVariants.{Bits, Parts, Input}
+use Rattle.command_line.specs.declared.command_option.CommandOption.TheVariants.{Bits, Parts, Shards, Room, Entries, Input}
 
--- the option that is found is one whose test passes
-found_passes : (bits parts input : Bool) (option : CommandOption) → cond bits (Some Bits) (cond parts (Some Parts) (cond input (Some Input) None)) ≡ Some option
-    → (test : CommandOption → Bool) → test Bits ≡ bits → test Parts ≡ parts → test Input ≡ input → test option ≡ true
-found_passes true parts input Bits found test b p i = b
-found_passes true parts input Parts found test b p i = cc
-found_passes true parts input Input found test b p i = cc
-found_passes false true input Bits found test b p i = cc
-found_passes false true input Parts found test b p i = p
-found_passes false true input Input found test b p i = cc
-found_passes false false true Bits found test b p i = cc
-found_passes false false true Parts found test b p i = cc
-found_passes false false true Input found test b p i = i
-found_passes false false false Bits found test b p i = cc
-found_passes false false false Parts found test b p i = cc
-found_passes false false false Input found test b p i = cc
+-- the option that is found is the first, or one of the others, and passes its test
+found_passes : (first : Bool) (one : CommandOption) (others : Option CommandOption) (option : CommandOption) (test : CommandOption → Bool)
+    → test one ≡ first → (others ≡ Some option → test option ≡ true) → cond first (Some one) others ≡ Some option → test option ≡ true
+found_passes true one others option test passed later found = let same : one ≡ option = cc in ap test (sym same) ∙ passed
+found_passes false one others option test passed later found = later found
 
 -- a name that names an option is that option's
 pub named_name : (name : List ℕ) (option : CommandOption) → option_named name ≡ Some option → name ≡ name_of option
 named_name name option named =
     let test : CommandOption → Bool = λ (o : CommandOption). bytes_eq name (name_of o) in
     let passed : bytes_eq name (name_of option) ≡ true =
-    found_passes (bytes_eq name (name_of Bits)) (bytes_eq name (name_of Parts)) (bytes_eq name (name_of Input)) option named test refl refl refl in
+    found_passes (test Bits) Bits _ option test refl
+    (found_passes (test Parts) Parts _ option test refl
+    (found_passes (test Shards) Shards _ option test refl
+    (found_passes (test Room) Room _ option test refl
+    (found_passes (test Entries) Entries _ option test refl
+    (found_passes (test Input) Input None option test refl (λ none. cc)))))) named in
     (bytes_eq-Decides name (name_of option)).0 passed
 
 -- a number that passes the tests of its range lies in it
@@ -60,4 +55,7 @@ bits_range (Some value) within =
 pub number_range : (option : CommandOption) (value : List ℕ) → IfSome (number option value) (IsNumberOf option)
 number_range Bits value = bits_range (number_of 20 8 256 value) (number_of_range 20 8 256 value)
 number_range Parts value = number_of_range 20 1 64 value
+number_range Shards value = number_of_range 20 1 16 value
+number_range Room value = number_of_range 20 1 256 value
+number_range Entries value = number_of_range 20 1 1048576 value
 number_range Input value = number_of_range 20 1 4294967296 value

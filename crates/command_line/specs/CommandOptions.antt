@@ -2,28 +2,38 @@
 use Rattle.std.specs.Prelude.{ℕ, ◌%◌, ◌==◌, Bool, if◌then◌else◌, List, codes, Option, Some, None, is_some}
 use Rattle.std.specs.Option.{option_and_then}
 use Rattle.std.specs.Str.{bytes_eq}
-use Rattle.hamming_model.specs.declared.limits.TheConstants.{BITS_MOST, PARTS_MOST}
+use Rattle.hamming_model.specs.declared.limits.TheConstants.{BITS_MOST, PARTS_MOST, SHARDS_MOST}
+use Rattle.hamming_model.specs.declared.limits.TheConstants.{ROOM_MOST, ENTRIES_MOST}
 use Rattle.part_layout.specs.declared.config.TheConstants.{INPUT_MOST}
 use Rattle.line_forms.specs.Forms.{is_decimal, number_of}
 use Rattle.command_line.specs.declared.command_option.CommandOption.{CommandOption}
-use Rattle.command_line.specs.declared.command_option.CommandOption.TheVariants.{Bits, Parts, Input}
+use Rattle.command_line.specs.declared.command_option.CommandOption.TheVariants.{Bits, Parts, Shards, Room, Entries, Input}
 
 -- the name of an option
 abbrev pub name_of : CommandOption → List ℕ
 name_of Bits = codes "--bits"
 name_of Parts = codes "--parts"
+name_of Shards = codes "--shards"
+name_of Room = codes "--room"
+name_of Entries = codes "--entries"
 name_of Input = codes "--input"
 
 -- the least number that an option may be given
 abbrev pub least : CommandOption → ℕ
 least Bits = 8
 least Parts = 1
+least Shards = 1
+least Room = 1
+least Entries = 1
 least Input = 1
 
 -- the greatest number that an option may be given
 abbrev pub greatest : CommandOption → ℕ
 greatest Bits = BITS_MOST
 greatest Parts = PARTS_MOST
+greatest Shards = SHARDS_MOST
+greatest Room = ROOM_MOST
+greatest Entries = ENTRIES_MOST
 greatest Input = INPUT_MOST
 
 -- the option that a name names
@@ -31,6 +41,9 @@ abbrev pub option_named : List ℕ → Option CommandOption
 option_named name =
     if bytes_eq name (name_of Bits) then Some Bits else
     if bytes_eq name (name_of Parts) then Some Parts else
+    if bytes_eq name (name_of Shards) then Some Shards else
+    if bytes_eq name (name_of Room) then Some Room else
+    if bytes_eq name (name_of Entries) then Some Entries else
     if bytes_eq name (name_of Input) then Some Input else None
 
 -- a multiple of eight

@@ -1,5 +1,5 @@
 -- The words of the command line, which are numbered from 1: what they ask for, or the place of the first one at fault.
-use Rattle.std.specs.Prelude.{◌≡◌, ℕ, ◌/◌, if◌then◌else◌, List, [], ◌∷◌, codes, Option, Some, None, unwrap_or, Result, Ok, Err}
+use Rattle.std.specs.Prelude.{ℕ, ◌/◌, if◌then◌else◌, List, [], ◌∷◌, codes, Option, Some, None, unwrap_or, Result, Ok, Err}
 use Rattle.std.specs.Option.{option_and_then}
 use Rattle.std.specs.Str.{bytes_eq}
 use Rattle.hamming_model.specs.declared.limits.TheConstants.{ENTRIES_MOST}
@@ -8,15 +8,9 @@ use Rattle.part_layout.specs.declared.config.Config.{Config}
 use Rattle.part_layout.specs.declared.config.TheConstants.{INPUT_MOST}
 use Rattle.command_line.specs.CommandOptions.{number}
 use Rattle.command_line.specs.WrittenOptions.{Written, written_options, given, fault_of_option}
-use Rattle.command_line.specs.declared.command_option.TheConstants.{BITS, ROOM}
+use Rattle.command_line.specs.declared.command_option.TheConstants.{BITS, SHARDS, ROOM}
 use Rattle.command_line.specs.declared.command_option.CommandOption.{CommandOption}
-use Rattle.command_line.specs.declared.command_option.CommandOption.TheVariants.{Bits, Parts, Input}
-
--- what no option gives: one shard, the room of a source, and all the entries that there may be
-pub record IsPinned (config : Config) : Type 0 where
-  pub one_shard : config.shards ≡ 1
-  pub one_room : config.room ≡ ROOM
-  pub all_entries : config.entries ≡ ENTRIES_MOST
+use Rattle.command_line.specs.declared.command_option.CommandOption.TheVariants.{Bits, Parts, Shards, Room, Entries, Input}
 
 -- the number that an option was given
 abbrev pub number_given : CommandOption → Written → Option ℕ
@@ -26,9 +20,16 @@ number_given option one = option_and_then (number option) one.value
 abbrev pub number_or : CommandOption → ℕ → List Written → ℕ
 number_or option default settings = unwrap_or (option_and_then (number_given option) (given option settings)) default
 
--- a session of so many bits and parts, with an input of so many bytes
-abbrev pub config : ℕ → ℕ → ℕ → Config
-config bits parts input = record { bits = bits; parts = parts; shards = 1; room = ROOM; entries = ENTRIES_MOST; input = input }
+-- a session of so many bits and parts, with the other numbers that were given
+abbrev pub config : ℕ → ℕ → List Written → Config
+config bits parts settings = record {
+  bits = bits;
+  parts = parts;
+  shards = number_or Shards SHARDS settings;
+  room = number_or Room ROOM settings;
+  entries = number_or Entries ENTRIES_MOST settings;
+  input = number_or Input INPUT_MOST settings;
+}
 
 -- the parts that were given, judged against the bits
 abbrev pub parts_for : ℕ → Written → Result ℕ ℕ
@@ -43,7 +44,7 @@ parts_or bits settings = elim (given Parts settings) [ None ↦ Ok (bits / 8) | 
 abbrev pub config_of : List Written → Result Config ℕ
 config_of settings =
     let bits = number_or Bits BITS settings in
-    elim (parts_or bits settings) [ Err place ↦ Err place | Ok parts ↦ Ok (config bits parts (number_or Input INPUT_MOST settings)) ]
+    elim (parts_or bits settings) [ Err place ↦ Err place | Ok parts ↦ Ok (config bits parts settings) ]
 
 -- a fault, or where there is none a result
 abbrev pub or_fault : {A : Type 0} → Option ℕ → Result A ℕ → Result A ℕ

@@ -7,7 +7,7 @@ use Rattle.command_line.specs.CommandOptions.{least, greatest}
 use Rattle.command_line.specs.CommandWords.{number_given, or_fault}
 use Rattle.command_line.specs.WrittenOptions.{Written, given, fault_of_option}
 use Rattle.command_line.specs.declared.command_option.CommandOption.{CommandOption}
-use Rattle.command_line.specs.declared.command_option.CommandOption.TheVariants.{Bits, Parts, Input}
+use Rattle.command_line.specs.declared.command_option.CommandOption.TheVariants.{Bits, Parts, Shards, Room, Entries, Input}
 use Rattle.command_line.specs.declared.given.GivenNumber.{GivenNumber}
 use Rattle.command_line.specs.declared.given.Given.{Given}
 
@@ -23,12 +23,18 @@ entry_in option settings = option_map (given_option option) (given option settin
 abbrev pub entry_at : CommandOption → Given → Option GivenNumber
 entry_at Bits given = given.bits
 entry_at Parts given = given.parts
+entry_at Shards given = given.shards
+entry_at Room given = given.room
+entry_at Entries given = given.entries
 entry_at Input given = given.input
 
 -- what is kept once an option is given
 abbrev pub put : CommandOption → GivenNumber → Given → Given
 put Bits entry given = record given { bits = Some entry }
 put Parts entry given = record given { parts = Some entry }
+put Shards entry given = record given { shards = Some entry }
+put Room entry given = record given { room = Some entry }
+put Entries entry given = record given { entries = Some entry }
 put Input entry given = record given { input = Some entry }
 
 -- the number of an entry, or else a default
@@ -48,11 +54,20 @@ present (Some entry) = 1
 
 -- how many options were given
 abbrev pub size : Given → ℕ
-size given = present given.bits + present given.parts + present given.input
+size given =
+    present given.bits + present given.parts + present given.shards + present given.room
+    + present given.entries + present given.input
 
 -- what is kept of the options
 abbrev pub options_kept : List Written → Given
-options_kept settings = record { bits = entry_in Bits settings; parts = entry_in Parts settings; input = entry_in Input settings }
+options_kept settings = record {
+  bits = entry_in Bits settings;
+  parts = entry_in Parts settings;
+  shards = entry_in Shards settings;
+  room = entry_in Room settings;
+  entries = entry_in Entries settings;
+  input = entry_in Input settings;
+}
 
 -- what is kept after one more option, or its fault
 abbrev pub kept_after : List Written → Written → Result Given ℕ
@@ -69,9 +84,7 @@ IsEntryOf option entry = IfSome entry (λ options_kept. IfSome options_kept.numb
 
 -- each entry is one of its option
 pub record AreEntries (given : Given) : Type 0 where
-  pub of_bits : IsEntryOf Bits given.bits
-  pub of_parts : IsEntryOf Parts given.parts
-  pub of_input : IsEntryOf Input given.input
+  pub each : (option : CommandOption) → IsEntryOf option (entry_at option given)
 
 -- the next word, if there is one
 abbrev pub next_in : List (List ℕ) → Option (List ℕ)

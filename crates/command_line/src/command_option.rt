@@ -3,7 +3,7 @@
 ghost use Rattle.std.specs.Prelude.{◌≡◌};
 ghost use Rattle.command_line.specs.CommandOptions.{option_named, least, greatest, number, is_value};
 
-use hamming_model::{BITS_MOST, PARTS_MOST};
+use hamming_model::{BITS_MOST, ENTRIES_MOST, PARTS_MOST, ROOM_MOST, SHARDS_MOST};
 use line_forms::{is_decimal, number_of};
 use part_layout::INPUT_MOST;
 
@@ -13,8 +13,11 @@ const DIGITS: usize = 20;
 /// The bits of a code where none are given.
 pub(crate) const BITS: u64 = 64;
 
-/// The hits that may wait in a source.
-pub(crate) const ROOM: u32 = 64;
+/// The shards where none are given.
+pub(crate) const SHARDS: u64 = 4;
+
+/// The hits that may wait in a source where no number is given.
+pub(crate) const ROOM: u64 = 64;
 
 /// An option that the words may give a value.
 #[derive(Clone, Copy, Debug, PartialEq, Eq)]
@@ -23,6 +26,12 @@ pub enum CommandOption {
     Bits,
     /// The parts of the starting layout.
     Parts,
+    /// The shards.
+    Shards,
+    /// The hits that may wait in a source.
+    Room,
+    /// The most entries of the history.
+    Entries,
     /// The most bytes of a session's input.
     Input,
 }
@@ -38,6 +47,15 @@ impl CommandOption {
         if name == b"--parts".as_slice() {
             return Some(CommandOption::Parts);
         }
+        if name == b"--shards".as_slice() {
+            return Some(CommandOption::Shards);
+        }
+        if name == b"--room".as_slice() {
+            return Some(CommandOption::Room);
+        }
+        if name == b"--entries".as_slice() {
+            return Some(CommandOption::Entries);
+        }
         if name == b"--input".as_slice() {
             return Some(CommandOption::Input);
         }
@@ -51,6 +69,9 @@ impl CommandOption {
         match self {
             CommandOption::Bits => 8,
             CommandOption::Parts => 1,
+            CommandOption::Shards => 1,
+            CommandOption::Room => 1,
+            CommandOption::Entries => 1,
             CommandOption::Input => 1,
         }
     }
@@ -62,6 +83,9 @@ impl CommandOption {
         match self {
             CommandOption::Bits => u64::from(BITS_MOST),
             CommandOption::Parts => PARTS_MOST as u64,
+            CommandOption::Shards => u64::from(SHARDS_MOST),
+            CommandOption::Room => ROOM_MOST as u64,
+            CommandOption::Entries => ENTRIES_MOST,
             CommandOption::Input => INPUT_MOST,
         }
     }

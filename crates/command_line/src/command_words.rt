@@ -3,7 +3,7 @@
 ghost use Rattle.std.specs.Prelude.{◌≡◌, ◌==◌, ◌<◌, ◌-◌, [], length, map, position, string_bytes, option_copied, IfSome, IfOk};
 ghost use Rattle.std.specs.Option.{option_map};
 ghost use Rattle.part_layout.specs.Ranges.{IsConfig};
-ghost use Rattle.command_line.specs.CommandWords.{asked, asked_after, IsPinned};
+ghost use Rattle.command_line.specs.CommandWords.{asked, asked_after};
 ghost use Rattle.command_line.specs.WrittenOptions.{written_options, parted};
 ghost use Rattle.command_line.specs.Kept.{next_in, after_next};
 
@@ -17,6 +17,9 @@ use part_layout::Config;
 ///
 /// - `--bits`, a multiple of 8 from 8 to 256, and 64 where it is left out;
 /// - `--parts`, from 1 to 64, so that each has from 1 to 12 of the bits, and an eighth of the bits where it is left out;
+/// - `--shards`, from 1 to 16, and 4 where it is left out;
+/// - `--room`, from 1 to 256, and 64 where it is left out;
+/// - `--entries`, from 1 to 1,048,576, and the greatest where it is left out;
 /// - `--input`, from 1 to 4,294,967,296, and the greatest where it is left out.
 ///
 /// An unknown command is word 1, an unknown or repeated option is its own word, a bad value is its word, and a missing
@@ -25,7 +28,6 @@ use part_layout::Config;
 pub fn read_words(words: &[String]) -> Result<Config, usize>
     ensures value { result ≡ asked (map string_bytes words.now) }
     ensures within { IfOk result IsConfig }
-    ensures pinned { IfOk result IsPinned }
 {
     match words {
         [] => Err(1),
@@ -43,11 +45,13 @@ pub fn read_words(words: &[String]) -> Result<Config, usize>
 fn read_options(options: &[String]) -> Result<Config, usize>
     ensures value { result ≡ asked_after [] (written_options 2 (map string_bytes options.now)) }
     ensures within { IfOk result IsConfig }
-    ensures pinned { IfOk result IsPinned }
 {
     let mut given = Given {
         bits: None,
         parts: None,
+        shards: None,
+        room: None,
+        entries: None,
         input: None,
     };
     let mut place = 2;

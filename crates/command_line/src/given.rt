@@ -3,13 +3,13 @@
 ghost use Rattle.std.specs.Prelude.{◌≡◌, ◌+◌, ◌≤◌, ℕ, List, option_copied, IfOk};
 ghost use Rattle.part_layout.specs.Contiguous.{CanBeCut};
 ghost use Rattle.part_layout.specs.Ranges.{IsConfig};
-ghost use Rattle.command_line.specs.CommandWords.{config_of, IsPinned};
+ghost use Rattle.command_line.specs.CommandWords.{config_of};
 ghost use Rattle.command_line.specs.WrittenOptions.{Written, setting};
 ghost use Rattle.command_line.specs.Kept.{entry_at, entry_number_or, entry_parts_or, put, size, options_kept, kept_after, IsNumberOf, IsEntryOf, AreEntries};
 ghost use Rattle.command_line.specs.declared.command_option.CommandOption.TheVariants.{Bits, Parts};
 
 use crate::CommandOption;
-use crate::command_option::{BITS, ROOM};
+use crate::command_option::{BITS, ROOM, SHARDS};
 use hamming_model::ENTRIES_MOST;
 use part_layout::{Config, INPUT_MOST, Layout};
 
@@ -27,6 +27,9 @@ pub(crate) struct GivenNumber {
 pub(crate) struct Given {
     pub(crate) bits: Option<GivenNumber>,
     pub(crate) parts: Option<GivenNumber>,
+    pub(crate) shards: Option<GivenNumber>,
+    pub(crate) room: Option<GivenNumber>,
+    pub(crate) entries: Option<GivenNumber>,
     pub(crate) input: Option<GivenNumber>,
 }
 
@@ -42,7 +45,7 @@ impl Given {
         ensures value { (before : List Written) → self ≡ options_kept before →
             result ≡ kept_after before (setting name.now place (option_copied value.entry) value_place) }
         ensures more { IfOk result (λ given. size given ≡ size self + 1) }
-        ensures few { IfOk result (λ given. size given ≤ 3) }
+        ensures few { IfOk result (λ given. size given ≤ 6) }
     {
         let Some(option) = CommandOption::named(name) else {
             return Err(place);
@@ -74,6 +77,9 @@ impl Given {
         match option {
             CommandOption::Bits => self.bits,
             CommandOption::Parts => self.parts,
+            CommandOption::Shards => self.shards,
+            CommandOption::Room => self.room,
+            CommandOption::Entries => self.entries,
             CommandOption::Input => self.input,
         }
     }
@@ -92,6 +98,18 @@ impl Given {
                 parts: entry,
                 ..self
             },
+            CommandOption::Shards => Given {
+                shards: entry,
+                ..self
+            },
+            CommandOption::Room => Given {
+                room: entry,
+                ..self
+            },
+            CommandOption::Entries => Given {
+                entries: entry,
+                ..self
+            },
             CommandOption::Input => Given {
                 input: entry,
                 ..self
@@ -104,28 +122,30 @@ impl Given {
         requires { AreEntries self }
         ensures value { (settings : List Written) → self ≡ options_kept settings → result ≡ config_of settings }
         ensures within { IfOk result IsConfig }
-        ensures pinned { IfOk result IsPinned }
     {
-        let bits = number_or(self.bits, BITS);
+        let bits = self.number_or(CommandOption::Bits, BITS);
         let parts = parts_or(bits, self.parts)?;
         Ok(Config {
             bits: bits as u32,
             parts: parts as u32,
-            shards: 1,
-            room: ROOM,
-            entries: ENTRIES_MOST,
-            input: number_or(self.input, INPUT_MOST),
+            shards: self.number_or(CommandOption::Shards, SHARDS) as u32,
+            room: self.number_or(CommandOption::Room, ROOM) as u32,
+            entries: self.number_or(CommandOption::Entries, ENTRIES_MOST),
+            input: self.number_or(CommandOption::Input, INPUT_MOST),
         })
     }
-}
 
-// The number of an entry, or else the option's default.
-fn number_or(entry: Option<GivenNumber>, default: u64) -> u64
-    ensures { result ≡ entry_number_or default entry }
-{
-    match entry {
-        None => default,
-        Some(entry) => entry.number.unwrap_or(default),
+    // The number that an option was given, or else its default.
+    fn number_or(self, option: CommandOption, default: u64) -> u64
+        requires entries { AreEntries self }
+        requires default { IsNumberOf option default }
+        ensures value { result ≡ entry_number_or default (entry_at option self) }
+        ensures within { IsNumberOf option result }
+    {
+        match self.at(option) {
+            None => default,
+            Some(entry) => entry.number.unwrap_or(default),
+        }
     }
 }
 

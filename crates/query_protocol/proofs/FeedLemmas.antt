@@ -12,7 +12,8 @@ use Rattle.line_forms.specs.Forms.{is_tag, is_letter_or_digit}
 use Rattle.part_layout.specs.Text.{layout_text, is_layout_byte, HasLayoutBytes, IsTextOfLayout}
 use Rattle.part_layout.specs.Laid.{Laid, IsLaid}
 use Rattle.query_protocol.specs.Replies as reply
-use Rattle.query_protocol.specs.Replies.{LineReply, hex_text, has_no_feed, IsWritten, IsSigned64, reply_text, fault_text, threshold_text, thresholds_text}
+use Rattle.query_protocol.specs.Replies.{LineReply, hex_text, reply_text, fault_text, threshold_text, thresholds_text}
+use Rattle.query_protocol.specs.Written.{has_no_feed, IsWritten, IsSigned64}
 use Rattle.query_protocol.specs.declared.bad.Bad.{Bad}
 
 -- two tests that are true

@@ -2,3 +2,4 @@ pub mod Requests
 pub mod Lines
 pub mod Stored
 pub mod Replies
+pub mod Written

@@ -1,13 +1,20 @@
 -- What a line asks, or its first fault.
-use Rattle.std.specs.Prelude.{ℕ, not, nat_lt, if◌then◌else◌, List, [], ◌∷◌, length, codes, Option, Some, None, Ok, Err}
+use Rattle.std.specs.Prelude.{ℕ, not, nat_lt, if◌then◌else◌, List, [], ◌∷◌, length, codes}
+use Rattle.std.specs.Prelude.{Option, Some, None, Ok, Err}
 use Rattle.std.specs.Str.{bytes_eq}
 use Rattle.part_layout.specs.declared.config.Config.{Config}
 use Rattle.line_forms.specs.Words.{words, is_printable}
-use Rattle.query_protocol.specs.Requests.{LineReading, Del, Get, Cost, Cancel, bad, key_alone, tag_alone, request_naming}
-use Rattle.query_protocol.specs.Requests.{add_asked, range_asked, next_asked, plan_asked, layout_asked, quit_asked}
+use Rattle.line_io.specs.declared.cutter.TheConstants.{LINE_MOST}
+use Rattle.query_protocol.specs.Requests.{LineReading, Del, Get, Cost, Cancel, bad}
+use Rattle.query_protocol.specs.Requests.{add_asked, range_asked, next_asked, plan_asked}
+use Rattle.query_protocol.specs.Requests.{layout_asked, quit_asked, key_alone, tag_alone}
+use Rattle.query_protocol.specs.Requests.{request_naming}
 use Rattle.query_protocol.specs.declared.request.RequestWord.{RequestWord}
-use Rattle.query_protocol.specs.declared.request.RequestWord.TheVariants.{AddWord, DelWord, GetWord, RangeWord, NextWord}
-use Rattle.query_protocol.specs.declared.request.RequestWord.TheVariants.{CostWord, PlanWord, CancelWord, LayoutWord, QuitWord}
+use Rattle.query_protocol.specs.declared.request.RequestWord.TheVariants.{AddWord, DelWord, GetWord}
+use Rattle.query_protocol.specs.declared.request.RequestWord.TheVariants.{RangeWord, NextWord}
+use Rattle.query_protocol.specs.declared.request.RequestWord.TheVariants.{CostWord, PlanWord}
+use Rattle.query_protocol.specs.declared.request.RequestWord.TheVariants.{CancelWord, LayoutWord}
+use Rattle.query_protocol.specs.declared.request.RequestWord.TheVariants.{QuitWord}
 
 -- the request word that a word is
 abbrev pub request_word : List ℕ → Option RequestWord
@@ -45,5 +52,5 @@ of_words config (word ∷ after) = with_words config (request_word word) after
 -- a line: a request, nothing, or its first fault
 abbrev pub reading : Config → List ℕ → LineReading
 reading config line =
-    if nat_lt 4096 (length line) then Err (bad 1) else
+    if nat_lt LINE_MOST (length line) then Err (bad 1) else
     if not (is_printable line) then Err (bad 2) else of_words config (words line)

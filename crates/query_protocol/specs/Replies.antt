@@ -1,10 +1,9 @@
 -- The text of replies: a line each.
-use Rattle.std.specs.Prelude.{◌≡◌, ℕ, ◌<◌, ◌^◌, ◌==◌, not, Bool, true, if◌then◌else◌, List, [], ◌∷◌, ◌++◌, All, ℤ, pos, negsuc, suc, ◌+◌, ◌*◌, codes, decimal}
+use Rattle.std.specs.Prelude.{ℕ, ◌+◌, ◌*◌, ◌==◌, if◌then◌else◌}
+use Rattle.std.specs.Prelude.{List, [], ◌∷◌, ◌++◌, ℤ, codes, decimal}
 use Rattle.std.specs.Char.{digit_char}
 use Rattle.std.specs.Fmt.{signed_decimal}
-use Rattle.std.specs.List.{flat_map, list_all}
-use Rattle.line_forms.specs.Forms.{is_tag}
-use Rattle.part_layout.specs.Text.{IsTextOfLayout}
+use Rattle.std.specs.List.{flat_map}
 use Rattle.query_protocol.specs.declared.bad.Bad as fault
 use Rattle.query_protocol.specs.declared.reply.Reply.{Reply}
 use Rattle.query_protocol.specs.declared.reply.Reply.TheVariants as reply
@@ -53,7 +52,8 @@ hex_text rest = []
 -- the text of a fault
 abbrev pub fault_text : fault.Bad → List ℕ
 fault_text fault =
-    codes "bad " ++ decimal fault.number ++ (if fault.number == 5 then codes " " ++ decimal fault.word else [])
+    codes "bad " ++ decimal fault.number
+    ++ (if fault.number == 5 then codes " " ++ decimal fault.word else [])
 
 -- the text of a threshold, with the space before it
 abbrev pub threshold_text : ℤ → List ℕ
@@ -73,13 +73,15 @@ reply_text (Full at) = codes "full at " ++ decimal at
 reply_text (Code key code at) =
     codes "code " ++ decimal key ++ codes " " ++ hex_text code ++ codes " at " ++ decimal at
 reply_text (Open tag at) = codes "open " ++ tag ++ codes " at " ++ decimal at
-reply_text (Hit tag dist key) = codes "hit " ++ tag ++ codes " " ++ decimal dist ++ codes " " ++ decimal key
+reply_text (Hit tag dist key) =
+    codes "hit " ++ tag ++ codes " " ++ decimal dist ++ codes " " ++ decimal key
 reply_text (More tag) = codes "more " ++ tag
 reply_text (Done tag count) = codes "done " ++ tag ++ codes " " ++ decimal count
 reply_text (Cost tag reads bound) =
     codes "cost " ++ tag ++ codes " reads " ++ decimal reads ++ codes " bound " ++ decimal bound
 reply_text (Plan tag shard cost thresholds) =
-    codes "plan " ++ tag ++ codes " " ++ decimal shard ++ codes " cost " ++ decimal cost ++ thresholds_text thresholds
+    codes "plan " ++ tag ++ codes " " ++ decimal shard ++ codes " cost " ++ decimal cost
+    ++ thresholds_text thresholds
 reply_text (Cancelled tag count) = codes "cancelled " ++ tag ++ codes " " ++ decimal count
 reply_text (Closed tag count) = codes "closed " ++ tag ++ codes " " ++ decimal count
 reply_text (Layout shard text) = codes "layout " ++ decimal shard ++ codes " " ++ text
@@ -93,37 +95,3 @@ reply_line reply = reply_text reply ++ 10 ∷ []
 -- the text of replies
 abbrev pub text : List LineReply → List ℕ
 text replies = flat_map reply_line replies
-
--- no byte is a line feed
-abbrev pub has_no_feed : List ℕ → Bool
-has_no_feed bytes = list_all (λ byte. not (byte == 10)) bytes
-
--- a number of at most 64 bits
-abbrev pub IsWord64 : ℕ → Type 0
-IsWord64 number = number < 2 ^ 64
-
--- a signed number whose digits are those of a number of at most 64 bits
-abbrev pub IsSigned64 : ℤ → Type 0
-IsSigned64 (pos number) = IsWord64 number
-IsSigned64 (negsuc number) = IsWord64 (suc number)
-
--- what a reply may hold: numbers of at most 64 bits, tags of the form of tags, and the texts of layouts
-abbrev pub IsWritten : LineReply → Type 0
-IsWritten (Added key at) = IsWord64 key × IsWord64 at
-IsWritten (Deleted key at) = IsWord64 key × IsWord64 at
-IsWritten (Taken key at) = IsWord64 key × IsWord64 at
-IsWritten (Absent key at) = IsWord64 key × IsWord64 at
-IsWritten (Full at) = IsWord64 at
-IsWritten (Code key code at) = IsWord64 key × All (λ bit. bit < 2) code × IsWord64 at
-IsWritten (Open tag at) = (is_tag tag ≡ true) × IsWord64 at
-IsWritten (Hit tag dist key) = (is_tag tag ≡ true) × IsWord64 dist × IsWord64 key
-IsWritten (More tag) = is_tag tag ≡ true
-IsWritten (Done tag count) = (is_tag tag ≡ true) × IsWord64 count
-IsWritten (Cost tag reads bound) = (is_tag tag ≡ true) × IsWord64 reads × IsWord64 bound
-IsWritten (Plan tag shard cost thresholds) =
-    (is_tag tag ≡ true) × IsWord64 shard × IsWord64 cost × All IsSigned64 thresholds
-IsWritten (Cancelled tag count) = (is_tag tag ≡ true) × IsWord64 count
-IsWritten (Closed tag count) = (is_tag tag ≡ true) × IsWord64 count
-IsWritten (Layout shard text) = IsWord64 shard × IsTextOfLayout text
-IsWritten (Bad fault) = IsWord64 fault.number × IsWord64 fault.word
-IsWritten NoMemory = Unit {0}

@@ -1,5 +1,6 @@
--- What a request asks by the words after its request word, or its first fault. Codes here have just their own bits.
-use Rattle.std.specs.Prelude.{ℕ, nat_lt, if◌then◌else◌, List, [], ◌∷◌, Option, Some, None, Result, Ok, Err, ok_or}
+-- What the words after a request word ask, or their first fault. Codes have just their own bits.
+use Rattle.std.specs.Prelude.{ℕ, nat_lt, if◌then◌else◌, List, [], ◌∷◌}
+use Rattle.std.specs.Prelude.{Option, Some, None, Result, Ok, Err, ok_or}
 use Rattle.line_forms.specs.Forms.{key_form, radius_of, count_of, code_form, shard_form, tag_of}
 use Rattle.query_protocol.specs.declared.bad.Bad.{Bad}
 
@@ -51,12 +52,14 @@ next_of (Some tag) (Some n) = Ok (Some (Next tag n))
 abbrev pub plan_of : ℕ → Option (List ℕ) → Option ℕ → LineReading
 plan_of shards None shard = Err (bad_word 2)
 plan_of shards (Some tag) None = Err (bad_word 3)
-plan_of shards (Some tag) (Some shard) = if nat_lt shard shards then Ok (Some (Plan tag shard)) else Err (bad 6)
+plan_of shards (Some tag) (Some shard) =
+    if nat_lt shard shards then Ok (Some (Plan tag shard)) else Err (bad 6)
 
 -- a shard, which has to be one of so many
 abbrev pub layout_reading : ℕ → Option ℕ → LineReading
 layout_reading shards None = Err (bad_word 2)
-layout_reading shards (Some shard) = if nat_lt shard shards then Ok (Some (Layout shard)) else Err (bad 6)
+layout_reading shards (Some shard) =
+    if nat_lt shard shards then Ok (Some (Layout shard)) else Err (bad 6)
 
 -- the words after `add`
 abbrev pub add_asked : ℕ → List (List ℕ) → LineReading
@@ -65,7 +68,8 @@ add_asked bits after = Err (bad 4)
 
 -- the words after `range`
 abbrev pub range_asked : ℕ → List (List ℕ) → LineReading
-range_asked bits (tag ∷ tau ∷ code ∷ []) = range_of (tag_of tag) (radius_of bits tau) (code_form bits code)
+range_asked bits (tag ∷ tau ∷ code ∷ []) =
+    range_of (tag_of tag) (radius_of bits tau) (code_form bits code)
 range_asked bits after = Err (bad 4)
 
 -- the words after `next`

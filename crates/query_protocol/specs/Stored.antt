@@ -1,7 +1,8 @@
 -- What a request that was read asks: it keeps its code with zeros after the code's own bits.
 use Rattle.std.specs.Prelude.{◌≡◌, ℕ, ◌<◌, ◌≤◌, take, Option, Some, None, Result, Ok, Err}
 use Rattle.hamming_model.specs.Codes.{StandsFor}
-use Rattle.query_protocol.specs.Requests.{LineRequest, LineReading, Add, Del, Get, Range, Next, Cost, Plan, Cancel, Layout, Quit}
+use Rattle.query_protocol.specs.Requests.{LineRequest, LineReading, Add, Del, Get, Range, Next}
+use Rattle.query_protocol.specs.Requests.{Cost, Plan, Cancel, Layout, Quit}
 use Rattle.query_protocol.specs.declared.bad.Bad.{Bad}
 use Rattle.query_protocol.specs.declared.request.Request.{Request}
 use Rattle.query_protocol.specs.declared.request.Request.TheVariants as kept
@@ -43,6 +44,8 @@ NamesShard shards (Ok (Some (kept.Layout shard))) = shard < shards
 NamesShard shards other = Unit {0}
 
 -- what is given is what a line asks, and its code is kept as such codes are
-pub record ReadsAs (W bits : ℕ) (given : Result (Option (Request W)) Bad) (line : LineReading) : Type 0 where
+pub record ReadsAs
+    (W bits : ℕ) (given : Result (Option (Request W)) Bad) (line : LineReading)
+    : Type 0 where
   pub asked : unstored_reading bits given ≡ line
   pub fit : IsFitReading W bits given

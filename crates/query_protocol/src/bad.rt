@@ -16,7 +16,8 @@ pub struct Bad {
 impl Bad {
     /// The line has more than 4,096 bytes. This is judged first.
     pub fn line_too_long() -> Bad
-        ensures { (config : Config) (line : List ℕ) → LINE_MOST < length line → reading config line ≡ Err result }
+        ensures { (config : Config) (line : List ℕ) →
+            LINE_MOST < length line → reading config line ≡ Err result }
     {
         Bad::numbered(1)
     }

@@ -1,5 +1,6 @@
 ghost use Rattle.std.specs.Prelude.{◌≡◌, true};
-ghost use Rattle.query_protocol.specs.Replies.{LineReply, reply_text, has_no_feed, IsWritten};
+ghost use Rattle.query_protocol.specs.Replies.{LineReply, reply_text};
+ghost use Rattle.query_protocol.specs.Written.{has_no_feed, IsWritten};
 
 use part_layout::bytes_of_layouts;
 

@@ -2,6 +2,7 @@
 
 ghost use Rattle.std.specs.Prelude.{◌≡◌, ℕ, ◌≤◌, length};
 ghost use Rattle.gph_codes.specs.Allowed.{IsAllowed};
+ghost use Rattle.hamming_model.specs.declared.limits.TheConstants.{WORDS_MOST};
 ghost use Rattle.line_io.specs.declared.cutter.TheConstants.{LINE_MOST};
 ghost use Rattle.line_forms.specs.Words.{words};
 ghost use Rattle.query_protocol.specs.Lines.{reading, of_words, request_word, with_words};
@@ -19,7 +20,7 @@ use part_layout::Config;
 /// word is no request word; 4, the request has another number of words; 5, a word is not of its form;
 /// 6, there is no shard of this number.
 pub fn read_line<const W: usize>(config: &Config, line: &[u8]) -> Result<Option<Request<W>>, Bad>
-    requires few_words { W ≤ 8 }
+    requires few_words { W ≤ WORDS_MOST }
     requires allowed { IsAllowed W config.now.bits }
     requires short { length line.now ≤ LINE_MOST }
     ensures reads { ReadsAs W config.now.bits result (reading config.now line.now) }
@@ -33,7 +34,7 @@ pub fn read_line<const W: usize>(config: &Config, line: &[u8]) -> Result<Option<
 
 // The words of a line.
 fn read_words<const W: usize>(config: &Config, line: &[u8]) -> Result<Option<Request<W>>, Bad>
-    requires few_words { W ≤ 8 }
+    requires few_words { W ≤ WORDS_MOST }
     requires allowed { IsAllowed W config.now.bits }
     ensures reads { ReadsAs W config.now.bits result (of_words config.now (words line.now)) }
     ensures shard { NamesShard config.now.shards result }
@@ -50,7 +51,7 @@ fn read_after<const W: usize>(
     word: Option<RequestWord>,
     after: &[u8],
 ) -> Result<Option<Request<W>>, Bad>
-    requires few_words { W ≤ 8 }
+    requires few_words { W ≤ WORDS_MOST }
     requires allowed { IsAllowed W config.now.bits }
     ensures reads { ReadsAs W config.now.bits result (with_words config.now word (words after.now)) }
     ensures shard { NamesShard config.now.shards result }
@@ -109,7 +110,7 @@ fn request_word(word: &[u8]) -> Option<RequestWord>
 
 // The words after `add`.
 fn read_add<const W: usize>(bits: u32, after: &[u8]) -> Result<Option<Request<W>>, Bad>
-    requires few_words { W ≤ 8 }
+    requires few_words { W ≤ WORDS_MOST }
     requires allowed { IsAllowed W bits }
     ensures reads { ReadsAs W bits result (add_asked bits (words after.now)) }
     ensures shard { (shards : ℕ) → NamesShard shards result }
@@ -134,7 +135,7 @@ fn read_add<const W: usize>(bits: u32, after: &[u8]) -> Result<Option<Request<W>
 
 // The words after `range`.
 fn read_range<const W: usize>(bits: u32, after: &[u8]) -> Result<Option<Request<W>>, Bad>
-    requires few_words { W ≤ 8 }
+    requires few_words { W ≤ WORDS_MOST }
     requires allowed { IsAllowed W bits }
     ensures reads { ReadsAs W bits result (range_asked bits (words after.now)) }
     ensures shard { (shards : ℕ) → NamesShard shards result }

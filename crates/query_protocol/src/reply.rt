@@ -3,7 +3,7 @@ ghost use Rattle.gph_codes.specs.Allowed.{IsAllowed};
 ghost use Rattle.hamming_model.specs.Codes.{StandsFor};
 ghost use Rattle.line_io.specs.declared.cutter.TheConstants.{LINE_MOST};
 ghost use Rattle.query_protocol.specs.Replies.{reply_line, line_of, threshold_text, thresholds_text};
-ghost use Rattle.hamming_model.specs.declared.limits.TheConstants.{PARTS_MOST};
+ghost use Rattle.hamming_model.specs.declared.limits.TheConstants.{PARTS_MOST, WORDS_MOST};
 ghost use Rattle.query_protocol.specs.Replies as reply;
 
 use crate::Bad;
@@ -87,10 +87,11 @@ pub fn write_hit(tag: &Tag, dist: u32, key: u64, out: &mut LineBuf)
 
 /// Writes the line of a row's code, in the rows of the first `at` entries.
 pub fn write_code<const W: usize>(key: u64, bits: u32, code: &Code<W>, at: u64, out: &mut LineBuf)
-    requires few_words { W ≤ 8 }
+    requires few_words { W ≤ WORDS_MOST }
     requires allowed { IsAllowed W bits }
     requires empty { out.old ≡ [] }
-    ensures { (one : List ℕ) → StandsFor W bits code.now one → out.new ≡ reply_line (reply.Code key one at) }
+    ensures { (own : List ℕ) → StandsFor W bits code.now own →
+        out.new ≡ reply_line (reply.Code key own at) }
 {
     let mut digits = [0; DIGITS_MOST];
     let digits = &mut digits[..bits as usize / 4];

@@ -1,7 +1,7 @@
 use Rattle.std.proofs.Common.{◌≡◌, ℕ, Option, option_copied, Some, sym, ap}
 use Rattle.command_line.specs.WrittenOptions.{setting}
 use Rattle.command_line.specs.declared.given.GivenNumber.{GivenNumber}
-use Rattle.command_line.proofs.GivenLemmas.{kept_with}
+use Rattle.command_line.proofs.GivenLemmas.{kept_with, size_more}
 use Rattle.command_line.proofs.given.Given.with.Goals as goal
 
 pub returns-then-is_value-clause-value : goal.returns-then-is_value-clause-value
@@ -11,3 +11,8 @@ returns-then-is_value-clause-value c = λ before same.
     kept_with before (setting c.args.name.now c.args.place (option_copied c.args.value) c.args.value_place) c.in-Some.option
     c.in-Some-value.value.now c.args.self c.put.result (entry c.number-number.result) (sym c.in-Some.ensures) same
     (cc) stands (cc) (ap entry c.number-number.ensures) c.put.ensures
+
+pub returns-then-is_value-clause-more : goal.returns-then-is_value-clause-more
+returns-then-is_value-clause-more c =
+    let entry : GivenNumber = record { number = c.number-number.result; place = c.args.value_place } in
+    rw c.put.ensures (size_more c.in-Some.option entry c.args.self (cc))
