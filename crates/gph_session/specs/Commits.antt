@@ -1,6 +1,6 @@
 -- What a commit leaves of a desk and of the last position, and what it is told.
 -- No public clause cites this module.
-use Rattle.std.specs.Prelude.{◌≡◌, ℕ, ◌⊎◌, ◌×◌}
+use Rattle.std.specs.Prelude.{◌≡◌, ℕ, ◌⊎◌}
 use Rattle.hamming_model.specs.History.{Operation}
 use Rattle.commit_journal.specs.declared.decided.Decided.{Decided}
 use Rattle.entry_log.specs.declared.decision.Decision.{Decision}

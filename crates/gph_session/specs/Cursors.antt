@@ -21,4 +21,4 @@ stands {W} source = (ghosts (number W)).standing source
 
 -- what the sources of a cursor have read, by shard
 abbrev pub reads_in : {W : ℕ} → Cursor W → List ℕ
-reads_in {W} cursor = map (λ source. (stands {W} source).reads) cursor.gather.sources
+reads_in {W} cursor = map (λ source. (stands {W = W} source).reads) cursor.gather.sources

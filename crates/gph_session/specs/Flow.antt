@@ -75,11 +75,11 @@ pub record Stands {W : ℕ} (config : Config) (now : Moment W) (history : List J
 abbrev pub TurnIs : Result Turn Failed → (W : ℕ) → Config → List JournalEntry → State → List ℕ
     → Option (List ℕ) → Option (List ℕ) → Moment W → Moment W → Type 0
 TurnIs (Ok Goes) W config history s line before after old new =
-    OneLine W config history s line before after (Ok Goes) old new
+    OneLine {A = Turn} W config history s line before after (Ok Goes) old new
 TurnIs (Ok Quits) W config history s line before after old new =
     (asks_quit (reading config line) ≡ true) × Appends before after [] × (new ≡ old)
 TurnIs (Err failed) W config history s line before after old new =
-    OneLine W config history s line before after (Err failed) old new
+    OneLine {A = Turn} W config history s line before after (Err failed) old new
 
 -- a request is answered so, whatever line asks it and whatever state the session means
 abbrev pub AnswersRequest : {A : Type 0} {W : ℕ} → LineRequest → Result A Failed → Config

@@ -3,5 +3,6 @@ pub mod Sessions
 pub mod Moments
 pub mod Meaning
 pub mod Commits
+pub mod Opening
 pub mod Flow
 pub mod Serving

@@ -6,7 +6,7 @@ use Rattle.session_model.specs.State.{Query}
 use Rattle.session_model.specs.Ledger.{Ledgers, ledgers, column, readings_of}
 use Rattle.session_model.specs.Upkeep.{entries_beyond}
 use Rattle.gph_session.specs.Sessions.{pins_of}
-use Rattle.gph_session.specs.declared.session.Session.{Session}
+use Rattle.gph_session.specs.declared.open_session.Session.{Session}
 use Rattle.gph_session.specs.Cursors.{Cursor}
 
 -- the desk, the open queries and the ledgers, how many requests were answered, and the last position

@@ -4,11 +4,13 @@ ghost use Rattle.std.specs.Prelude.{◌≡◌, ◌<◌, ℕ, List, true};
 ghost use Rattle.std.specs.Thread.{IsSync};
 ghost use Rattle.query_protocol.specs.Requests.{Next, Cost, Plan, Cancel, Layout};
 ghost use Rattle.open_queries.specs.Writing.{IsCaused};
+ghost use Rattle.open_queries.specs.Queries.{HaveShard};
+ghost use Rattle.gph_session.specs.Meaning.{IsReady};
 ghost use Rattle.session_desk.specs.Desks.{DeskState};
 ghost use Rattle.gph_session.specs.Flow.{AnswersRequest};
 ghost use Rattle.gph_session.specs.Moments.{moment_of};
 
-use crate::session::Session;
+use crate::open_session::Session;
 use line_io::{Failed, Sink};
 use open_queries::{say, send};
 use part_layout::Config;
@@ -29,6 +31,7 @@ pub(crate) fn next<const W: usize, K: Sink, R: Threads + Sync, G: Gate, L: Send>
     gate: &G,
     meters: &mut Meters<L>,
 ) -> Result<(), Failed>
+    requires ready { IsReady W config.now }
     requires sync { IsSync R.row }
     ensures answers { (desk : DeskState) (upkeep : ℕ) → desk.alone ≡ true →
         AnswersRequest (Next tag.now n) result config.now (K.held sink.old) (K.held sink.new)
@@ -50,6 +53,7 @@ pub(crate) fn cost<const W: usize, K: Sink>(
     tag: &Tag,
     sink: &mut K,
 ) -> Result<(), Failed>
+    requires ready { IsReady W config.now }
     ensures answers { (desk : DeskState) (reads : List ℕ) (upkeep : ℕ) → desk.alone ≡ true →
         AnswersRequest (Cost tag.now) result config.now (K.held sink.old) (K.held sink.new)
         (moment_of desk session.old reads upkeep) (moment_of desk session.new reads upkeep) }
@@ -69,6 +73,7 @@ pub(crate) fn plan<const W: usize, K: Sink>(
     shard: u32,
     sink: &mut K,
 ) -> Result<(), Failed>
+    requires ready { IsReady W config.now }
     requires shards { HaveShard session.old.queries shard }
     ensures answers { (desk : DeskState) (reads : List ℕ) (upkeep : ℕ) → desk.alone ≡ true →
         AnswersRequest (Plan tag.now shard) result config.now (K.held sink.old) (K.held sink.new)
@@ -88,6 +93,7 @@ pub(crate) fn cancel<const W: usize, K: Sink>(
     tag: &Tag,
     sink: &mut K,
 ) -> Result<(), Failed>
+    requires ready { IsReady W config.now }
     ensures answers { (desk : DeskState) (reads : List ℕ) (upkeep : ℕ) → desk.alone ≡ true →
         AnswersRequest (Cancel tag.now) result config.now (K.held sink.old) (K.held sink.new)
         (moment_of desk session.old reads upkeep) (moment_of desk session.new reads upkeep) }

@@ -8,7 +8,7 @@ ghost use Rattle.gph_session.specs.Flow.{FlowsOn, EndsOn};
 ghost use Rattle.gph_session.specs.Moments.{moment_of};
 
 use crate::answer::answer;
-use crate::session::Session;
+use crate::open_session::Session;
 use crate::turn::Turn;
 use line_io::{Failed, Sink};
 use part_layout::Config;

@@ -12,7 +12,7 @@ ghost use Rattle.gph_session.specs.Commits.{CommitsAs, decided_reply};
 ghost use Rattle.gph_session.specs.Flow.{AnswersRequest};
 ghost use Rattle.gph_session.specs.Moments.{moment_of};
 
-use crate::session::Session;
+use crate::open_session::Session;
 use commit_journal::Decided;
 use entry_log::{Decision, Op};
 use gph_codes::Code;
@@ -107,7 +107,7 @@ fn commit<const W: usize, D: Desk<W>>(
     op: Op<W>,
 ) -> Reply
     requires stored { IsStoredOperation W (D.desk desk.old).config.bits (kept_operation op) }
-    ensures { CommitsAs (D.desk desk.old) (D.desk desk.new) session.old.position
+    ensures commits { CommitsAs (D.desk desk.old) (D.desk desk.new) session.old.position
         session.new.position key (kept_operation op.entry) (line_of result) }
     ensures queries { session.new.queries ≡ session.old.queries }
     ensures cutter { session.new.cutter ≡ session.old.cutter }

@@ -1,6 +1,6 @@
 //! One session over a desk.
 
-ghost use Rattle.std.specs.Prelude.{◌≡◌, ◌≤◌, ◌×◌, true};
+ghost use Rattle.std.specs.Prelude.{◌≡◌, ◌≤◌, true};
 ghost use Rattle.std.specs.Thread.{IsSync};
 ghost use Rattle.session_model.specs.Ledger.{ledgers};
 ghost use Rattle.session_model.specs.Outcomes.{Untouched, IsDone, IsReadFault, IsWriteFault};
@@ -10,7 +10,7 @@ ghost use Rattle.gph_session.specs.Serving.{EndsOrDidNothing};
 
 use crate::report::{Report, Status};
 use crate::serve::serve;
-use crate::session::new_session;
+use crate::open_session::new_session;
 use line_io::{Sink, Source};
 use part_layout::Config;
 use read_meter::{Meters, NoMemory, Steps};

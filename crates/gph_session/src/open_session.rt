@@ -1,6 +1,7 @@
 //! One session between two lines.
 
-ghost use Rattle.std.specs.Prelude.{◌≡◌, [], IfOk};
+ghost use Rattle.std.specs.Prelude.{◌≡◌, ◌≤◌, [], IfOk};
+ghost use Rattle.hamming_model.specs.declared.limits.TheConstants.{WORDS_MOST};
 ghost use Rattle.line_io.specs.Cut.{held_of};
 
 use line_io::{Cutter, LineBuf};
@@ -25,6 +26,7 @@ pub(crate) fn new_session<const W: usize>(
     alloc: Global,
     position: u64,
 ) -> Result<Session<W>, NoMemory>
+    requires few_words { W ≤ WORDS_MOST }
     ensures queries { IfOk result (λ session. session.queries ≡ []) }
     ensures cutter { IfOk result (λ session. session.cutter.held ≡ held_of []) }
     ensures requests { IfOk result (λ session. session.requests ≡ 0) }
