@@ -183,7 +183,7 @@ unfolding values_near values
 near_below value width units =
     All-filter (is_near value units) (λ other. other < 2 ^ width) (range_with_len 0 (2 ^ width)) (range_below 0 (2 ^ width) (2 ^ width) (omega arith))
 
-ring_below : (value width apart : ℕ) → All (λ other. other < 2 ^ width) (ring value width apart)
+pub ring_below : (value width apart : ℕ) → All (λ other. other < 2 ^ width) (ring value width apart)
 unfolding ring values
 ring_below value width apart =
     All-filter (λ other. value_distance other value == apart) (λ other. other < 2 ^ width) (range_with_len 0 (2 ^ width))

@@ -1,8 +1,8 @@
 -- The next value at a distance: by its last digit and the digits before it.
-use Rattle.std.proofs.Common.{◌≡◌, ◌≢◌, ℕ, zero, suc, ◌+◌, ◌-◌, ◌*◌, ◌/◌, ◌%◌, ◌^◌, ◌<◌, ◌≤◌, inl, inr, Option, Some, None, MatchOption, [], ◌∷◌, refl, sym, ◌∙◌, ap, subst, arith}
+use Rattle.std.proofs.Common.{◌≡◌, ◌≢◌, ℕ, zero, suc, ◌+◌, ◌-◌, ◌*◌, ◌/◌, ◌%◌, ◌^◌, ◌<◌, ◌≤◌, inl, inr, true, false, Option, Some, None, MatchOption, [], ◌∷◌, refl, sym, ◌∙◌, ap, subst, arith}
 use Rattle.std.specs.Int.RustNames.{count_ones}
 use Rattle.std.proofs.lemmas.Nat.{div-add-mod', pow-add}
-use Rattle.std.proofs.lemmas.Bool.{cases_eq, cases_lt}
+use Rattle.std.proofs.lemmas.Bool.{cases_eq, cases_lt, false≢true}
 use Rattle.std.proofs.Math.Pow.{pow_mono}
 use Rattle.ball_walk.specs.Balls.{value_distance}
 use Rattle.ball_walk.specs.Walk.{ring_from, IsNextAfter, HasNoneAfter}
@@ -58,6 +58,12 @@ odd_distance high value =
 -- the last digit can't be raised
 abbrev pub CannotRaise : ℕ → ℕ → ℕ → ℕ → Type 0
 CannotRaise value last least most = last % 2 ≡ 0 → least ≤ value_distance (last + 1) value → value_distance (last + 1) value ≤ most → ⊥
+
+-- as a test says that failed
+pub not_raised : (value last least most : ℕ)
+    → ((last % 2 ≡ 0) × (least ≤ value_distance (last + 1) value) × (value_distance (last + 1) value ≤ most) → false ≡ true)
+    → CannotRaise value last least most
+not_raised value last least most test = λ even enough near. absurd (false≢true (test (even, enough, near)))
 
 -- a value above the last one has greater digits before its last, where that digit can't be raised
 pub record IsAbove (value width last least most other : ℕ) : Type 0 where
@@ -174,8 +180,10 @@ next_odd value width last least most high some order stuck next out =
     record {
       later = omega arith;
       in_width = omega arith;
-      enough = odd_enough least most (value_distance high (value / 2)) (value_distance 0 (value % 2)) (value_distance 1 (value % 2)) (value_distance (2 * high) value) (value_distance (2 * high + 1) value) order digits enough near even odd out;
-      near = odd_near least most (value_distance high (value / 2)) (value_distance 0 (value % 2)) (value_distance 1 (value % 2)) (value_distance (2 * high) value) (value_distance (2 * high + 1) value) order digits enough near even odd out;
+      enough = odd_enough least most (value_distance high (value / 2)) (value_distance 0 (value % 2)) (value_distance 1 (value % 2))
+          (value_distance (2 * high) value) (value_distance (2 * high + 1) value) order digits enough near even odd out;
+      near = odd_near least most (value_distance high (value / 2)) (value_distance 0 (value % 2)) (value_distance 1 (value % 2))
+          (value_distance (2 * high) value) (value_distance (2 * high + 1) value) order digits enough near even odd out;
       first = λ other above_last before e n. elim (cases_eq other (2 * high)) [
         | inl same ↦
             let P : ℕ → Type 0 = λ m. least ≤ value_distance m value in

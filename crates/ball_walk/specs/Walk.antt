@@ -2,6 +2,7 @@
 -- No public clause cites this module.
 use Rattle.std.specs.Prelude.{ℕ, zero, suc, ◌+◌, ◌-◌, ◌^◌, ◌<◌, ◌≤◌, ◌==◌, List, [], ◌++◌, filter}
 use Rattle.std.specs.List.{flat_map, range_with_len}
+use Rattle.hamming_model.specs.declared.limits.TheConstants.{PART_WIDTH_MOST}
 use Rattle.ball_walk.specs.Balls.{ring, value_distance}
 
 -- the values of a width at one distance from a value, from one on
@@ -13,11 +14,12 @@ ring_from value width apart from =
 abbrev pub rest_of : ℕ → ℕ → ℕ → ℕ → ℕ → List ℕ
 rest_of value width apart from zero = []
 rest_of value width apart from (suc left) =
-    ring_from value width apart from ++ flat_map (ring value width) (range_with_len (apart + 1) left)
+    ring_from value width apart from ++ flat_map (ring value width)
+    (range_with_len (apart + 1) left)
 
 -- the numbers of a walk are in range
 pub record IsWalk (value width apart from left : ℕ) : Type 0 where
-  pub small : width ≤ 12
+  pub small : width ≤ PART_WIDTH_MOST
   pub in_width : value < 2 ^ width
   pub few : apart + left ≤ width + 1
   pub in_range : from ≤ 2 ^ width

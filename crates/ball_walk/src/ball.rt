@@ -1,5 +1,6 @@
 ghost use Rattle.std.specs.Prelude.{◌≡◌, ℕ, ◌+◌, ◌^◌, ◌<◌, ◌≤◌, List, [], ◌∷◌, MatchOption, negsuc, ◌≤ℤ◌, min, All, IfSome};
-ghost use Rattle.ball_walk.specs.Balls.{ball, radius_units};
+ghost use Rattle.hamming_model.specs.declared.limits.TheConstants.{PART_WIDTH_MOST};
+ghost use Rattle.ball_walk.specs.Balls.{ball, ring, radius_units};
 ghost use Rattle.ball_walk.specs.Walk.{ring_from};
 
 use crate::next::{is_between, next_after};
@@ -37,7 +38,7 @@ impl Ball {
     /// -1, and all where it is the width or more. It takes no memory.
     pub fn new(value: u16, width: u32, radius: i32) -> Ball
         requires some_width { 0 < width }
-        requires small_width { width ≤ 12 }
+        requires small_width { width ≤ PART_WIDTH_MOST }
         requires in_width { value < 2 ^ width }
         requires radius { negsuc 0 ≤ℤ radius }
         ensures values { result ≡ ball value width (radius_units radius) }
@@ -49,6 +50,27 @@ impl Ball {
             width,
             apart: 0,
             left,
+            from: 0,
+        }
+    }
+
+    /// The values of `width` binary digits exactly `apart` from `value`, ascending: none where that is more
+    /// than the width. It takes no memory.
+    pub fn ring(value: u16, width: u32, apart: u32) -> Ball
+        requires some_width { 0 < width }
+        requires small_width { width ≤ PART_WIDTH_MOST }
+        requires in_width { value < 2 ^ width }
+        ensures values { result ≡ ring value width apart }
+        ensures in_width { All (λ other. other < 2 ^ width) result }
+    {
+        if apart > width {
+            return Ball::new(value, width, -1);
+        }
+        Ball {
+            value,
+            width,
+            apart,
+            left: 1,
             from: 0,
         }
     }
@@ -77,7 +99,7 @@ impl Ball {
 
 // How many distances of values of this width lie within the radius.
 fn distances_within(width: u32, radius: i32) -> u32
-    requires width { width ≤ 12 }
+    requires width { width ≤ PART_WIDTH_MOST }
     requires radius { negsuc 0 ≤ℤ radius }
     ensures { result ≡ min (radius_units radius) (width + 1) }
 {
@@ -90,7 +112,7 @@ fn distances_within(width: u32, radius: i32) -> u32
 
 // How many values of this width there are.
 fn bound_of(width: u32) -> u16
-    requires { width ≤ 12 }
+    requires { width ≤ PART_WIDTH_MOST }
     ensures { result ≡ 2 ^ width }
 {
     1 << width
@@ -98,7 +120,7 @@ fn bound_of(width: u32) -> u16
 
 // The least value from this one on that is so far apart from `value`.
 fn first_from(value: u16, width: u32, apart: u32, from: u16) -> Option<u16>
-    requires width { width ≤ 12 }
+    requires width { width ≤ PART_WIDTH_MOST }
     requires value { value < 2 ^ width }
     requires from { from ≤ 2 ^ width }
     ensures below { IfSome result (λ found. found < 2 ^ width) }

@@ -1,4 +1,5 @@
 ghost use Rattle.std.specs.Prelude.{◌≡◌, ℕ, ◌+◌, ◌%◌, ◌^◌, ◌<◌, ◌≤◌, ◌↔◌, IsTrue, MatchOption};
+ghost use Rattle.hamming_model.specs.declared.limits.TheConstants.{PART_WIDTH_MOST};
 ghost use Rattle.ball_walk.specs.Balls.{value_distance};
 ghost use Rattle.ball_walk.specs.Walk.{IsNextAfter, HasNoneAfter};
 
@@ -8,7 +9,7 @@ use crate::distance::value_distance;
 // the last digit can't be raised, the digits before it are, and the last one is the least that fits:
 // each digit is looked at once.
 pub(crate) fn next_after(value: u16, width: u32, last: u16, least: u32, most: u32) -> Option<u16>
-    requires width { width ≤ 12 }
+    requires width { width ≤ PART_WIDTH_MOST }
     requires last { last < 2 ^ width }
     requires order { least ≤ most }
     ensures { MatchOption result (HasNoneAfter value width last least most)

@@ -103,7 +103,8 @@ pub gathered_past : (slab : Slab (ℕ × ℕ)) (position : ℕ) (older : List �
 gathered_past slab position older before left entry gathered cut high = gathered_beyond slab position older before left entry gathered cut high
 
 -- none is left
-pub gathered_all : (slab : Slab (ℕ × ℕ)) (position : ℕ) (older : List ℕ) (left : Left) → Gathered slab position older left → left ≡ [] → AreOlder (live_of slab) position older
+pub gathered_all : (slab : Slab (ℕ × ℕ)) (position : ℕ) (older : List ℕ) (left : Left) → Gathered slab position older left
+    → left ≡ [] → AreOlder (live_of slab) position older
 gathered_all slab position older left gathered none = record {
   ascending = gathered.ascending;
   below = gathered.below;

@@ -45,7 +45,8 @@ module _ (state : JournalState) (entry : JournalEntry) where
   longer = length-append state.history (entry ∷ [])
 
   -- the journal stays sound and its rows those of the history
-  pub kept_more : (words : ℕ) (rows left : List (ℕ × List ℕ)) → IsKeptJournal words state rows → IsLegal (state.history ++ entry ∷ []) → length state.history < state.limit
+  pub kept_more : (words : ℕ) (rows left : List (ℕ × List ℕ)) → IsKeptJournal words state rows
+      → IsLegal (state.history ++ entry ∷ []) → length state.history < state.limit
       → left ≡ changed rows entry.operation → rows_of (state.history ++ entry ∷ []) ≡ changed (rows_of state.history) entry.operation
       → IsKeptJournal words (with_entry state entry) left
   kept_more words rows left kept legal room new more = record {
@@ -91,7 +92,8 @@ module _ (state : JournalState) (id who : ℕ) where
       limited = kept.sound.limited;
       numbered = kept.sound.numbered;
       none_beyond = λ position stands. ⊎_elim (λ (here : length state.history ≡ position). omega (arith, here))
-          (λ (old : StandsAt (positions_of state.live) position). kept.sound.none_beyond position old) (stands_opened state.live id who (length state.history) position stands);
+          (λ (old : StandsAt (positions_of state.live) position). kept.sound.none_beyond position old)
+          (stands_opened state.live id who (length state.history) position stands);
     };
     same_rows = kept.same_rows;
   }
@@ -102,7 +104,8 @@ module _ (state : JournalState) (id who : ℕ) where
     begins = knows.begins;
     within = knows.within;
     older = λ position stands below. ⊎_elim (λ (here : length state.history ≡ position). absurd (omega (arith, here, below, knows.within)))
-        (λ (old : StandsAt (positions_of state.live) position). knows.older position old below) (stands_opened state.live id who (length state.history) position stands);
+        (λ (old : StandsAt (positions_of state.live) position). knows.older position old below)
+        (stands_opened state.live id who (length state.history) position stands);
   }
 
   -- and the new one
@@ -111,7 +114,8 @@ module _ (state : JournalState) (id who : ℕ) where
     begins = sym (take_all (length state.history) state.history (omega arith));
     within = omega arith;
     older = λ position stands below. ⊎_elim (λ (here : length state.history ≡ position). absurd (omega (arith, here, below)))
-        (λ (old : StandsAt (positions_of state.live) position). are.all position old below) (stands_opened state.live id who (length state.history) position stands);
+        (λ (old : StandsAt (positions_of state.live) position). are.all position old below)
+        (stands_opened state.live id who (length state.history) position stands);
   }
 
 -- the same of a slab in which the front was put
@@ -148,7 +152,8 @@ module _ (history entries : List JournalEntry) (old new : Slab (ℕ × ℕ)) (ne
     slab_opens are vacant = record { fresh = slab_at old id ∙ vacant; who = refl; entries = same; older = rw (← number) are; after = is_opened }
 
 -- ---- one front less
-pub kept_closed : (words : ℕ) (state : JournalState) (id : ℕ) (rows : List (ℕ × List ℕ)) → IsKeptJournal words state rows → IsKeptJournal words (without_front state id) rows
+pub kept_closed : (words : ℕ) (state : JournalState) (id : ℕ) (rows : List (ℕ × List ℕ)) → IsKeptJournal words state rows
+    → IsKeptJournal words (without_front state id) rows
 kept_closed words state id rows kept = record {
   few_words = kept.few_words;
   sound = record {
@@ -171,7 +176,8 @@ fronts_closed state id closed knows = record {
 -- the same of a slab from which it was taken
 pub slab_closed : (history : List JournalEntry) (old new : Slab (ℕ × ℕ)) (next limit id : ℕ) → Updates old new id None
     → journal_of history new next limit ≡ without_front (journal_of history old next limit) id
-slab_closed history old new next limit id updates = ap (λ (live : Live). record (journal_of history old next limit) { live = live }) (slab_removed old new id updates)
+slab_closed history old new next limit id updates =
+    ap (λ (live : Live). record (journal_of history old next limit) { live = live }) (slab_removed old new id updates)
 
 -- ---- no entries
 pub kept_empty : (words limit : ℕ) → words ≤ WORDS_MOST → limit ≤ ENTRIES_MOST → IsLegal [] → IsKeptJournal words (empty_journal limit) []

@@ -78,11 +78,13 @@ second found = option_map (λ pair. pair.1) found
 
 module _ (live : Live) (id : ℕ) where
   -- one front more: its position, or that of one before it
-  pub stands_opened : (who position other : ℕ) → StandsAt (positions_of (insert live id (who, position))) other → (position ≡ other) ⊎ StandsAt (positions_of live) other
+  pub stands_opened : (who position other : ℕ) → StandsAt (positions_of (insert live id (who, position))) other
+      → (position ≡ other) ⊎ StandsAt (positions_of live) other
   stands_opened who position other stands =
       go (stands.number == id) (sym (ap second (after_insert live id (who, position) stands.number)) ∙ stands.stands)
     where
-      go : (here : Bool) → second (cond here (Some (who, position)) (get live stands.number)) ≡ Some other → (position ≡ other) ⊎ StandsAt (positions_of live) other
+      go : (here : Bool) → second (cond here (Some (who, position)) (get live stands.number)) ≡ Some other
+          → (position ≡ other) ⊎ StandsAt (positions_of live) other
       go true h = inl cc
       go false h = inr (record { number = stands.number; stands = h })
 

@@ -27,7 +27,8 @@ ascends_back [] ys up = up
 ascends_back (x ∷ xs) ys up = ascends_back xs ys up.1
 
 -- a position between those below it and those above it
-ascends_between : (front back : List ℕ) (position : ℕ) → ArePositionsInOrder (front ++ back) → AllByRecursion (λ other. other < position) front → AllByRecursion (λ other. position < other) back
+ascends_between : (front back : List ℕ) (position : ℕ) → ArePositionsInOrder (front ++ back)
+    → AllByRecursion (λ other. other < position) front → AllByRecursion (λ other. position < other) back
     → ArePositionsInOrder (front ++ position ∷ back)
 ascends_between [] back position up low high = (high, up)
 ascends_between (x ∷ front) back position up low high = (
@@ -35,7 +36,8 @@ ascends_between (x ∷ front) back position up low high = (
   ascends_between front back position up.1 low.1 high,
 )
 
-has_between : (front back : List ℕ) (position other : ℕ) → has_position (front ++ position ∷ back) other ≡ (has_position (front ++ back) other || (position == other))
+has_between : (front back : List ℕ) (position other : ℕ)
+    → has_position (front ++ position ∷ back) other ≡ (has_position (front ++ back) other || (position == other))
 has_between front back position other =
     rw (list_any-append (λ each. each == other) front (position ∷ back), list_any-append (λ each. each == other) front back)
     (go (has_position front other) (has_position back other) (position == other))
@@ -47,12 +49,15 @@ has_between front back position other =
     go false false true = refl
     go false false false = refl
 
-below_between : (front back : List ℕ) (position bound : ℕ) → AllByRecursion (λ other. other < bound) (front ++ back) → position < bound → AllByRecursion (λ other. other < bound) (front ++ position ∷ back)
+below_between : (front back : List ℕ) (position bound : ℕ) → AllByRecursion (λ other. other < bound) (front ++ back)
+    → position < bound → AllByRecursion (λ other. other < bound) (front ++ position ∷ back)
 below_between front back position bound all one =
-    all_append (λ other. other < bound) front (position ∷ back) (all_front (λ other. other < bound) front back all) (one, all_back (λ other. other < bound) front back all)
+    all_append (λ other. other < bound) front (position ∷ back) (all_front (λ other. other < bound) front back all)
+    (one, all_back (λ other. other < bound) front back all)
 
 -- a position put among those below it and those above it
-between : (front back : List ℕ) (position : ℕ) → ArePositionsInOrder (front ++ back) → AllByRecursion (λ other. other < position) front → AllByRecursion (λ other. position < other) back
+between : (front back : List ℕ) (position : ℕ) → ArePositionsInOrder (front ++ back)
+    → AllByRecursion (λ other. other < position) front → AllByRecursion (λ other. position < other) back
     → AddsPosition (front ++ back) position (front ++ position ∷ back)
 between front back position up low high = record {
   ascending = ascends_between front back position up low high;
@@ -61,19 +66,24 @@ between front back position up low high = record {
 }
 
 -- put before the first that is above it
-pub put_before : (positions : List ℕ) (place position d : ℕ) → ArePositionsInOrder positions → place < length positions → AllByRecursion (λ other. other < position) (take place positions)
+pub put_before : (positions : List ℕ) (place position d : ℕ) → ArePositionsInOrder positions → place < length positions
+    → AllByRecursion (λ other. other < position) (take place positions)
     → position < get_or positions place d → AddsPosition positions position (insert positions place position)
 put_before positions place position d up inside low above =
     let whole = take-append-drop place positions in
     let here : drop place positions ≡ get_or positions place d ∷ drop (place + 1) positions = drop_more positions place d inside in
     let cut : ArePositionsInOrder (take place positions ++ drop place positions) = subst ArePositionsInOrder (sym whole) up in
-    let tail : ArePositionsInOrder (get_or positions place d ∷ drop (place + 1) positions) = subst ArePositionsInOrder here (ascends_back (take place positions) (drop place positions) cut) in
+    let tail : ArePositionsInOrder (get_or positions place d ∷ drop (place + 1) positions) =
+    subst ArePositionsInOrder here (ascends_back (take place positions) (drop place positions) cut) in
     let high : AllByRecursion (λ other. position < other) (drop place positions) =
-    subst (AllByRecursion (λ other. position < other)) (sym here) (above, all_above position (get_or positions place d) (drop (place + 1) positions) above tail.0) in
-    subst (λ (old : List ℕ). AddsPosition old position (insert positions place position)) whole (between (take place positions) (drop place positions) position cut low high)
+    subst (AllByRecursion (λ other. position < other)) (sym here)
+    (above, all_above position (get_or positions place d) (drop (place + 1) positions) above tail.0) in
+    subst (λ (old : List ℕ). AddsPosition old position (insert positions place position)) whole
+    (between (take place positions) (drop place positions) position cut low high)
 
 -- put at the end
-pub put_last : (positions : List ℕ) (place position : ℕ) → ArePositionsInOrder positions → length positions ≤ place → AllByRecursion (λ other. other < position) (take place positions)
+pub put_last : (positions : List ℕ) (place position : ℕ) → ArePositionsInOrder positions → length positions ≤ place
+    → AllByRecursion (λ other. other < position) (take place positions)
     → AddsPosition positions position (positions ++ position ∷ [])
 put_last positions place position up end low =
     let all : take place positions ≡ positions = take_all place positions end in
@@ -100,7 +110,8 @@ or_false : (b : Bool) → (b || false) ≡ b
 or_false true = refl
 or_false false = refl
 
-pub already_there : (positions : List ℕ) (place position d : ℕ) → ArePositionsInOrder positions → place < length positions → get_or positions place d ≡ position → AddsPosition positions position positions
+pub already_there : (positions : List ℕ) (place position d : ℕ) → ArePositionsInOrder positions → place < length positions
+    → get_or positions place d ≡ position → AddsPosition positions position positions
 already_there positions place position d up inside at = record {
   ascending = up;
   has = λ other. go other (position == other) refl;

@@ -26,7 +26,8 @@ pub record AreChunks {W : ℕ} (chunks : List (Arc (Vec (Entry W) Global) Global
   pub few : length (joined_chunks chunks) ≤ ENTRIES_MOST
 
 -- chunks with the same entries
-abbrev pub AreShared : {W : ℕ} → List (Arc (Vec (Entry W) Global) Global) → List (Arc (Vec (Entry W) Global) Global) → Type 0
+abbrev pub AreShared : {W : ℕ} → List (Arc (Vec (Entry W) Global) Global)
+    → List (Arc (Vec (Entry W) Global) Global) → Type 0
 AreShared shared chunks = map chunk_items shared ≡ map chunk_items chunks
 
 -- the entries of whole chunks, and the last ones behind them

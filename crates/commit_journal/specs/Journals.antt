@@ -11,7 +11,8 @@ use Rattle.entry_log.specs.declared.op.Op.{Op}
 use Rattle.commit_journal.specs.Fronts.{AreOlder, FrontState, Live, StandsAt, has_position, live_at, position_of, positions_of}
 use Rattle.commit_journal.specs.declared.decided.Decided.{Decided}
 
--- the history, its codes as words keep them; the live fronts; the number of the next session; how many entries there may be
+-- the history, its codes as words keep them; the live fronts; the number of the next session;
+-- how many entries there may be
 pub record JournalState : Type 0 where
   pub history : List JournalEntry
   pub live : Live
@@ -21,8 +22,11 @@ pub record JournalState : Type 0 where
 -- a journal as a tuple
 abbrev pub journal_code : Coded JournalState
 journal_code =
-    code_by (List JournalEntry × (Live × (ℕ × ℕ))) (coded× history_code (coded× (map.code coded_ℕ (coded× coded_ℕ coded_ℕ)) (coded× coded_ℕ coded_ℕ)))
-    (λ j. (j.history, (j.live, (j.next, j.limit)))) (λ t. record { history = t.0; live = t.1.0; next = t.1.1.0; limit = t.1.1.1 }) (λ _. refl)
+    code_by (List JournalEntry × (Live × (ℕ × ℕ)))
+    (coded× history_code
+    (coded× (map.code coded_ℕ (coded× coded_ℕ coded_ℕ)) (coded× coded_ℕ coded_ℕ)))
+    (λ j. (j.history, (j.live, (j.next, j.limit))))
+    (λ t. record { history = t.0; live = t.1.0; next = t.1.1.0; limit = t.1.1.1 }) (λ _. refl)
 
 -- no entries, no live front, and no session so far
 abbrev pub empty_journal : ℕ → JournalState
@@ -34,7 +38,8 @@ pub record IsJournal (state : JournalState) : Type 0 where
   pub few : length state.history ≤ state.limit
   pub limited : state.limit ≤ ENTRIES_MOST
   pub numbered : state.next ≤ SESSIONS_MOST
-  pub none_beyond : (position : ℕ) → StandsAt (positions_of state.live) position → position ≤ length state.history
+  pub none_beyond : (position : ℕ) → StandsAt (positions_of state.live) position
+      → position ≤ length state.history
 
 -- the entry of an operation of a session, with all bits that the words of its code keep
 abbrev pub entry_by : {W : ℕ} → ℕ → Op W → JournalEntry
@@ -44,10 +49,13 @@ entry_by session op = record { who = session; operation = kept_operation op }
 abbrev pub with_entry : JournalState → JournalEntry → JournalState
 with_entry state entry = record state { history = state.history ++ entry ∷ [] }
 
--- a commit: decided on the rows of the history and its length, the entry appended where it is accepted
-pub record Commits (old new : JournalState) (entry : JournalEntry) (decided : Decided) : Type 0 where
+-- a commit: decided on the rows of the history and its length,
+-- the entry appended where it is accepted
+pub record Commits (old new : JournalState) (entry : JournalEntry)
+    (decided : Decided) : Type 0 where
   pub decision : decision_of decided.decision ≡ decision_on old.history old.limit entry.operation
-  pub after : new ≡ record old { history = after_decision old.history entry (decision_of decided.decision) }
+  pub after : new
+      ≡ record old { history = after_decision old.history entry (decision_of decided.decision) }
   pub position : decided.position ≡ length new.history
 
 -- the front is a live one of the journal
@@ -66,12 +74,15 @@ pub record Opens (old new : JournalState) (session : ℕ) (front : FrontState) :
 abbrev pub without_front : JournalState → ℕ → JournalState
 without_front state id = record state { live = map.remove state.live id }
 
--- what is known of a front at every later moment, where the live fronts have these positions: its entries are the first of the history,
--- and each such position strictly below it stands in its list
-pub record IsKnown (live : ℕ → Option ℕ) (history : List JournalEntry) (front : FrontState) : Type 0 where
+-- what is known of a front at every later moment, where the live fronts have these positions: its
+-- entries are the first of the history, and each such position strictly below it stands in its
+-- list
+pub record IsKnown (live : ℕ → Option ℕ) (history : List JournalEntry)
+    (front : FrontState) : Type 0 where
   pub begins : front.entries ≡ take (position_of front) history
   pub within : position_of front ≤ length history
-  pub older : (position : ℕ) → StandsAt live position → position < position_of front → has_position front.older position ≡ true
+  pub older : (position : ℕ) → StandsAt live position → position < position_of front
+      → has_position front.older position ≡ true
 
 -- what a journal knows of a front that it opened
 abbrev pub KnowsFront : JournalState → FrontState → Type 0

@@ -14,10 +14,12 @@ live_of slab = map.from_entries (entries slab)
 
 -- the journal that callers see
 abbrev pub journal_of : List JournalEntry → Slab (ℕ × ℕ) → ℕ → ℕ → JournalState
-journal_of history live next limit = record { history = history; live = live_of live; next = next; limit = limit }
+journal_of history live next limit =
+    record { history = history; live = live_of live; next = next; limit = limit }
 
 -- the rows by key are those of the history
-pub record IsKeptJournal (words : ℕ) (state : JournalState) (rows : List (ℕ × List ℕ)) : Type 0 where
+pub record IsKeptJournal (words : ℕ) (state : JournalState)
+    (rows : List (ℕ × List ℕ)) : Type 0 where
   pub few_words : words ≤ WORDS_MOST
   pub sound : IsJournal state
   pub same_rows : rows ≡ rows_of state.history
@@ -26,4 +28,5 @@ pub record IsKeptJournal (words : ℕ) (state : JournalState) (rows : List (ℕ 
 pub record AddsPosition (old : List ℕ) (position : ℕ) (new : List ℕ) : Type 0 where
   pub ascending : ArePositionsInOrder new
   pub has : (other : ℕ) → has_position new other ≡ (has_position old other || (position == other))
-  pub below : (bound : ℕ) → AllByRecursion (λ other. other < bound) old → position < bound → AllByRecursion (λ other. other < bound) new
+  pub below : (bound : ℕ) → AllByRecursion (λ other. other < bound) old → position < bound
+      → AllByRecursion (λ other. other < bound) new

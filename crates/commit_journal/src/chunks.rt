@@ -87,11 +87,11 @@ impl<const W: usize> Chunks<W> {
     }
 
     /// The entry at a place.
-    pub fn entry(&self, i: usize) -> &Entry<W>
-        requires { i < length self.now }
-        ensures { slice_index_or self.now i (kept_entry result.now) ≡ kept_entry result.now }
+    pub fn entry(&self, place: usize) -> &Entry<W>
+        requires { place < length self.now }
+        ensures { slice_index_or self.now place (kept_entry result.now) ≡ kept_entry result.now }
     {
-        &self.all[i / CHUNK][i % CHUNK]
+        &self.all[place / CHUNK][place % CHUNK]
     }
 }
 

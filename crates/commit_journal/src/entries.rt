@@ -98,11 +98,11 @@ impl<const W: usize> Entries<W> {
     }
 
     /// The entry at a place.
-    pub fn entry(&self, i: u64) -> &Entry<W>
-        requires { i < length self.now }
-        ensures { slice_index_or self.now i (kept_entry result.now) ≡ kept_entry result.now }
+    pub fn entry(&self, number: u64) -> &Entry<W>
+        requires { number < length self.now }
+        ensures { slice_index_or self.now number (kept_entry result.now) ≡ kept_entry result.now }
     {
-        let place = i as usize;
+        let place = number as usize;
         let whole = self.whole.len();
         if place < whole {
             self.whole.entry(place)
@@ -136,7 +136,8 @@ fn push_chunk<const W: usize>(
 ) -> Result<(), NoMemory>
     requires whole { length chunk.items ≡ CHUNK }
     requires room { length (arc_value whole.old) + CHUNK ≤ ENTRIES_MOST }
-    ensures added { OnOk result (arc_value whole.new ≡ arc_value whole.old ++ map kept_entry chunk.entry.items) }
+    ensures added { OnOk result (arc_value whole.new
+        ≡ arc_value whole.old ++ map kept_entry chunk.entry.items) }
     ensures unchanged { OnErr result (arc_value whole.new ≡ arc_value whole.old) }
 {
     let Ok(own) = Arc::make_mut(whole) else {

@@ -64,12 +64,13 @@ impl<const W: usize> Front<W> {
     }
 
     /// The entry at a place below it, from 0 on, for one step.
-    pub fn entry<M>(&self, i: u64, steps: &mut Steps<M>) -> &Entry<W>
-        requires { i < position_of self.now }
-        ensures entry { slice_index_or self.now.entries i (kept_entry result.now) ≡ kept_entry result.now }
+    pub fn entry<M>(&self, place: u64, steps: &mut Steps<M>) -> &Entry<W>
+        requires { place < position_of self.now }
+        ensures entry { slice_index_or self.now.entries place (kept_entry result.now)
+            ≡ kept_entry result.now }
         ensures step { steps.new ≡ steps.old + 1 }
     {
         steps.tick();
-        self.entries.entry(i)
+        self.entries.entry(place)
     }
 }

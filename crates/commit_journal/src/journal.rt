@@ -105,7 +105,8 @@ impl<const W: usize> Journal<W> {
     ///
     /// `NoMemory` where there is none for one entry more; the journal is as before.
     pub fn commit(&mut self, who: u32, op: Op<W>) -> Result<Decided, NoMemory>
-        ensures decided { IfOk result (λ decided. Commits self.old self.new (entry_by who op.entry) decided) }
+        ensures decided { IfOk result (λ decided.
+            Commits self.old self.new (entry_by who op.entry) decided) }
         ensures unchanged { OnErr result (self.new ≡ self.old) }
         ensures fronts { KeepsFronts self.old self.new }
     {
@@ -145,7 +146,8 @@ impl<const W: usize> Journal<W> {
     fn append_addition(&mut self, who: u32, key: u64, code: Code<W>) -> Result<(), NoMemory>
         requires absent { code_at (rows_of self.old.history) key ≡ None }
         requires room { length self.old.history < self.old.limit }
-        ensures added { OnOk result (self.new ≡ with_entry self.old (record { who = who; operation = Add key code.entry })) }
+        ensures added { OnOk result (self.new
+            ≡ with_entry self.old (record { who = who; operation = Add key code.entry })) }
         ensures unchanged { OnErr result (self.new ≡ self.old) }
     {
         legal_histories_grow();
@@ -168,7 +170,8 @@ impl<const W: usize> Journal<W> {
     fn append_deletion(&mut self, who: u32, key: u64) -> Result<(), NoMemory>
         requires present { is_some (code_at (rows_of self.old.history) key) ≡ true }
         requires room { length self.old.history < self.old.limit }
-        ensures added { OnOk result (self.new ≡ with_entry self.old (record { who = who; operation = Delete key })) }
+        ensures added { OnOk result (self.new
+            ≡ with_entry self.old (record { who = who; operation = Delete key })) }
         ensures unchanged { OnErr result (self.new ≡ self.old) }
     {
         legal_histories_grow();

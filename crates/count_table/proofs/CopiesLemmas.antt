@@ -91,7 +91,9 @@ pub table_empty : (width : ℕ) → table_of width [] ≡ empty_table width
 unfolding table_of empty_table values
 table_empty width =
     ap (λ copies. record { width = width; copies = copies })
-    (sym (fill_by_all (λ value. 0) (replicate (2 ^ width) 0) (2 ^ width) 0 (length-replicate (2 ^ width) 0) (λ k below. get_or-replicate (2 ^ width) k 0 0 below)))
+    (sym
+    (fill_by_all (λ value. 0) (replicate (2 ^ width) 0) (2 ^ width) 0 (length-replicate (2 ^ width) 0)
+    (λ k below. get_or-replicate (2 ^ width) k 0 0 below)))
 
 added_from : (width : ℕ) (front items : List ℕ) → All (λ item. item < 2 ^ width) items
     → fold with_one (table_of width front) items ≡ table_of width (front ++ items)
@@ -136,7 +138,8 @@ unfolding count_near
 table_near width value units items below =
     (let same_width : (table_of width items).width ≡ width = width_of width items in
     ap (λ w. sum_by (copies_at (table_of width items)) (values_near value w units)) same_width)
-    ∙ sum_agree (copies_at (table_of width items)) (copies_in items) (2 ^ width) (copies_of_list width items) (values_near value width units) (near_below value width units)
+    ∙ sum_agree (copies_at (table_of width items)) (copies_in items) (2 ^ width) (copies_of_list width items)
+    (values_near value width units) (near_below value width units)
     ∙ near_of_list width value units items below
 
 all_kept : (xs : List ℕ) → filter (λ x. true) xs ≡ xs

@@ -163,7 +163,8 @@ levels_le width value copies (x ∷ out) long each =
 pub counted_here : (copies out : List ℕ) (value n : ℕ) → value_distance n value + 1 < length out
     → ((units : ℕ) → units < length out → get_or out units 0 ≡ copies_apart copies value units n)
     → (units : ℕ) → units < length (set out (value_distance n value + 1) (get_or out (value_distance n value + 1) 0 + get_or copies n 0))
-    → get_or (set out (value_distance n value + 1) (get_or out (value_distance n value + 1) 0 + get_or copies n 0)) units 0 ≡ copies_apart copies value units (n + 1)
+    → get_or (set out (value_distance n value + 1) (get_or out (value_distance n value + 1) 0 + get_or copies n 0)) units 0
+    ≡ copies_apart copies value units (n + 1)
 counted_here copies out value n fits each units short =
     let at = value_distance n value + 1 in
     let amount = get_or out at 0 + get_or copies n 0 in

@@ -22,23 +22,33 @@ total_of table = sum table.copies
 -- the table with one more copy of a value
 abbrev pub with_one : CopyTable → ℕ → CopyTable
 with_one table value =
-    record { width = table.width; copies = slice_set table.copies value (copies_at table value + 1) }
+    record {
+      width = table.width;
+      copies = slice_set table.copies value (copies_at table value + 1);
+    }
 
 -- the table with one copy of a value less
 abbrev pub without_one : CopyTable → ℕ → CopyTable
 without_one table value =
-    record { width = table.width; copies = slice_set table.copies value (copies_at table value - 1) }
+    record {
+      width = table.width;
+      copies = slice_set table.copies value (copies_at table value - 1);
+    }
 
--- how many copies there are of the values nearer to a value than so many units: all values of the width
--- that are near, and what each of them has
+-- how many copies there are of the values nearer to a value than so many units: all values of the
+-- width that are near, and what each of them has
 unfoldable pub count_near : CopyTable → ℕ → ℕ → ℕ
 count_near table value units = sum_by (copies_at table) (values_near value table.width units)
 
 -- numbers by place, each being how many copies are nearer to a value than that many units
 abbrev pub AreLevels : CopyTable → ℕ → List ℕ → Type 0
-AreLevels table value levels = EachIndex levels (λ units. slice_index levels units ≡ count_near table value units)
+AreLevels table value levels =
+    EachIndex levels (λ units. slice_index levels units ≡ count_near table value units)
 
 -- the table of a list of values: each value has as many copies as the list has items with it
 unfoldable pub table_of : ℕ → List ℕ → CopyTable
 table_of width items =
-    record { width = width; copies = map (λ value. count_by (λ item. item == value) items) (values width) }
+    record {
+      width = width;
+      copies = map (λ value. count_by (λ item. item == value) items) (values width);
+    }

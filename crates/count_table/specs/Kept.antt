@@ -22,4 +22,5 @@ copies_apart copies value units n =
 -- numbers by place, each being how many copies are one unit nearer than that many units
 abbrev pub AreApart : List ℕ → ℕ → List ℕ → Type 0
 AreApart copies value counts =
-    EachIndex counts (λ units. slice_index counts units ≡ copies_apart copies value units (length copies))
+    EachIndex counts
+    (λ units. slice_index counts units ≡ copies_apart copies value units (length copies))

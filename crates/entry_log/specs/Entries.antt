@@ -1,4 +1,5 @@
--- The operations and entries of the program in the definitions' words: their codes as words keep them, or cut to so many bits.
+-- The operations and entries of the program in the definitions' words:
+-- their codes as words keep them, or cut to so many bits.
 use Rattle.std.specs.Prelude.{ℕ, List, map}
 use Rattle.hamming_model.specs.History.{Operation, JournalEntry}
 use Rattle.hamming_model.specs.History as history

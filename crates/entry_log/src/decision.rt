@@ -31,7 +31,8 @@ pub fn decide<const W: usize>(op: &Op<W>, present: bool, entries: u64, limit: u6
     // It fits them.
     ensures full { (result ≡ Full) ↔ (FitsRows op.now present × limit ≤ entries) }
     ensures added { (result ≡ Added) ↔ (is_add op.now ≡ true × present ≡ false × entries < limit) }
-    ensures deleted { (result ≡ Deleted) ↔ (is_add op.now ≡ false × present ≡ true × entries < limit) }
+    ensures deleted { (result ≡ Deleted)
+        ↔ (is_add op.now ≡ false × present ≡ true × entries < limit) }
     // The decision of the definitions, on rows that have the key where `present` says so.
     ensures defined { DecidesAs op.now present entries limit result }
     ensures stored { DecidesStored op.now present entries limit result }

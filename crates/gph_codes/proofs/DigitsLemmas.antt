@@ -263,4 +263,5 @@ written_code words bits bytes kept code whole room is stands =
     let within : bits / 8 ≤ 8 * words = omega arith in
     let all : 8 * (bits / 8) ≡ length code = omega arith in
     let cut : take (bits / 8) (take (8 * words) bytes) ≡ take (bits / 8) bytes = take-take (bits / 8) (8 * words) bytes within in
-    rw (← cut, flat_map_bits-take 8 (bits / 8) (take (8 * words) bytes), is, stands.is_padded, all) (take-append_seam code (replicate (64 * words - length code) 0))
+    rw (← cut, flat_map_bits-take 8 (bits / 8) (take (8 * words) bytes), is, stands.is_padded, all)
+    (take-append_seam code (replicate (64 * words - length code) 0))

@@ -15,7 +15,8 @@ pub record IsSpelled (bits : ℕ) (text : List ℕ) : Type 0 where
   pub size : length text ≡ bits / 4
   pub digits : All IsHexDigit text
 
--- the text has the length for so many bits, and the byte at this place is the first that is no digit
+-- the text has the length for so many bits,
+-- and the byte at this place is the first that is no digit
 pub record IsFirstFault (bits : ℕ) (text : List ℕ) (at : ℕ) : Type 0 where
   pub size : length text ≡ bits / 4
   pub in_text : at < length text

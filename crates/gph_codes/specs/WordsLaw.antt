@@ -20,10 +20,12 @@ low_bits n number =
     rw one_more at (mod-pow-add number 1 n)
 
 -- one binary digit after others
-one_digit : (power start bit rest : ℕ) → (start * 2 + bit) * power + rest ≡ start * (power * 2) + (bit * power + rest)
+one_digit : (power start bit rest : ℕ)
+    → (start * 2 + bit) * power + rest ≡ start * (power * 2) + (bit * power + rest)
 one_digit power start bit rest =
     let left = add-mul (start * 2) bit power in
-    let turned : start * 2 * power ≡ start * (power * 2) = mul_assoc start 2 power ∙ ap (λ x. start * x) (mul_comm 2 power) in
+    let turned : start * 2 * power ≡ start * (power * 2) =
+    mul_assoc start 2 power ∙ ap (λ x. start * x) (mul_comm 2 power) in
     omega (arith, left, turned)
 
 -- the binary digits of a number, after others
@@ -37,7 +39,8 @@ number_after_bits (suc n) start number =
     ∙ rw (← low_bits n number, ← pow-suc 2 n) refl
 
 -- the binary digits of a number are those of the number
-pub number_of_bits : (n number : ℕ) → number < 2 ^ n → number_from_digits 2 (bits_of n number) ≡ number
+pub number_of_bits : (n number : ℕ) → number < 2 ^ n
+    → number_from_digits 2 (bits_of n number) ≡ number
 number_of_bits n number fits = number_after_bits n 0 number ∙ omega (arith, mod-eq_of_lt fits)
 
 -- the first of two lists that are joined
@@ -49,7 +52,8 @@ drop_first : (xs ys : List ℕ) (n : ℕ) → length xs ≡ n → drop n (xs ++ 
 drop_first xs ys n sized = rw (← sized) (drop-append_seam xs ys)
 
 -- words are those that their bits make
-pub words_again : (number : ℕ) (words : List ℕ) → IsWords number words → words_of number (word_bits words) ≡ words
+pub words_again : (number : ℕ) (words : List ℕ) → IsWords number words
+    → words_of number (word_bits words) ≡ words
 unfolding words_of
 words_again zero [] fits = refl
 words_again zero (word ∷ words) fits = absurd (omega arith)

@@ -5,6 +5,7 @@ ghost use Rattle.gph_codes.specs.Words.{IsWords, byte_bits, word_bits};
 ghost use Rattle.hex.specs.Hex.{IsBytes};
 ghost use Rattle.gph_codes.specs.Spelling.{Spells};
 ghost use Rattle.hamming_model.specs.Codes.{bits_of};
+ghost use Rattle.hamming_model.specs.declared.limits.TheConstants.{WORDS_MOST};
 
 use hex::FromHexError;
 
@@ -22,26 +23,26 @@ pub fn spell(text: &[u8], number: usize, bytes: &mut [u8]) -> Result<(), FromHex
 
 /// The words of a buffer's first bytes.
 pub fn words_from<const W: usize>(bytes: &[u8; BUFFER]) -> [u64; W]
-    requires { W ≤ 8 }
+    requires { W ≤ WORDS_MOST }
     ensures words { IsWords W result }
     ensures bits { word_bits result ≡ byte_bits (take (8 * W) bytes.now) }
 {
     let mut words = [0; W];
-    for i in 0..W {
-        words[i] = word_at(bytes, 8 * i);
+    for place in 0..W {
+        words[place] = word_at(bytes, 8 * place);
     }
     words
 }
 
 /// The bytes of words, in a buffer.
 pub fn bytes_of<const W: usize>(words: &[u64; W]) -> [u8; BUFFER]
-    requires { W ≤ 8 }
+    requires { W ≤ WORDS_MOST }
     ensures bits { byte_bits (take (8 * W) result) ≡ word_bits words.now }
     ensures fit { IsBytes result }
 {
     let mut bytes = [0; BUFFER];
-    for i in 0..W {
-        put_word(&mut bytes, 8 * i, words[i]);
+    for place in 0..W {
+        put_word(&mut bytes, 8 * place, words[place]);
     }
     bytes
 }
@@ -49,7 +50,8 @@ pub fn bytes_of<const W: usize>(words: &[u64; W]) -> [u8; BUFFER]
 // Writes a word's eight bytes from a place on.
 fn put_word(bytes: &mut [u8], at: usize, word: u64)
     requires { at + 8 ≤ length bytes.old }
-    ensures bits { byte_bits (take (at + 8) bytes.new) ≡ byte_bits (take at bytes.old) ++ bits_of 64 word }
+    ensures bits { byte_bits (take (at + 8) bytes.new)
+        ≡ byte_bits (take at bytes.old) ++ bits_of 64 word }
     ensures fit { IsBytes bytes.new }
 {
     bytes[at..at + 8].copy_from_slice(&word.to_be_bytes());

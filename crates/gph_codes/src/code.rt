@@ -2,6 +2,7 @@
 
 ghost use Rattle.std.specs.Prelude.{◌≡◌, ℕ, ◌+◌, ◌-◌, ◌*◌, ◌/◌, ◌%◌, ◌^◌, ◌<◌, ◌≤◌, ◌↔◌, List, All, length, replicate, slice_set, ◌≢◌, Ok, Err, IsTrue, IsOk, IfOk, slice_index};
 ghost use Rattle.hamming_model.specs.Codes.{StandsFor, distance, hex_code};
+ghost use Rattle.hamming_model.specs.declared.limits.TheConstants.{WORDS_MOST};
 ghost use Rattle.gph_codes.specs.Allowed.{IsAllowed};
 ghost use Rattle.gph_codes.specs.Masks.{distance_under};
 ghost use Rattle.gph_codes.specs.Words.{word_bits};
@@ -49,7 +50,7 @@ impl<const W: usize> Code<W> {
     /// Reads a code of `bits` bits from hexadecimal digits of either case, four bits a digit, the
     /// first digit at positions 0 to 3. A text of another length is refused before its digits are.
     pub fn from_hex(bits: u32, text: &[u8]) -> Result<Code<W>, CodeFault>
-        requires few_words { W ≤ 8 }
+        requires few_words { W ≤ WORDS_MOST }
         requires allowed { IsAllowed W bits }
         // The code of the digits.
         ensures code { IfOk result (λ code. StandsFor W bits code (hex_code text.now)) }
@@ -74,7 +75,7 @@ impl<const W: usize> Code<W> {
 
     /// Writes the code's first `bits` bits as lower-case hexadecimal digits, four bits a digit.
     pub fn to_hex(&self, bits: u32, out: &mut [u8])
-        requires few_words { W ≤ 8 }
+        requires few_words { W ≤ WORDS_MOST }
         requires allowed { IsAllowed W bits }
         requires room { length out.old ≡ bits / 4 }
         ensures lower { All IsLowerDigit out.new }
@@ -93,39 +94,39 @@ impl<const W: usize> Code<W> {
         self.words
     }
 
-    /// Whether the bit at position `j` is 1.
-    pub fn bit(&self, j: u32) -> bool
-        requires { j < 64 * W }
-        ensures { IsTrue result ↔ (slice_index self.now j ≡ 1) }
+    /// Whether the bit at a position is 1.
+    pub fn bit(&self, position: u32) -> bool
+        requires { position < 64 * W }
+        ensures { IsTrue result ↔ (slice_index self.now position ≡ 1) }
     {
-        self.words[j as usize / 64] >> (63 - j % 64) & 1 == 1
+        self.words[position as usize / 64] >> (63 - position % 64) & 1 == 1
     }
 
-    /// Sets the bit at position `j` to 1.
-    pub fn set(&mut self, j: u32)
-        requires { j < 64 * W }
-        ensures { self.new ≡ slice_set self.old j 1 }
+    /// Sets the bit at a position to 1.
+    pub fn set(&mut self, position: u32)
+        requires { position < 64 * W }
+        ensures { self.new ≡ slice_set self.old position 1 }
     {
-        self.words[j as usize / 64] |= 1 << (63 - j % 64);
+        self.words[position as usize / 64] |= 1 << (63 - position % 64);
     }
 }
 
 /// At how many of the positions where a mask has a one two codes differ. Counts the ones of the
 /// exclusive or of their words that the mask has too.
-pub fn dist_under<const W: usize>(mask: &Code<W>, a: &Code<W>, b: &Code<W>) -> u32
-    requires { W ≤ 8 }
-    ensures distance { result ≡ distance_under mask.now a.now b.now }
+pub fn dist_under<const W: usize>(mask: &Code<W>, one: &Code<W>, other: &Code<W>) -> u32
+    requires { W ≤ WORDS_MOST }
+    ensures distance { result ≡ distance_under mask.now one.now other.now }
     ensures few { result ≤ 64 * W }
 {
-    word_distance_under(&mask.words, &a.words, &b.words)
+    word_distance_under(&mask.words, &one.words, &other.words)
 }
 
 /// At how many positions two codes differ. Counts the ones of the exclusive or of their words.
-pub fn dist<const W: usize>(a: &Code<W>, b: &Code<W>) -> u32
-    requires { W ≤ 8 }
-    ensures { result ≡ distance a.now b.now }
+pub fn dist<const W: usize>(one: &Code<W>, other: &Code<W>) -> u32
+    requires { W ≤ WORDS_MOST }
+    ensures { result ≡ distance one.now other.now }
 {
-    word_distance(&a.words, &b.words)
+    word_distance(&one.words, &other.words)
 }
 
 // The place of the byte that is no digit.

@@ -71,7 +71,8 @@ accepted_fits history limit (Delete key) = deleted_fits (length history) limit (
 -- the history after a decision
 pub legal_decided : (history : List JournalEntry) (limit : ℕ) (entry : JournalEntry) → IsLegal history
     → IsLegal (after_decision history entry (decision_on history limit entry.operation))
-legal_decided history limit entry legal = go (is_accepted (decision_on history limit entry.operation)) (λ accepted. ((accepted_fits history limit entry.operation).0 accepted).0)
+legal_decided history limit entry legal = go (is_accepted (decision_on history limit entry.operation))
+    (λ accepted. ((accepted_fits history limit entry.operation).0 accepted).0)
   where
     go : (accepted : Bool) → (accepted ≡ true → Fits (rows_of history) entry.operation) → IsLegal (cond accepted (history ++ entry ∷ []) history)
     go true fits = legal_more history entry legal (fits refl)

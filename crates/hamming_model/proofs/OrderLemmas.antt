@@ -23,7 +23,8 @@ pub hit_order : IsTotalOrder hit_cmp
 hit_order = then_total (on_total (λ (hit : Hit). hit.dist) nat_cmp_total) (on_total (λ (hit : Hit). hit.key) nat_cmp_total)
 
 same_fields : (a b : Hit) → a.dist ≡ b.dist → a.key ≡ b.key → a ≡ b
-same_fields a b d k = ap (λ (n : ℕ). let hit : Hit = record { dist = n; key = a.key } in hit) d ∙ ap (λ (n : ℕ). let hit : Hit = record { dist = b.dist; key = n } in hit) k
+same_fields a b d k = ap (λ (n : ℕ). let hit : Hit = record { dist = n; key = a.key } in hit) d
+    ∙ ap (λ (n : ℕ). let hit : Hit = record { dist = b.dist; key = n } in hit) k
 
 both_equal : (o p : Ordering) → ordering_then o p ≡ Equal → (o ≡ Equal) × (p ≡ Equal)
 both_equal Less p h = cc
@@ -101,7 +102,8 @@ sum_of_placed : (f : Hit → ℕ) (hit : Hit) (hits : List Hit) → sum_by f (pl
 sum_of_placed f hit [] = sum_by-cons f hit []
 sum_of_placed f hit (other ∷ hits) = go (sum_of_placed f hit hits) (is_gt (hit_cmp hit other))
   where
-    go : sum_by f (placed hit hits) ≡ f hit + sum_by f hits → (b : Bool) → sum_by f (cond b (other ∷ placed hit hits) (hit ∷ other ∷ hits)) ≡ f hit + sum_by f (other ∷ hits)
+    go : sum_by f (placed hit hits) ≡ f hit + sum_by f hits → (b : Bool)
+        → sum_by f (cond b (other ∷ placed hit hits) (hit ∷ other ∷ hits)) ≡ f hit + sum_by f (other ∷ hits)
     go rest true = omega (arith, sum_by-cons f other (placed hit hits), sum_by-cons f other hits)
     go rest false = sum_by-cons f hit (other ∷ hits)
 
@@ -143,7 +145,8 @@ ascends_from_sorted (hit ∷ hits) up = (recursion_from_All _ hits first, ascend
     later k d low high = simp add-one (simp add-one at (up (suc k) d (omega arith) (omega arith)))
 
     first : All (λ other. is_gt (hit_cmp hit other) ≡ false) hits
-    first k d l = sym (lt_gt (get_or hits k d) hit) ∙ sorted_far (λ x y. is_lt (hit_cmp x y)) (ranks_by hit_order (λ x. x)) (hit ∷ hits) up 0 (suc k) d (omega arith) (omega arith)
+    first k d l = sym (lt_gt (get_or hits k d) hit) ∙ sorted_far (λ x y. is_lt (hit_cmp x y)) (ranks_by hit_order (λ x. x))
+        (hit ∷ hits) up 0 (suc k) d (omega arith) (omega arith)
 
 -- the list in order is sorted
 pub in_order_sorted : (hits : List Hit) → IsSorted hit_cmp (in_order hits)

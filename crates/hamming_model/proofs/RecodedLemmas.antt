@@ -46,7 +46,8 @@ module _ (change : List ℕ → List ℕ) where
       after = insert_entry nat_cmp rows key code
 
       go : before ≡ recoded_rows change after → (o : Ordering)
-          → match_ordering o ((key, change code) ∷ (row.0, change row.1) ∷ recoded_rows change rows) ((row.0, change code) ∷ recoded_rows change rows) ((row.0, change row.1) ∷ before)
+          → match_ordering o ((key, change code) ∷ (row.0, change row.1) ∷ recoded_rows change rows)
+          ((row.0, change code) ∷ recoded_rows change rows) ((row.0, change row.1) ∷ before)
           ≡ recoded_rows change (match_ordering o ((key, code) ∷ row ∷ rows) ((row.0, code) ∷ rows) (row ∷ after))
       go rest Less = refl
       go rest Equal = refl
@@ -76,7 +77,8 @@ module _ (change : List ℕ → List ℕ) where
   changed_recoded rows (Delete key) = remove_recoded rows key
 
   -- the rows of a shard
-  pub shard_recoded : (shard shards : ℕ) (rows : List (ℕ × List ℕ)) → shard_rows shard shards (recoded_rows change rows) ≡ recoded_rows change (shard_rows shard shards rows)
+  pub shard_recoded : (shard shards : ℕ) (rows : List (ℕ × List ℕ))
+      → shard_rows shard shards (recoded_rows change rows) ≡ recoded_rows change (shard_rows shard shards rows)
   shard_recoded shard shards [] = refl
   shard_recoded shard shards (row ∷ rows) = go (shard_recoded shard shards rows) (row.0 % shards == shard)
     where
@@ -86,12 +88,14 @@ module _ (change : List ℕ → List ℕ) where
       after : List (ℕ × List ℕ)
       after = shard_rows shard shards rows
 
-      go : before ≡ recoded_rows change after → (own : Bool) → cond own ((row.0, change row.1) ∷ before) before ≡ recoded_rows change (cond own (row ∷ after) after)
+      go : before ≡ recoded_rows change after → (own : Bool)
+          → cond own ((row.0, change row.1) ∷ before) before ≡ recoded_rows change (cond own (row ∷ after) after)
       go rest true = ap (λ (more : List (ℕ × List ℕ)). (row.0, change row.1) ∷ more) rest
       go rest false = rest
 
   -- the same operations fit
-  pub fits_recoded : (rows : List (ℕ × List ℕ)) (operation : Operation) → Fits (recoded_rows change rows) (recoded_operation change operation) ↔ Fits rows operation
+  pub fits_recoded : (rows : List (ℕ × List ℕ)) (operation : Operation)
+      → Fits (recoded_rows change rows) (recoded_operation change operation) ↔ Fits rows operation
   fits_recoded rows (Add key code) =
       ((λ fits. absent_alike change (code_at rows key) (sym (code_recoded rows key) ∙ fits)), (λ fits. code_recoded rows key ∙ ap (option_map change) fits))
   fits_recoded rows (Delete key) =
@@ -119,7 +123,8 @@ module _ (change : List ℕ → List ℕ) where
       → Fits (rows_of (take i (recoded_history change history))) (recoded_operation change (get_or history i other).operation)
       ↔ Fits (rows_of (take i history)) (get_or history i other).operation
   fits_at history i other =
-      subst (λ (rows : List (ℕ × List ℕ)). Fits rows (recoded_operation change (get_or history i other).operation) ↔ Fits (rows_of (take i history)) (get_or history i other).operation)
+      subst (λ (rows : List (ℕ × List ℕ)). Fits rows (recoded_operation change (get_or history i other).operation)
+      ↔ Fits (rows_of (take i history)) (get_or history i other).operation)
       (sym (rows_recoded_at history i)) (fits_recoded (rows_of (take i history)) (get_or history i other).operation)
 
   entry_at : (history : List JournalEntry) (i : ℕ) (other one : JournalEntry) → i < length history
@@ -136,20 +141,24 @@ module _ (change : List ℕ → List ℕ) where
       back : IsLegal (recoded_history change history) → IsLegal history
       back legal = record {
         each = λ i other below. (fits_at history i other).0
-            (subst (Fits (rows_of (take i (recoded_history change history)))) (entry_at history i other other below) (legal.each i other (omega (arith, long, below))));
+            (subst (Fits (rows_of (take i (recoded_history change history)))) (entry_at history i other other below)
+            (legal.each i other (omega (arith, long, below))));
       }
 
       forth : IsLegal history → IsLegal (recoded_history change history)
       forth legal = record {
         each = λ i other below.
             let inside : i < length history = omega (arith, long, below) in
-            subst (Fits (rows_of (take i (recoded_history change history)))) (sym (entry_at history i other other inside)) ((fits_at history i other).1 (legal.each i other inside));
+            subst (Fits (rows_of (take i (recoded_history change history)))) (sym (entry_at history i other other inside))
+            ((fits_at history i other).1 (legal.each i other inside));
       }
 
   -- and decides as it did
-  present_recoded : (history : List JournalEntry) (key : ℕ) → is_some (code_at (rows_of (recoded_history change history)) key) ≡ is_some (code_at (rows_of history) key)
+  present_recoded : (history : List JournalEntry) (key : ℕ)
+      → is_some (code_at (rows_of (recoded_history change history)) key) ≡ is_some (code_at (rows_of history) key)
   present_recoded history key =
-      ap (λ (rows : List (ℕ × List ℕ)). is_some (code_at rows key)) (rows_recoded history) ∙ ap is_some (code_recoded (rows_of history) key) ∙ present_alike change (code_at (rows_of history) key)
+      ap (λ (rows : List (ℕ × List ℕ)). is_some (code_at rows key)) (rows_recoded history)
+      ∙ ap is_some (code_recoded (rows_of history) key) ∙ present_alike change (code_at (rows_of history) key)
 
   decided_recoded : (history : List JournalEntry) (entries limit : ℕ) (operation : Operation)
       → decide (rows_of (recoded_history change history)) entries limit (recoded_operation change operation) ≡ decide (rows_of history) entries limit operation
@@ -161,11 +170,13 @@ module _ (change : List ℕ → List ℕ) where
   pub decision_recoded : (history : List JournalEntry) (limit : ℕ) (operation : Operation)
       → decision_on (recoded_history change history) limit (recoded_operation change operation) ≡ decision_on history limit operation
   decision_recoded history limit operation =
-      ap (λ (entries : ℕ). decide (rows_of (recoded_history change history)) entries limit (recoded_operation change operation)) (length-map history (recoded_entry change))
+      ap (λ (entries : ℕ). decide (rows_of (recoded_history change history)) entries limit (recoded_operation change operation))
+      (length-map history (recoded_entry change))
       ∙ decided_recoded history (length history) limit operation
 
 -- the first so many entries
-pub first_recoded : (change : List ℕ → List ℕ) (position : ℕ) (history : List JournalEntry) → recoded_history change (take position history) ≡ take position (recoded_history change history)
+pub first_recoded : (change : List ℕ → List ℕ) (position : ℕ) (history : List JournalEntry)
+    → recoded_history change (take position history) ≡ take position (recoded_history change history)
 first_recoded change position history = sym (take-map (recoded_entry change) position history)
 
 -- ---- what words keep, cut to so many bits
@@ -189,22 +200,27 @@ padded_again words bits (Add key code) stored = ap (Add key) (sym stored.is_padd
 padded_again words bits (Delete key) stored = refl
 
 -- and with zeros after its codes it is what the words keep
-pub stored_again : (words bits : ℕ) (history : List JournalEntry) → AreStoredEntries words bits history → recoded_history (padded (64 * words)) (cut_history bits history) ≡ history
+pub stored_again : (words bits : ℕ) (history : List JournalEntry) → AreStoredEntries words bits history
+    → recoded_history (padded (64 * words)) (cut_history bits history) ≡ history
 stored_again words bits [] stored = refl
 stored_again words bits (entry ∷ history) stored =
-    let here = same_entry (recoded_entry (padded (64 * words)) (recoded_entry (take bits) entry)) entry refl (padded_again words bits entry.operation stored.0) in
+    let here = same_entry (recoded_entry (padded (64 * words)) (recoded_entry (take bits) entry)) entry refl
+    (padded_again words bits entry.operation stored.0) in
     ap (λ (one : JournalEntry). one ∷ recoded_history (padded (64 * words)) (cut_history bits history)) here
     ∙ ap (λ (more : List JournalEntry). entry ∷ more) (stored_again words bits history stored.1)
 
-cut_of_padded : (bits positions : ℕ) (operation : Operation) → AddsCode bits operation → recoded_operation (take bits) (recoded_operation (padded positions) operation) ≡ operation
+cut_of_padded : (bits positions : ℕ) (operation : Operation) → AddsCode bits operation
+    → recoded_operation (take bits) (recoded_operation (padded positions) operation) ≡ operation
 cut_of_padded bits positions (Add key code) adds =
     ap (Add key) (ap (λ (n : ℕ). take n (padded positions code)) (sym adds.size) ∙ take-append_seam code (replicate (positions - length code) 0))
 cut_of_padded bits positions (Delete key) adds = refl
 
 -- cutting takes zeros after the codes away
-pub cut_again : (bits positions : ℕ) (history : List JournalEntry) → AreCodes bits history → cut_history bits (recoded_history (padded positions) history) ≡ history
+pub cut_again : (bits positions : ℕ) (history : List JournalEntry) → AreCodes bits history
+    → cut_history bits (recoded_history (padded positions) history) ≡ history
 cut_again bits positions [] codes = refl
 cut_again bits positions (entry ∷ history) codes =
-    let here = same_entry (recoded_entry (take bits) (recoded_entry (padded positions) entry)) entry refl (cut_of_padded bits positions entry.operation codes.0) in
+    let here = same_entry (recoded_entry (take bits) (recoded_entry (padded positions) entry)) entry refl
+    (cut_of_padded bits positions entry.operation codes.0) in
     ap (λ (one : JournalEntry). one ∷ cut_history bits (recoded_history (padded positions) history)) here
     ∙ ap (λ (more : List JournalEntry). entry ∷ more) (cut_again bits positions history codes.1)

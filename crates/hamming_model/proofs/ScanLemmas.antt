@@ -20,18 +20,24 @@ both_tests false true = refl
 both_tests false false = refl
 
 -- a hit is among the near rows as often as such a row is among the rows
-pub hits_counted : (rows : List (ℕ × List ℕ)) (query : List ℕ) (radius : ℕ) (hit : Hit) → occurrences hit (hits_within rows query radius) ≡ count_by (is_hit_row hit query radius) rows
+pub hits_counted : (rows : List (ℕ × List ℕ)) (query : List ℕ) (radius : ℕ) (hit : Hit)
+    → occurrences hit (hits_within rows query radius) ≡ count_by (is_hit_row hit query radius) rows
 hits_counted [] query radius hit = refl
 hits_counted (row ∷ rows) query radius hit =
-    sym (step (hits_counted rows query radius hit) (nat_le (distance row.1 query) radius) (is_hit_row hit query radius row) (both_tests (is_same_hit hit (hit_of query row)) (nat_le (distance row.1 query) radius)))
+    sym (step (hits_counted rows query radius hit) (nat_le (distance row.1 query) radius) (is_hit_row hit query radius row)
+    (both_tests (is_same_hit hit (hit_of query row)) (nat_le (distance row.1 query) radius)))
     ∙ sym (sum_by-cons (λ other. one_if (is_hit_row hit query radius other)) row rows)
   where
-    step : occurrences hit (hits_within rows query radius) ≡ count_by (is_hit_row hit query radius) rows → (near found : Bool) → one_if found ≡ cond near (one_if (is_same_hit hit (hit_of query row))) 0 → one_if found + count_by (is_hit_row hit query radius) rows ≡ occurrences hit (cond near (hit_of query row ∷ hits_within rows query radius) (hits_within rows query radius))
+    step : occurrences hit (hits_within rows query radius) ≡ count_by (is_hit_row hit query radius) rows → (near found : Bool)
+        → one_if found ≡ cond near (one_if (is_same_hit hit (hit_of query row))) 0
+        → one_if found + count_by (is_hit_row hit query radius) rows
+        ≡ occurrences hit (cond near (hit_of query row ∷ hits_within rows query radius) (hits_within rows query radius))
     step rest true found e = omega (arith, sum_by-cons (λ other. one_if (is_same_hit hit other)) (hit_of query row) (hits_within rows query radius))
     step rest false found e = omega arith
 
 -- a hit is in a scan as often as such a row is among the rows
-pub scan_counted : (rows : List (ℕ × List ℕ)) (query : List ℕ) (radius : ℕ) (hit : Hit) → occurrences hit (scan rows query radius) ≡ count_by (is_hit_row hit query radius) rows
+pub scan_counted : (rows : List (ℕ × List ℕ)) (query : List ℕ) (radius : ℕ) (hit : Hit)
+    → occurrences hit (scan rows query radius) ≡ count_by (is_hit_row hit query radius) rows
 scan_counted rows query radius hit = sum_of_in_order _ (hits_within rows query radius) ∙ hits_counted rows query radius hit
 
 -- a scan is sorted

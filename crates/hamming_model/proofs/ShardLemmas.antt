@@ -27,7 +27,8 @@ module _ (shards : ℕ) (test : ℕ × List ℕ → Bool) where
   abbrev mark : ℕ × List ℕ → ℕ
   mark row = cond (test row) 1 0
 
-  counted : (row : ℕ × List ℕ) (rows : List (ℕ × List ℕ)) (keep : Bool) → count_by test (cond keep (row ∷ rows) rows) ≡ cond keep (mark row) 0 + count_by test rows
+  counted : (row : ℕ × List ℕ) (rows : List (ℕ × List ℕ)) (keep : Bool)
+      → count_by test (cond keep (row ∷ rows) rows) ≡ cond keep (mark row) 0 + count_by test rows
   counted row rows true = sum_by-cons (λ each. cond (test each) 1 0) row rows
   counted row rows false = omega arith
 
@@ -45,7 +46,8 @@ module _ (shards : ℕ) (test : ℕ × List ℕ → Bool) where
     ]
   ]
 
-  count_step : (n : ℕ) (rows : List (ℕ × List ℕ)) → count_by test (rows_below (n + 1) rows) ≡ count_by test (rows_below n rows) + count_by test (shard_rows n shards rows)
+  count_step : (n : ℕ) (rows : List (ℕ × List ℕ))
+      → count_by test (rows_below (n + 1) rows) ≡ count_by test (rows_below n rows) + count_by test (shard_rows n shards rows)
   count_step n [] = omega arith
   count_step n (row ∷ rows) =
       let k : ℕ = row.0 % shards in
@@ -75,7 +77,8 @@ module _ (shards : ℕ) (test : ℕ × List ℕ → Bool) where
       omega (arith, here)
   shard_sums count first (item ∷ items) rows each =
       let same : first ≡ first + 0 = omega arith in
-      let here : count item ≡ count_by test (shard_rows first shards rows) = each 0 item (omega arith) ∙ ap (λ n. count_by test (shard_rows n shards rows)) (sym same) in
+      let here : count item ≡ count_by test (shard_rows first shards rows) =
+      each 0 item (omega arith) ∙ ap (λ n. count_by test (shard_rows n shards rows)) (sym same) in
       let later = shard_sums count (first + 1) items rows (λ k other below.
       each (suc k) other (omega arith) ∙ ap (λ n. count_by test (shard_rows n shards rows)) (let e : first + suc k ≡ (first + 1) + k = omega arith in e)) in
       let end : (first + 1) + length items ≡ first + suc (length items) = omega arith in
@@ -91,7 +94,8 @@ module _ (shards : ℕ) (test : ℕ × List ℕ → Bool) where
       let sums = shard_sums count 0 items rows (λ k other below.
       each k other (omega (arith, number, below)) ∙ ap (λ n. count_by test (shard_rows n shards rows)) (let e : k ≡ 0 + k = omega arith in e)) in
       let end : 0 + length items ≡ shards = omega (arith, number) in
-      let all : count_by test (rows_below (0 + length items) rows) ≡ count_by test rows = ap (λ n. count_by test (rows_below n rows)) end ∙ ap (count_by test) (all_below some rows) in
+      let all : count_by test (rows_below (0 + length items) rows) ≡ count_by test rows =
+      ap (λ n. count_by test (rows_below n rows)) end ∙ ap (count_by test) (all_below some rows) in
       omega (arith, sums, all, count_none rows)
 
 -- ---- the merge
@@ -138,13 +142,15 @@ all_within : (bits : ℕ) (rows : List (ℕ × List ℕ)) (query : List ℕ) →
 all_within bits [] query codes = refl
 all_within bits (row ∷ rows) query codes =
     let near : nat_le (distance row.1 query) bits ≡ true = le-leb (distance row.1 query) bits (omega (arith, distance_few row.1 query, codes.0.size)) in
-    ap (λ keep. length (cond keep (hit_of query row ∷ hits_within rows query bits) (hits_within rows query bits))) near ∙ ap suc (all_within bits rows query codes.1)
+    ap (λ keep. length (cond keep (hit_of query row ∷ hits_within rows query bits) (hits_within rows query bits))) near
+    ∙ ap suc (all_within bits rows query codes.1)
 
 length_placed : (hit : Hit) (hits : List Hit) → length (placed hit hits) ≡ length hits + 1
 length_placed hit [] = refl
 length_placed hit (other ∷ hits) = go (length_placed hit hits) (is_gt (hit_cmp hit other))
   where
-    go : length (placed hit hits) ≡ length hits + 1 → (after : Bool) → length (cond after (other ∷ placed hit hits) (hit ∷ other ∷ hits)) ≡ length (other ∷ hits) + 1
+    go : length (placed hit hits) ≡ length hits + 1 → (after : Bool)
+        → length (cond after (other ∷ placed hit hits) (hit ∷ other ∷ hits)) ≡ length (other ∷ hits) + 1
     go rest true = omega (arith, rest)
     go rest false = omega arith
 

@@ -15,14 +15,16 @@ joined_operation (inl row) = Add row.0 row.1
 joined_operation (inr key) = Delete key
 
 -- splitting loses nothing
-pub joined-split : (operation : Operation) → joined_operation (split_operation operation) ≡ operation
+pub joined-split : (operation : Operation)
+    → joined_operation (split_operation operation) ≡ operation
 joined-split (Add key code) = refl
 joined-split (Delete key) = refl
 
 -- an operation as a row or a key
 abbrev pub operation_code : Coded Operation
 operation_code =
-    code_by ((ℕ × List ℕ) ⊎ ℕ) (coded⊎ (coded× coded_ℕ (coded_list coded_ℕ)) coded_ℕ) split_operation joined_operation joined-split
+    code_by ((ℕ × List ℕ) ⊎ ℕ) (coded⊎ (coded× coded_ℕ (coded_list coded_ℕ)) coded_ℕ)
+    split_operation joined_operation joined-split
 
 -- an entry as a pair
 abbrev pub entry_code : Coded JournalEntry

@@ -1,4 +1,5 @@
--- The history of entries, the rows that the entries of a prefix leave, and what becomes of an operation behind it.
+-- The history of entries, the rows that the entries of a prefix leave,
+-- and what becomes of an operation behind it.
 use Rattle.std.specs.Prelude.{◌≡◌, ℕ, ◌%◌, ◌==◌, ◌<◌, nat_le, if◌then◌else◌, Bool, true, false, List, [], ◌∷◌, ◌++◌, length, take, filter, slice_index_or, Option, None, is_some}
 use Rattle.std.specs.Ordering.{nat_cmp}
 use Rattle.std.specs.BTreeMap.{insert_entry, is_at}
@@ -58,7 +59,8 @@ Fits rows (Delete key) = is_some (code_at rows key) ≡ true
 
 -- each entry of a history fits the rows of those before it
 pub record IsLegal (history : List JournalEntry) : Type 0 where
-  pub each : (i : ℕ) (other : JournalEntry) → i < length history → Fits (rows_of (take i history)) (slice_index_or history i other).operation
+  pub each : (i : ℕ) (other : JournalEntry) → i < length history
+      → Fits (rows_of (take i history)) (slice_index_or history i other).operation
 
 -- the decision behind a history, where so many entries may stand
 abbrev pub decision_on : List JournalEntry → ℕ → Operation → Decision
@@ -74,4 +76,5 @@ is_accepted Full = false
 
 -- the history after an entry on which this was decided
 abbrev pub after_decision : List JournalEntry → JournalEntry → Decision → List JournalEntry
-after_decision history entry decision = if is_accepted decision then history ++ entry ∷ [] else history
+after_decision history entry decision =
+    if is_accepted decision then history ++ entry ∷ [] else history

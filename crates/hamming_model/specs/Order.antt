@@ -16,7 +16,8 @@ occurrences hit hits = count_by (is_same_hit hit) hits
 
 -- whether a row is this hit of a query, within the radius
 abbrev pub is_hit_row : Hit → List ℕ → ℕ → ℕ × List ℕ → Bool
-is_hit_row hit query radius row = (distance row.1 query == hit.dist && row.0 == hit.key) && nat_le (distance row.1 query) radius
+is_hit_row hit query radius row =
+    (distance row.1 query == hit.dist && row.0 == hit.key) && nat_le (distance row.1 query) radius
 
 -- a hit is after none of these
 abbrev pub IsFirst : Hit → List Hit → Type 0

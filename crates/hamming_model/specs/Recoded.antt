@@ -1,4 +1,5 @@
--- Rows and histories with each code changed in one way, as by cutting what words keep to so many bits.
+-- Rows and histories with each code changed in one way,
+-- as by cutting what words keep to so many bits.
 use Rattle.std.specs.Prelude.{ℕ, List, map, take}
 use Rattle.std.specs.List.{AllByRecursion}
 use Rattle.hamming_model.specs.Codes.{StandsFor}
@@ -15,7 +16,8 @@ recoded_operation change (Delete key) = Delete key
 
 -- an entry with its code changed
 abbrev pub recoded_entry : (List ℕ → List ℕ) → JournalEntry → JournalEntry
-recoded_entry change entry = record { who = entry.who; operation = recoded_operation change entry.operation }
+recoded_entry change entry =
+    record { who = entry.who; operation = recoded_operation change entry.operation }
 
 -- a history with each code changed
 abbrev pub recoded_history : (List ℕ → List ℕ) → List JournalEntry → List JournalEntry
@@ -40,4 +42,5 @@ IsStoredOperation words bits (Delete key) = Unit {0}
 
 -- each code that the entries add is kept so
 abbrev pub AreStoredEntries : ℕ → ℕ → List JournalEntry → Type 0
-AreStoredEntries words bits history = AllByRecursion (λ entry. IsStoredOperation words bits entry.operation) history
+AreStoredEntries words bits history =
+    AllByRecursion (λ entry. IsStoredOperation words bits entry.operation) history

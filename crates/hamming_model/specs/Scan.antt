@@ -20,7 +20,8 @@ hits_within rows query radius = filter (λ hit. nat_le hit.dist radius) (map (hi
 -- a hit at its place in a list in order
 abbrev pub placed : Hit → List Hit → List Hit
 placed hit [] = hit ∷ []
-placed hit (other ∷ hits) = if is_gt (hit_cmp hit other) then other ∷ placed hit hits else hit ∷ other ∷ hits
+placed hit (other ∷ hits) =
+    if is_gt (hit_cmp hit other) then other ∷ placed hit hits else hit ∷ other ∷ hits
 
 -- the hits of a list in order
 abbrev pub in_order : List Hit → List Hit

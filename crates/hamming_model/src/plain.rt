@@ -49,8 +49,8 @@ fn differences(code: &[u8], query: &[u8]) -> u32
 {
     let length = code.len().min(query.len());
     let mut count = 0;
-    for i in 0..length {
-        if code[i] != query[i] {
+    for position in 0..length {
+        if code[position] != query[position] {
             count += 1;
         }
     }

@@ -11,7 +11,8 @@ ghost use Rattle.hamming_model.specs.Stored.{AreCodes};
 pub fn recoded_rows_are_alike()
     ensures codes { (change : List ℕ → List ℕ) (rows : List (ℕ × List ℕ)) (key : ℕ) →
         code_at (recoded_rows change rows) key ≡ option_map change (code_at rows key) }
-    ensures changes { (change : List ℕ → List ℕ) (rows : List (ℕ × List ℕ)) (operation : Operation) →
+    ensures changes { (change : List ℕ → List ℕ) (rows : List (ℕ × List ℕ)) →
+        (operation : Operation) →
         changed (recoded_rows change rows) (recoded_operation change operation)
         ≡ recoded_rows change (changed rows operation) }
     ensures shards { (change : List ℕ → List ℕ) (shard shards : ℕ) (rows : List (ℕ × List ℕ)) →
@@ -46,5 +47,6 @@ pub fn stored_histories_are_cut()
         AreStoredEntries words bits history →
         recoded_history (padded (64 * words)) (cut_history bits history) ≡ history }
     ensures cut { (bits positions : ℕ) (history : List JournalEntry) →
-        AreCodes bits history → cut_history bits (recoded_history (padded positions) history) ≡ history }
+        AreCodes bits history →
+        cut_history bits (recoded_history (padded positions) history) ≡ history }
 {}

@@ -21,5 +21,6 @@ pub fn every_row_is_within_all_bits()
         AreCodeRows bits rows → length (scan rows query bits) ≡ length rows }
     ensures nearest { (bits number : ℕ) (rows : List (ℕ × List ℕ)) (query : List ℕ) →
         AreCodeRows bits rows →
-        take (min number (length rows)) (scan rows query bits) ≡ answer bits rows (Near number query) }
+        take (min number (length rows)) (scan rows query bits)
+        ≡ answer bits rows (Near number query) }
 {}

@@ -1,3 +1,4 @@
 pub mod DrainLemmas
 pub mod ListedLemmas
+pub mod SettleLemmas
 pub mod WorkLemmas

@@ -3,6 +3,7 @@ pub mod Drains
 pub mod Listed
 pub mod ListedLaw
 pub mod Moves
+pub mod Settled
 pub mod Sources
 pub mod WindowLaws
 pub mod Windows

@@ -1,10 +1,12 @@
 //! Hits in order, of which the first were given and the next wait.
 
-ghost use Rattle.std.specs.Prelude.{◌≡◌, ◌+◌, ◌-◌, ◌<◌, ◌==◌, [], length, IfOk};
+ghost use Rattle.std.specs.Prelude.{◌≡◌, ◌+◌, ◌-◌, ◌<◌, ◌≤◌, ◌==◌, [], length, IfOk};
 ghost use Rattle.hit_source.specs.Windows.{IsWindow, Window, left_of, waiting_of, first_distance};
 ghost use Rattle.hit_source.specs.Windows.{window_of, with_hit, put_in_order, with_moved, with_given};
 ghost use Rattle.hit_source.specs.Moves.{first_of};
+ghost use Rattle.hit_source.specs.Settled.{Settles};
 
+use crate::settling::order_nearer;
 use hamming_model::Hit;
 use read_meter::NoMemory;
 use std::alloc::Global;
@@ -86,6 +88,17 @@ impl HitWindow {
         self.found.sort_unstable();
     }
 
+    /// Puts the hits behind the first so many that are nearer than so many units in front of the others,
+    /// in order, in place. It answers how many hits are settled now: those first ones, and these.
+    pub fn settle(&mut self, from: usize, units: u32) -> usize
+        requires from { from ≤ length self.old.found }
+        ensures settles { Settles from units self.old self.new result }
+        ensures fits { IsWindow self.new }
+    {
+        let (_front, back) = self.found.as_mut_slice().split_at_mut(from);
+        from + order_nearer(back, units)
+    }
+
     /// Moves the next hit into the room.
     pub fn advance(&mut self)
         requires more { self.old.moved < length self.old.found }
@@ -152,6 +165,14 @@ impl HitWindow {
         ensures { result ≡ length self.now.found }
     {
         self.found.len()
+    }
+
+    /// How many hits were given.
+    pub fn given(&self) -> usize
+        ensures given { result ≡ self.now.given }
+        ensures fits { IsWindow self.now }
+    {
+        self.given
     }
 
     /// How many hits were given or wait.

@@ -7,6 +7,7 @@ mod hit_source;
 mod hit_window;
 mod listed_hits;
 mod polled;
+mod settling;
 
 pub use draining::{drain, take_waiting};
 pub use hit_source::HitSource;

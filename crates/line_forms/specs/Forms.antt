@@ -9,13 +9,15 @@ use Rattle.line_forms.specs.declared.tag.TheConstants.{TAG_MOST}
 -- one to so many decimal digits
 abbrev pub is_decimal : ℕ → List ℕ → Bool
 is_decimal most word =
-    nat_le 1 (length word) && nat_le (length word) most && list_all (λ byte. nat_lt (digit_value byte) 10) word
+    nat_le 1 (length word) && nat_le (length word) most
+    && list_all (λ byte. nat_lt (digit_value byte) 10) word
 
 -- the number that one to so many decimal digits write, where it is from the least to the greatest
 abbrev pub number_of : ℕ → ℕ → ℕ → List ℕ → Option ℕ
 number_of digits least greatest word =
     let value = digits_value 10 word in
-    if is_decimal digits word && nat_le least value && nat_le value greatest then Some value else None
+    if is_decimal digits word && nat_le least value && nat_le value greatest
+    then Some value else None
 
 -- a key
 abbrev pub key_form : List ℕ → Option ℕ
@@ -36,7 +38,8 @@ shard_form word = number_of 2 0 99 word
 -- a code of so many bits
 abbrev pub code_form : ℕ → List ℕ → Option (List ℕ)
 code_form bits word =
-    if (length word == bits / 4) && list_all (λ byte. nat_lt (digit_value byte) 16) word then Some (hex_code word) else None
+    if (length word == bits / 4) && list_all (λ byte. nat_lt (digit_value byte) 16) word
+    then Some (hex_code word) else None
 
 -- a letter or a digit of ASCII
 abbrev pub is_letter_or_digit : ℕ → Bool
@@ -44,7 +47,8 @@ is_letter_or_digit byte = nat_lt (digit_value byte) 36
 
 -- one to sixteen letters or digits
 abbrev pub is_tag : List ℕ → Bool
-is_tag word = nat_le 1 (length word) && nat_le (length word) TAG_MOST && list_all is_letter_or_digit word
+is_tag word =
+    nat_le 1 (length word) && nat_le (length word) TAG_MOST && list_all is_letter_or_digit word
 
 -- a tag
 abbrev pub tag_of : List ℕ → Option (List ℕ)

@@ -11,7 +11,8 @@ begun_word (byte ∷ bytes) = (byte ∷ bytes) ∷ []
 abbrev pub words_after : List ℕ → List ℕ → List (List ℕ)
 words_after begun [] = begun_word begun
 words_after begun (byte ∷ bytes) =
-    if byte == 32 then begun_word begun ++ words_after [] bytes else words_after (begun ++ byte ∷ []) bytes
+    if byte == 32 then begun_word begun ++ words_after [] bytes
+    else words_after (begun ++ byte ∷ []) bytes
 
 -- the words of a line
 abbrev pub words : List ℕ → List (List ℕ)

@@ -3,6 +3,7 @@
 ghost use Rattle.std.specs.Prelude.{◌≡◌, ℕ, ◌≤◌, length, take, option_map, IfSome, IsTrue};
 ghost use Rattle.std.specs.List.{list_all};
 ghost use Rattle.hamming_model.specs.Codes.{StandsFor};
+ghost use Rattle.hamming_model.specs.declared.limits.TheConstants.{WORDS_MOST};
 ghost use Rattle.gph_codes.specs.Allowed.{IsAllowed};
 ghost use Rattle.line_forms.specs.Forms.{key_form, radius_of, count_of, code_form, shard_form, is_letter_or_digit, is_tag};
 ghost use Rattle.line_forms.specs.declared.tag.TheConstants.{TAG_MOST};
@@ -71,7 +72,7 @@ fn are_letters_or_digits(word: &[u8]) -> bool
 
 /// A code of so many bits.
 pub fn code_of<const W: usize>(bits: u32, word: &[u8]) -> Option<Code<W>>
-    requires few_words { W ≤ 8 }
+    requires few_words { W ≤ WORDS_MOST }
     requires allowed { IsAllowed W bits }
     ensures value { option_map (take bits) result ≡ code_form bits word.now }
     ensures fit { IfSome result (λ code. StandsFor W bits code (take bits code)) }

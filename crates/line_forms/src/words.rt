@@ -12,7 +12,8 @@ pub fn is_printable(line: &[u8]) -> bool
 
 /// The first word of a line and what follows it, or None where no word is left.
 pub fn next_word(line: &[u8]) -> Option<(&[u8], &[u8])>
-    ensures { MatchOption result (words line.now ≡ []) (λ found. words line.now ≡ found.0.now ∷ words found.1.now) }
+    ensures { MatchOption result (words line.now ≡ [])
+        (λ found. words line.now ≡ found.0.now ∷ words found.1.now) }
 {
     let begun = without_spaces(line);
     if begun.is_empty() {
@@ -37,7 +38,8 @@ fn without_spaces(line: &[u8]) -> &[u8]
 fn word_end(begun: &[u8]) -> usize
     ensures within { result ≤ length begun.now }
     ensures stops { result < length begun.now → slice_index begun.now result ≡ 32 }
-    ensures splits { words begun.now ≡ begun_word (take result begun.now) ++ words (drop result begun.now) }
+    ensures splits { words begun.now
+        ≡ begun_word (take result begun.now) ++ words (drop result begun.now) }
 {
     let mut end = 0;
     while end < begun.len() && begun[end] != b' ' {

@@ -43,13 +43,13 @@ impl LineBuf {
         self.filled = end;
     }
 
-    /// Adds `n` in decimal at the end, with at most 20 digits.
-    pub fn put_number(&mut self, n: u64)
+    /// Adds a number in decimal at the end, with at most 20 digits.
+    pub fn put_number(&mut self, number: u64)
         requires { length self.old + 20 ≤ LINE_MOST }
-        ensures value { self.new ≡ self.old ++ decimal n }
+        ensures value { self.new ≡ self.old ++ decimal number }
         ensures longer { length self.new ≤ length self.old + 20 }
     {
-        self.put(Buffer::new().format(n).as_bytes());
+        self.put(Buffer::new().format(number).as_bytes());
     }
 
     /// Takes everything out.

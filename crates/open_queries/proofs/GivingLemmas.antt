@@ -1,6 +1,6 @@
 -- Lemmas on giving the hits of a gathering one by one.
-use Rattle.std.proofs.Common.{◌≡◌, ℕ, suc, ◌+◌, ◌≤◌, ◌<◌, min, nat_lt, Bool, true, false, List, [], ◌∷◌, ◌++◌, length}
-use Rattle.std.proofs.Common.{take, drop, map, Option, Some, None, Ok, Err, refl, sym, ap, ◌∙◌, subst, arith}
+use Rattle.std.proofs.Common.{◌≡◌, ℕ, suc, ◌+◌, ◌≤◌, ◌<◌, nat_lt, Bool, true, false, List, [], ◌∷◌, ◌++◌, length}
+use Rattle.std.proofs.Common.{take, drop, Option, Some, None, Ok, Err, refl, sym, ap, ◌∙◌, subst, arith}
 use Rattle.std.proofs.Common.{append-nil, length-drop}
 use Rattle.std.specs.Io.KnownBytes.{Appends}
 use Rattle.std.proofs.KnownBytes.{Appends-trans}
@@ -14,7 +14,7 @@ use Rattle.query_protocol.specs.Replies.{text, reply_line}
 use Rattle.query_protocol.specs.Replies as reply
 use Rattle.session_model.specs.QuerySteps.{hit_replies}
 use Rattle.scatter_gather.specs.Gathering.{Gathered, seen, next_hit, has_more, reaches_by_rows}
-use Rattle.scatter_gather.specs.Moves.{ReadsRise, Gave, Waited, BegunWithin}
+use Rattle.scatter_gather.specs.Moves.{Gave, Waited, BegunWithin}
 use Rattle.scatter_gather.proofs.NextLemmas.{reads_again, reads_stay}
 use Rattle.open_queries.specs.Queries.{whole_answer}
 use Rattle.open_queries.specs.Kept.{GivesFirst}
@@ -97,8 +97,7 @@ module _ {S : Type 0} (asks : S → Asked) (stands : S → Standing) (law : (x :
     abbrev from_it : (later : List Hit) × (drop given rest ≡ hit ∷ later)
     from_it =
         let next : first_of (drop now.given (whole_answer asks now)) ≡ Some hit = sym (is ∙ next_seen asks stands now) in
-        let found = next_first now.given (whole_answer asks now) hit next in
-        (
+        let found = next_first now.given (whole_answer asks now) hit next in (
           found.0,
           drop-drop given start.given answer ∙ ap (λ n. drop n answer) (sym has.given)
               ∙ ap (drop now.given) (sym now_answer) ∙ found.1,

@@ -1,22 +1,21 @@
 -- Lemmas on what is true of a query at every moment: how it begins, and that the calls of its gathering keep it.
-use Rattle.std.proofs.Common.{◌≡◌, ℕ, zero, suc, ◌+◌, ◌≤◌, ◌<◌, true, false, List, [], ◌∷◌, length, take, drop, map, get_or}
+use Rattle.std.proofs.Common.{◌≡◌, ℕ, zero, suc, ◌+◌, ◌<◌, true, false, List, [], ◌∷◌, length, take, drop, map, get_or}
 use Rattle.std.proofs.Common.{Option, Some, None, refl, sym, ap, ◌∙◌, subst, arith, inl, inr}
-use Rattle.std.specs.Prelude.{◌&&◌, nat_le, nat_lt, sum_by}
+use Rattle.std.specs.Prelude.{◌&&◌, nat_le, sum_by}
 use Rattle.std.specs.List.{AllByRecursion, list_all}
 use Rattle.std.proofs.lemmas.List.Sums.{sum_by-cons}
 use Rattle.hamming_model.specs.declared.hit.Hit.{Hit}
 use Rattle.hit_source.specs.Sources.{Asked, Standing, IsLawful, IsFresh}
 use Rattle.hit_source.specs.Moves.{first_of}
 use Rattle.threshold_model.specs.Bounds.{last_distance}
-use Rattle.scatter_gather.specs.Gathering.{Source, source_of, sources_of, Gathered, gathered, seen, next_hit, has_more}
-use Rattle.scatter_gather.specs.Gathering.{answer_of, merged, all_asked, reaches_by_rows}
+use Rattle.scatter_gather.specs.Gathering.{Source, source_of, sources_of, Gathered, seen, next_hit}
+use Rattle.scatter_gather.specs.Gathering.{answer_of, merged, reaches_by_rows}
 use Rattle.scatter_gather.specs.Kept.{AreOneLength, IsUpTo}
 use Rattle.scatter_gather.specs.Moves.{BegunWithin, Gave, Waited}
 use Rattle.scatter_gather.proofs.KeepLemmas.{asked_seen}
-use Rattle.open_queries.specs.declared.open_query.OpenQuery.{OpenQuery}
-use Rattle.open_queries.specs.Queries.{whole_answer, opened_query}
-use Rattle.open_queries.specs.Kept.{have_rows, AreOfOneKind, IsUntouched, GivesFirst, IsKept, AreKept}
-use Rattle.open_queries.proofs.AnswerLemmas.{next_within, last_next, none_next}
+use Rattle.open_queries.specs.Queries.{whole_answer}
+use Rattle.open_queries.specs.Kept.{have_rows, AreOfOneKind, IsUntouched, GivesFirst}
+use Rattle.open_queries.proofs.AnswerLemmas.{next_within, last_next}
 
 -- ---- the same by what is seen
 

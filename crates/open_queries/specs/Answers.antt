@@ -84,12 +84,20 @@ pub record IsPlan {S : Type 0} (asks : S → Asked) (tag : List ℕ) (shard : �
   pub told : this ≡ reply.Plan tag shard ((asks source).plan (last_in asks query)).1
       (take PARTS_MOST ((asks source).plan (last_in asks query)).0)
 
--- a line that tells so
-abbrev pub WritesPlan : {S : Type 0} → (S → Asked) → (S → Standing) → List (OpenQuery S) → List ℕ
-    → ℕ → List ℕ → List (OpenQuery S) → Type 0
-WritesPlan asks stands old tag shard line new =
-    (this : LineReply) × TellsOfQuery asks stands old tag (IsPlan asks tag shard) this new
-    × (line ≡ reply_line this)
+-- a line that tells it
+pub record WritesPlanOf {S : Type 0} (asks : S → Asked) (tag : List ℕ) (shard : ℕ)
+    (query : OpenQuery S) (line : List ℕ) : Type 0 where
+  pub this : LineReply
+  pub is_plan : IsPlan asks tag shard query this
+  pub is_line : line ≡ reply_line this
+
+-- the same of the query of a tag
+pub record WritesPlan {S : Type 0} (asks : S → Asked) (stands : S → Standing)
+    (old : List (OpenQuery S)) (tag : List ℕ) (shard : ℕ) (line : List ℕ)
+    (new : List (OpenQuery S)) : Type 0 where
+  pub this : LineReply
+  pub tells : TellsOfQuery asks stands old tag (IsPlan asks tag shard) this new
+  pub is_line : line ≡ reply_line this
 
 -- ---- cancel
 

@@ -1,6 +1,6 @@
 -- What is true of an open query at every moment. A public clause cites this module at an opening alone.
 use Rattle.std.specs.Prelude.{◌≡◌, ℕ, ◌≤◌, ◌⊎◌, ◌&&◌, nat_le, Bool, true, false, None}
-use Rattle.std.specs.Prelude.{List, length, map, take, sum_by}
+use Rattle.std.specs.Prelude.{List, [], ◌∷◌, length, map, take, sum_by}
 use Rattle.std.specs.List.{AllByRecursion, list_all}
 use Rattle.hit_source.specs.Sources.{Asked, Standing, IsFresh}
 use Rattle.threshold_model.specs.Bounds.{last_distance}
@@ -8,7 +8,7 @@ use Rattle.scatter_gather.specs.Gathering.{Gathered, gathered}
 use Rattle.scatter_gather.specs.Kept.{AreOneLength}
 use Rattle.scatter_gather.specs.Moves.{BegunWithin}
 use Rattle.open_queries.specs.declared.open_query.OpenQuery.{OpenQuery}
-use Rattle.open_queries.specs.Queries.{whole_answer}
+use Rattle.open_queries.specs.Queries.{whole_answer, IsFree}
 
 -- every row is a hit of these sources, and there are as many as a limit
 abbrev pub have_rows : List Asked → ℕ → Bool
@@ -44,6 +44,13 @@ pub record IsKept {S : Type 0} (asks : S → Asked) (stands : S → Standing) (q
   pub done : query.done ≡ true
       → query.gather.given ≡ length (whole_answer asks query.gather)
 
--- each open query is so
-abbrev pub AreKept : {S : Type 0} → (S → Asked) → (S → Standing) → List (OpenQuery S) → Type 0
-AreKept asks stands queries = AllByRecursion (IsKept asks stands) queries
+-- no two queries have one tag
+abbrev pub HaveOwnTags : {S : Type 0} → List (OpenQuery S) → Type 0
+HaveOwnTags [] = Unit {0}
+HaveOwnTags (query ∷ queries) = IsFree queries query.tag × HaveOwnTags queries
+
+-- each open query is so, and has a tag of its own
+pub record AreKept {S : Type 0} (asks : S → Asked) (stands : S → Standing)
+    (queries : List (OpenQuery S)) : Type 0 where
+  pub each : AllByRecursion (IsKept asks stands) queries
+  pub own : HaveOwnTags queries

@@ -81,7 +81,7 @@ pub record Changes {S : Type 0} (old new : List (OpenQuery S)) (tag : List ℕ)
   pub is_first : IsFree front tag
   pub has_tag : before.tag ≡ tag
 
--- the first query of the tag was taken out, and no other
+-- the first query of the tag was taken out, and no other, and the tag is free
 pub record Removes {S : Type 0} (old new : List (OpenQuery S)) (tag : List ℕ)
     (before : OpenQuery S) : Type 0 where
   pub front : List (OpenQuery S)
@@ -89,6 +89,7 @@ pub record Removes {S : Type 0} (old new : List (OpenQuery S)) (tag : List ℕ)
   pub old_is : old ≡ front ++ before ∷ back
   pub new_is : new ≡ front ++ back
   pub is_first : IsFree front tag
+  pub freed : IsFree new tag
   pub has_tag : before.tag ≡ tag
 
 -- a source stands behind each query for this shard

@@ -1,10 +1,12 @@
 //! The next hits of a query.
 
 ghost use Rattle.std.specs.Thread.{IsSync};
+ghost use Rattle.query_protocol.specs.Replies.{reply_line};
+ghost use Rattle.query_protocol.specs.Replies as reply;
 ghost use Rattle.open_queries.specs.Answers.{GivesQuery};
 ghost use Rattle.open_queries.specs.Kept.{GivesFirst, IsKept};
 ghost use Rattle.open_queries.specs.Giving.{GivesHits};
-ghost use Rattle.open_queries.specs.Writing.{IsCaused};
+ghost use Rattle.open_queries.specs.Writing.{Writes, IsCaused};
 
 use crate::open_query::OpenQuery;
 use crate::output::{say, write_all};
@@ -36,12 +38,30 @@ pub(crate) fn give_query<H: HitSource, R: Threads + Sync, G: Gate, K: Sink, L: S
     ensures kept { IsKept H.asked H.standing query.new }
     ensures cause { IsCaused (K.faults sink.old) (K.faults sink.new) result }
 {
-    if !query.done {
-        if give_hits(&mut query.gather, rt, gate, tag, count, out, sink, meters)? {
-            return say(out, sink, &Reply::More { tag: *tag });
-        }
-        query.done = true;
+    if query.done {
+        return say_done(query, tag, out, sink);
     }
+    match give_hits(&mut query.gather, rt, gate, tag, count, out, sink, meters) {
+        Err(Failed) => Err(Failed),
+        Ok(true) => say(out, sink, &Reply::More { tag: *tag }),
+        Ok(false) => {
+            query.done = true;
+            say_done(query, tag, out, sink)
+        }
+    }
+}
+
+// Tells that all hits of a query were given, and how many there are.
+fn say_done<H: HitSource, K: Sink>(
+    query: &OpenQuery<H>,
+    tag: &Tag,
+    out: &mut LineBuf,
+    sink: &mut K,
+) -> Result<(), Failed>
+    ensures written { Writes (K.held sink.old) (K.held sink.new) result
+        (reply_line (reply.Done tag.now query.now.gather.given)) }
+    ensures cause { IsCaused (K.faults sink.old) (K.faults sink.new) result }
+{
     let count = query.gather.given();
     say(out, sink, &Reply::Done { tag: *tag, count })
 }

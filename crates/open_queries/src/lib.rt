@@ -2,6 +2,7 @@
 //! A request for hits is told the next ones of the answer of the tag's query, and each ledger rises by what that query read.
 #![tactic(auto)]
 
+mod asking;
 mod giving;
 mod open_queries;
 mod open_query;

@@ -9,13 +9,13 @@ ghost use Rattle.open_queries.specs.Kept.{IsUntouched};
 ghost use Rattle.open_queries.specs.Writing.{IsCaused};
 ghost use Rattle.open_queries.specs.Answers.{GivesAs, CostsAs, WritesPlan, CancelsAs};
 
+use crate::asking::{cost_query, plan_query};
 use crate::giving::give_query;
 use crate::open_query::{MOST_OPEN, OpenQuery, place_of};
 use crate::output::say;
-use hamming_model::PARTS_MOST;
 use hit_source::HitSource;
 use line_io::{Failed, LineBuf, Sink};
-use query_protocol::{Bad, Reply, Tag, write_plan};
+use query_protocol::{Bad, Reply, Tag};
 use read_meter::{Meters, NoMemory};
 use scatter_gather::{Gate, Gather};
 use std::alloc::Global;
@@ -79,7 +79,7 @@ impl<H: HitSource> OpenQueries<H> {
         requires free { IsFree self.old tag }
         requires space { length self.old < most_open }
         requires untouched { IsUntouched H.asked H.standing gather }
-        ensures { self.new ≡ self.old ++ opened_query tag gather.entry ∷ [] }
+        ensures { self.new ≡ self.old ++ opened_query tag gather ∷ [] }
     {
         let query = OpenQuery {
             tag,
@@ -132,14 +132,7 @@ impl<H: HitSource> OpenQueries<H> {
     {
         match place_of(&self.queries, tag) {
             None => Reply::Bad(Bad::unknown_tag()),
-            Some(place) => {
-                let (reads, bound) = self.queries[place].gather.cost();
-                Reply::Cost {
-                    tag: *tag,
-                    reads,
-                    bound,
-                }
-            }
+            Some(place) => cost_query(&mut self.queries[place], tag),
         }
     }
 
@@ -151,14 +144,7 @@ impl<H: HitSource> OpenQueries<H> {
         out.clear();
         match place_of(&self.queries, tag) {
             None => Reply::Bad(Bad::unknown_tag()).write(out),
-            Some(place) => {
-                let gather = &mut self.queries[place].gather;
-                let cost = gather.plan(shard as usize);
-                let thresholds = gather.thresholds(shard as usize);
-                // A layout has at most so many parts, with a threshold for each.
-                let number = thresholds.len().min(PARTS_MOST);
-                write_plan(tag, shard, cost, &thresholds[..number], out);
-            }
+            Some(place) => plan_query(&mut self.queries[place], tag, shard, out),
         }
     }
 

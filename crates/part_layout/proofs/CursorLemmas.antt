@@ -118,20 +118,25 @@ FirstRead text word (mark ∷ rest) =
 mark_read : (word rest : List ℕ) (mark : ℕ) → IsLayoutText (word ++ mark ∷ rest) → All (λ byte. is_mark byte ≡ false) word → (mark ≡ 44) ⊎ (mark ≡ 47)
     → FirstRead (word ++ mark ∷ rest) word (mark ∷ rest)
 unfolding FirstRead
-mark_read word rest mark is plain (inl comma) = subst (λ m. IsLayoutText (word ++ m ∷ rest) → FirstRead (word ++ m ∷ rest) word (m ∷ rest)) (sym comma) (comma_read word rest plain) is
+mark_read word rest mark is plain (inl comma) = subst (λ m. IsLayoutText (word ++ m ∷ rest)
+    → FirstRead (word ++ m ∷ rest) word (m ∷ rest)) (sym comma) (comma_read word rest plain) is
   where
-    comma_read : (word rest : List ℕ) → All (λ byte. is_mark byte ≡ false) word → IsLayoutText (word ++ 44 ∷ rest) → FirstRead (word ++ 44 ∷ rest) word (44 ∷ rest)
+    comma_read : (word rest : List ℕ) → All (λ byte. is_mark byte ≡ false) word → IsLayoutText (word ++ 44 ∷ rest)
+        → FirstRead (word ++ 44 ∷ rest) word (44 ∷ rest)
     comma_read word rest plain is =
         let both = passes_first word (position_texts rest) (sym (ap passes (words_before_comma word rest plain)) ∙ is) in
         let whole = rest_of_text (word ++ 44 ∷ rest) is in
         let left = rest_of_text rest both.1 in (
           both.0,
           both.1,
-          whole.1 ∙ ap numbers (words_before_comma word rest plain) ∙ numbers_first word (position_texts rest) ∙ ap (onto_first (digits_value 10 word)) (sym left.1),
+          whole.1 ∙ ap numbers (words_before_comma word rest plain) ∙ numbers_first word (position_texts rest)
+              ∙ ap (onto_first (digits_value 10 word)) (sym left.1),
         )
-mark_read word rest mark is plain (inr slash) = subst (λ m. IsLayoutText (word ++ m ∷ rest) → FirstRead (word ++ m ∷ rest) word (m ∷ rest)) (sym slash) (slash_read word rest plain) is
+mark_read word rest mark is plain (inr slash) = subst (λ m. IsLayoutText (word ++ m ∷ rest)
+    → FirstRead (word ++ m ∷ rest) word (m ∷ rest)) (sym slash) (slash_read word rest plain) is
   where
-    slash_read : (word rest : List ℕ) → All (λ byte. is_mark byte ≡ false) word → IsLayoutText (word ++ 47 ∷ rest) → FirstRead (word ++ 47 ∷ rest) word (47 ∷ rest)
+    slash_read : (word rest : List ℕ) → All (λ byte. is_mark byte ≡ false) word → IsLayoutText (word ++ 47 ∷ rest)
+        → FirstRead (word ++ 47 ∷ rest) word (47 ∷ rest)
     slash_read word rest plain is =
         let both = passes_part word (position_texts rest) (sym (ap passes (words_before_slash word rest plain)) ∙ is) in
         let whole = rest_of_text (word ++ 47 ∷ rest) is in

@@ -227,7 +227,8 @@ pub record AreNone (bits : ℕ) (parts : List (List ℕ)) : Type 0 where
   pub narrow : first_wide parts ≡ None
   pub few : too_many parts ≡ None
 
-no_first : (fault : Option LayoutFault) (others : List (Option LayoutFault)) → first_there (fault ∷ others) ≡ None → (fault ≡ None) × (first_there others ≡ None)
+no_first : (fault : Option LayoutFault) (others : List (Option LayoutFault)) → first_there (fault ∷ others) ≡ None
+    → (fault ≡ None) × (first_there others ≡ None)
 no_first None others none = (refl, none)
 no_first (Some fault) others none = absurd (let both : Some fault ≡ None = none in cc)
 
@@ -270,7 +271,8 @@ not_many : (parts : List (List ℕ)) → length parts ≤ 64 → too_many parts 
 not_many parts few = let test : nat_lt 64 (length parts) ≡ false = grind (arith, nat_tests) in ap (λ b. cond b (Some (length parts)) None) test
 
 -- parts that aren't empty and have no fault
-pub laid_of_faultless : (bits : ℕ) (parts : List (List ℕ)) → 0 < length parts → All (λ part. 0 < length part) parts → fault_of bits parts ≡ None → IsLayout bits parts
+pub laid_of_faultless : (bits : ℕ) (parts : List (List ℕ)) → 0 < length parts → All (λ part. 0 < length part) parts
+    → fault_of bits parts ≡ None → IsLayout bits parts
 laid_of_faultless bits parts some filled none =
     let faults = none_of bits parts none in
     let narrow = none_wide 0 parts faults.narrow in

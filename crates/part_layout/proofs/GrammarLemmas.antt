@@ -60,7 +60,8 @@ plain_pieces byte (piece ∷ pieces) plain some =
     ap (λ part. part ∷ map texts_of_part pieces) (slice_split-cons_no (λ b. b == 44) byte piece plain)
 
 -- another byte goes on with a word
-pub words_plain : (byte : ℕ) (bytes : List ℕ) → (byte == 44) ≡ false → (byte == 47) ≡ false → position_texts (byte ∷ bytes) ≡ onto_word byte (position_texts bytes)
+pub words_plain : (byte : ℕ) (bytes : List ℕ) → (byte == 44) ≡ false → (byte == 47) ≡ false
+    → position_texts (byte ∷ bytes) ≡ onto_word byte (position_texts bytes)
 words_plain byte bytes no_comma no_slash =
     ap (map texts_of_part) (slice_split-cons_no (λ b. b == 47) byte bytes no_slash)
     ∙ plain_pieces byte (slice_split (λ b. b == 47) bytes) no_comma (let sized = length-slice_split (λ b. b == 47) bytes in omega arith)
@@ -87,7 +88,8 @@ from_none [] there = absurd there
 from_none ([] ∷ parts) there = absurd there
 from_none ((word ∷ others) ∷ parts) there =
     let size : 0 + length word ≡ length word = omega arith in
-    ap (λ n. (nat_le 1 n && (nat_le n 3 && list_all (λ byte. is_digit byte 10) word)) && (list_all is_position_text others && list_all (λ part. list_all is_position_text part) parts)) size
+    ap (λ n. (nat_le 1 n && (nat_le n 3 && list_all (λ byte. is_digit byte 10) word))
+    && (list_all is_position_text others && list_all (λ part. list_all is_position_text part) parts)) size
     ∙ and_assoc (is_position_text word) (list_all is_position_text others) (list_all (λ part. list_all is_position_text part) parts)
 
 -- one digit more
@@ -98,8 +100,13 @@ digit_more digits byte [] there digit = absurd there
 digit_more digits byte ([] ∷ parts) there digit = absurd there
 digit_more digits byte ((word ∷ others) ∷ parts) there digit =
     let size : digits + suc (length word) ≡ digits + 1 + length word = omega arith in
-    ap (λ n. (nat_le 1 n && (nat_le n 3 && (is_digit byte 10 && list_all (λ b. is_digit b 10) word))) && (list_all is_position_text others && list_all (λ part. list_all is_position_text part) parts)) size
-    ∙ ap (λ test. (nat_le 1 (digits + 1 + length word) && (nat_le (digits + 1 + length word) 3 && (test && list_all (λ b. is_digit b 10) word))) && (list_all is_position_text others && list_all (λ part. list_all is_position_text part) parts)) digit
+    ap (λ n. (nat_le 1 n && (nat_le n 3 && (is_digit byte 10 && list_all (λ b. is_digit b 10) word)))
+    && (list_all is_position_text others && list_all (λ part. list_all is_position_text part) parts)) size
+    ∙ ap
+    (λ test.
+    (nat_le 1 (digits + 1 + length word)
+    && (nat_le (digits + 1 + length word) 3 && (test && list_all (λ b. is_digit b 10) word)))
+    && (list_all is_position_text others && list_all (λ part. list_all is_position_text part) parts)) digit
 
 and_false : (a b c : Bool) → b ≡ false → (a && (b && c)) ≡ false
 and_false true b c e = rw e refl
@@ -223,7 +230,8 @@ comma_step bytes digits few rest =
 
 -- a digit more
 digit_step : (byte : ℕ) (bytes : List ℕ) (digits : ℕ) → digits ≤ 3 → ((n : ℕ) → n ≤ 3 → ends_text n bytes ≡ after_digits n (position_texts bytes))
-    → (byte == 44) ≡ false → (byte == 47) ≡ false → is_digit byte 10 ≡ true → ends_text digits (byte ∷ bytes) ≡ after_digits digits (position_texts (byte ∷ bytes))
+    → (byte == 44) ≡ false → (byte == 47) ≡ false → is_digit byte 10 ≡ true
+    → ends_text digits (byte ∷ bytes) ≡ after_digits digits (position_texts (byte ∷ bytes))
 digit_step byte bytes digits few rest no_comma no_slash digit =
     let here = ap (after_digits digits) (words_plain byte bytes no_comma no_slash) in
     elim (cases_lt digits 3) [

@@ -17,7 +17,8 @@ pub numbers_next : (rest after : List ℕ) (listed : ListedPosition) → parts_l
 numbers_next rest after listed same = ap numbers_of same ∙ numbers_grown listed (parts_left after)
 
 -- they are small, as all are
-pub small_next : (rest after : List ℕ) (listed : ListedPosition) → parts_left rest ≡ grown listed (parts_left after) → All (λ number. number < 256) (numbers_left rest)
+pub small_next : (rest after : List ℕ) (listed : ListedPosition) → parts_left rest ≡ grown listed (parts_left after)
+    → All (λ number. number < 256) (numbers_left rest)
     → (listed.position < 256) × All (λ number. number < 256) (numbers_left after)
 small_next rest after listed same small =
     let next = numbers_next rest after listed same in
@@ -111,7 +112,8 @@ marked_single table all rest none so_far = so_far.judged ∙ ap (first_repeated 
 pub marked_all : (table : List Bool) (all rest : List ℕ) → rest ≡ [] → IsMarked table all rest → Tells table all
 marked_all table all rest none so_far = λ position below.
     so_far.told position below
-    ∙ sym (so_far.whole position ∙ ap (λ numbers. stands_in so_far.before position || stands_in numbers position) none ∙ or_none (stands_in so_far.before position))
+    ∙ sym (so_far.whole position ∙ ap (λ numbers. stands_in so_far.before position || stands_in numbers position) none
+    ∙ or_none (stands_in so_far.before position))
 
 missing_first : (at count : ℕ) (numbers : List ℕ) (stands : Bool) → stands_in numbers at ≡ stands
     → find (λ position. not (stands_in numbers position)) (range_with_len at (suc count))
@@ -169,7 +171,8 @@ wide_over at width n [] over = wide_cons at width (n ∷ []) [] true (grind (ari
 wide_over at width n (part ∷ parts) over = wide_cons at width (n ∷ part) parts true (grind (arith, nat_tests))
 
 -- one position more makes the part too wide
-pub wide_here : (at width : ℕ) (listed : ListedPosition) (parts left : List (List ℕ)) → parts ≡ grown listed left → 12 < width + 1 → wide_from at width parts ≡ Some at
+pub wide_here : (at width : ℕ) (listed : ListedPosition) (parts left : List (List ℕ)) → parts ≡ grown listed left → 12 < width + 1
+    → wide_from at width parts ≡ Some at
 unfolding wide_from
 wide_here at width listed parts left same over =
     elim (by_test listed.ends_part) [

@@ -10,8 +10,9 @@ use Rattle.std.proofs.lemmas.List.Elements.{All-head, All-tail}
 use Rattle.std.proofs.lemmas.List.Folds.{length-flat_map-take}
 use Rattle.std.proofs.lemmas.List.Sums.{sum_by-cons}
 use Rattle.hamming_model.specs.Layouts.{IsLayout, bits_at, part_value}
+use Rattle.hamming_model.specs.declared.limits.TheConstants.{PART_WIDTH_MOST}
 use Rattle.part_layout.specs.Kept.{FitsText, laid_of, lists_of}
-use Rattle.part_layout.specs.Laid.{Laid, part_at}
+use Rattle.part_layout.specs.Laid.{IsLaid, Laid, part_at}
 use Rattle.part_layout.proofs.RunLemmas.{hit, miss}
 use Rattle.std.specs.Global.{Vec}
 
@@ -134,3 +135,12 @@ kept_at bits parts laid part own seen below is =
     let long = ap length same in
     let inside : part < length parts = omega arith in
     sym (ap (λ (l : Laid). part_at l part) seen) ∙ sym (own_part parts part own inside is)
+
+-- the width of a part, as it is read
+pub width_of_part : (bits : ℕ) (parts : List (Vec ℕ)) (laid : Laid) (part number : ℕ) (own : Vec ℕ) → laid_of bits parts ≡ laid → IsLaid laid
+    → part < length laid.parts → own ≡ get_or parts part own → number ≡ length own.items
+    → (0 < number) × (number ≤ PART_WIDTH_MOST)
+width_of_part bits parts laid part number own seen is below same long =
+    let each = is.layout.widths part [] below in
+    let sized = ap length (kept_at bits parts laid part own seen below same) in
+    (omega (arith, each.0), omega (arith, each.1))

@@ -38,7 +38,8 @@ All-nil : {X : Type 0} (P : X → Type 0) → All P []
 All-nil P k d inside = absurd (omega arith)
 
 -- what is between pieces that lack a byte lacks it
-join_lacks : (mark other : ℕ) (pieces : List (List ℕ)) → (mark == other) ≡ false → All (λ piece. Lacks other piece) pieces → Lacks other (join_with_byte mark pieces)
+join_lacks : (mark other : ℕ) (pieces : List (List ℕ)) → (mark == other) ≡ false → All (λ piece. Lacks other piece) pieces
+    → Lacks other (join_with_byte mark pieces)
 join_lacks mark other [] differ lack = All-nil (λ byte. (byte == other) ≡ false)
 join_lacks mark other (piece ∷ []) differ lack = All-head (λ p. Lacks other p) piece [] lack
 join_lacks mark other (piece ∷ next ∷ pieces) differ lack =
@@ -128,7 +129,8 @@ texts_words (part ∷ parts) some small =
     (texts_words parts (All-tail (λ p. 0 < length p) part parts some) (All-tail (λ p. All (λ n. n < 1000) p) part parts small))
 
 -- the words of the text of parts
-layout_words : (parts : List (List ℕ)) → 0 < length parts → AreSome parts → AreSmall parts → position_texts (layout_text parts) ≡ map (λ part. map decimal part) parts
+layout_words : (parts : List (List ℕ)) → 0 < length parts → AreSome parts → AreSmall parts
+    → position_texts (layout_text parts) ≡ map (λ part. map decimal part) parts
 layout_words [] there some small = absurd (omega arith)
 layout_words (part ∷ parts) there some small =
     ap (map texts_of_part) (split_join 47 (map part_text (part ∷ parts)) (omega arith) refl (texts_lack (part ∷ parts) small))

@@ -13,7 +13,8 @@ runs (suc number) width first = range_with_len first width ∷ runs number width
 -- parts of one position more, as many as the division leaves over, and then the shorter ones
 abbrev pub contiguous : ℕ → ℕ → List (List ℕ)
 contiguous bits parts =
-    runs (bits % parts) (bits / parts + 1) 0 ++ runs (parts - bits % parts) (bits / parts) (bits % parts * (bits / parts + 1))
+    runs (bits % parts) (bits / parts + 1) 0 ++ runs (parts - bits % parts) (bits / parts)
+    (bits % parts * (bits / parts + 1))
 
 -- a number of bits isn't cut into so many parts: none, over 64, or more than there are bits
 abbrev pub IsNoNumber : ℕ → ℕ → Type 0
@@ -42,9 +43,11 @@ IsCutFault (Width part) = Unit {0}
 IsCutFault (Parts count) = Unit {0}
 IsCutFault NoMemory = Unit {0}
 
--- whether so many bits can be cut into so many parts: there are 1 to 64, none is empty, and none has over 12 positions
+-- whether so many bits can be cut into so many parts: there are 1 to 64, none is empty,
+-- and none has over 12 positions
 abbrev pub can_be_cut : ℕ → ℕ → Bool
-can_be_cut bits parts = nat_le 1 parts && (nat_le parts PARTS_MOST && (nat_le parts bits && nat_le bits (PART_WIDTH_MOST * parts)))
+can_be_cut bits parts = nat_le 1 parts
+    && (nat_le parts PARTS_MOST && (nat_le parts bits && nat_le bits (PART_WIDTH_MOST * parts)))
 
 -- so many bits can be cut into so many parts
 abbrev pub CanBeCut : ℕ → ℕ → Type 0

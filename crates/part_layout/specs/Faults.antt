@@ -1,4 +1,5 @@
--- What is wrong with parts that a text spells, as a layout of so many bits: the first fault, in their order.
+-- What is wrong with parts that a text spells, as a layout of so many bits: the first fault,
+-- in their order.
 use Rattle.std.specs.Prelude.{◌≡◌, ℕ, ◌==◌, not, nat_le, nat_lt, if◌then◌else◌, Bool, List, [], ◌∷◌, length, Option, Some, None}
 use Rattle.std.specs.List.{find, flat_map, list_any, position_from, range_with_len}
 use Rattle.std.specs.Option.{option_map}
@@ -29,7 +30,8 @@ first_repeated before (number ∷ numbers) =
 
 -- the least position below the number of bits that stands nowhere
 abbrev pub least_missing : ℕ → List ℕ → Option ℕ
-least_missing bits numbers = find (λ position. not (stands_in numbers position)) (range_with_len 0 bits)
+least_missing bits numbers =
+    find (λ position. not (stands_in numbers position)) (range_with_len 0 bits)
 
 -- the first part, from 0, of more than 12 positions
 abbrev pub first_wide : List (List ℕ) → Option ℕ

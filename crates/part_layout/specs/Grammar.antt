@@ -1,5 +1,6 @@
--- The grammar of a layout text: parts with a slash between each two, in a part positions with a comma between each two, and each
--- position one to three decimal digits; and where a text that is none goes wrong.
+-- The grammar of a layout text: parts with a slash between each two, in a part positions with a
+-- comma between each two, and each position one to three decimal digits; and where a text that is
+-- none goes wrong.
 use Rattle.std.specs.Prelude.{◌≡◌, ℕ, ◌+◌, ◌<◌, ◌==◌, ◌&&◌, ◌⊎◌, nat_le, Bool, true, List, ◌++◌, map, length, take}
 use Rattle.std.specs.Char.{is_digit}
 use Rattle.std.specs.List.{list_all, slice_split}
@@ -7,7 +8,8 @@ use Rattle.std.specs.Str.Parse.{digits_value}
 
 -- one to three decimal digits
 abbrev pub is_position_text : List ℕ → Bool
-is_position_text word = nat_le 1 (length word) && (nat_le (length word) 3 && list_all (λ byte. is_digit byte 10) word)
+is_position_text word =
+    nat_le 1 (length word) && (nat_le (length word) 3 && list_all (λ byte. is_digit byte 10) word)
 
 -- the texts of a part's positions: commas part them
 abbrev pub texts_of_part : List ℕ → List (List ℕ)

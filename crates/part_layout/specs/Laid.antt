@@ -34,4 +34,5 @@ part_at laid part = slice_index_or laid.parts part []
 -- the value at a part of the code that so many words of bits stand for
 abbrev pub IsValue : ℕ → Laid → List ℕ → ℕ → ℕ → Type 0
 IsValue words laid stored part value =
-    (code : List ℕ) → StandsFor words laid.bits stored code → value ≡ part_value code (part_at laid part)
+    (code : List ℕ) → StandsFor words laid.bits stored code
+    → value ≡ part_value code (part_at laid part)

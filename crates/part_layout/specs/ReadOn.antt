@@ -1,4 +1,5 @@
--- How a layout text is read, byte by byte and position by position. No public clause cites this module.
+-- How a layout text is read, byte by byte and position by position.
+-- No public clause cites this module.
 use Rattle.std.specs.Prelude.{◌≡◌, ℕ, ◌+◌, ◌<◌, ◌==◌, ◌||◌, nat_lt, if◌then◌else◌, Bool, false, List, [], ◌∷◌, slice_index_or, Option, Some, None}
 use Rattle.std.specs.Char.{is_digit}
 use Rattle.std.specs.List.{onto_first}
@@ -20,7 +21,8 @@ digits_after digits byte =
 -- whether bytes end a begun text whose last position has so many digits
 abbrev pub ends_text : ℕ → List ℕ → Bool
 ends_text digits [] = nat_lt 0 digits
-ends_text digits (byte ∷ bytes) = elim (digits_after digits byte) [ None ↦ false | Some more ↦ ends_text more bytes ]
+ends_text digits (byte ∷ bytes) =
+    elim (digits_after digits byte) [ None ↦ false | Some more ↦ ends_text more bytes ]
 
 -- the parts that the rest of a text spells; nothing spells none
 abbrev pub parts_left : List ℕ → List (List ℕ)
@@ -38,7 +40,8 @@ IsRest (byte ∷ bytes) = IsLayoutText (byte ∷ bytes)
 
 -- parts with one position before them, the last of its part or one before others
 abbrev pub grown : ListedPosition → List (List ℕ) → List (List ℕ)
-grown listed parts = if listed.ends_part then (listed.position ∷ []) ∷ parts else onto_first listed.position parts
+grown listed parts =
+    if listed.ends_part then (listed.position ∷ []) ∷ parts else onto_first listed.position parts
 
 -- a text lists a position first, and has this rest after its mark
 abbrev pub Lists : List ℕ → ListedPosition → List ℕ → Type 0
@@ -50,4 +53,5 @@ BeginsWith text part rest = parts_left text ≡ part ∷ parts_left rest
 
 -- a table tells which positions stand among numbers
 abbrev pub Tells : List Bool → List ℕ → Type 0
-Tells table numbers = (position : ℕ) → position < BITS_MOST → slice_index_or table position false ≡ stands_in numbers position
+Tells table numbers = (position : ℕ) → position < BITS_MOST → slice_index_or table position false
+    ≡ stands_in numbers position

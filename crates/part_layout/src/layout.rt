@@ -144,13 +144,13 @@ impl Layout {
     }
 
     /// A position of a part, in the part's order.
-    pub fn position(&self, part: u32, j: u32) -> u32
+    pub fn position(&self, part: u32, place: u32) -> u32
         requires in_layout { part < length self.now.parts }
-        requires in_part { j < length (part_at self.now part) }
-        ensures position { result ≡ slice_index (part_at self.now part) j }
+        requires in_part { place < length (part_at self.now part) }
+        ensures position { result ≡ slice_index (part_at self.now part) place }
         ensures bound { result < self.now.bits }
     {
-        u32::from(self.parts[part as usize][j as usize])
+        u32::from(self.parts[part as usize][place as usize])
     }
 
     /// The value of a code at a part: the bits at the part's positions, the first the top one.

@@ -58,8 +58,8 @@ fn push_runs(
     requires { first + number * width ≤ BITS_MOST }
     ensures { OnOk result (AddsRuns parts.old.items parts.new.items number width first) }
 {
-    for i in 0..number {
-        let part = run(alloc, first + i * width, width)?;
+    for done in 0..number {
+        let part = run(alloc, first + done * width, width)?;
         let Ok(()) = parts.push(part) else {
             return Err(NoMemory);
         };
@@ -73,8 +73,8 @@ fn run(alloc: Global, first: u32, width: u32) -> Result<Vec<u16>, NoMemory>
     ensures { IfOk result (λ part. part.items ≡ range_with_len first width) }
 {
     let mut part = Vec::new(alloc);
-    for i in 0..width {
-        let Ok(()) = part.push((first + i) as u16) else {
+    for offset in 0..width {
+        let Ok(()) = part.push((first + offset) as u16) else {
             return Err(NoMemory);
         };
     }
@@ -113,8 +113,8 @@ pub fn put_parts(parts: &[Vec<u16>], out: &mut [u8]) -> usize
     ensures bound { result ≤ length out.old }
 {
     let mut at = 0;
-    for (i, part) in parts.iter().enumerate() {
-        at = put_mark(out, at, i, b'/');
+    for (place, part) in parts.iter().enumerate() {
+        at = put_mark(out, at, place, b'/');
         at = put_part(out, at, part.as_slice());
     }
     at
@@ -129,8 +129,8 @@ fn put_part(out: &mut [u8], at: usize, part: &[u16]) -> usize
     ensures bound { result + 1 ≤ at + 4 * length part.now }
 {
     let mut end = at;
-    for (j, position) in part.iter().enumerate() {
-        end = put_mark(out, end, j, b',');
+    for (place, position) in part.iter().enumerate() {
+        end = put_mark(out, end, place, b',');
         end = put(out, end, Buffer::new().format(*position).as_bytes());
     }
     end

@@ -98,7 +98,8 @@ module _ (width value : ℕ) (buckets : List (List (List (ℕ × List ℕ)))) (k
           ∙ ap (λ (place : ℕ). get_or (get_or buckets place []) (other / 256) []) (sym here)
     ]
 
-    each_changed : (other : ℕ) → other < 2 ^ width → get_or (set (all_lists buckets (2 ^ width)) value list) other [] ≡ list_in (with_list_in buckets value list) other
+    each_changed : (other : ℕ) → other < 2 ^ width
+        → get_or (set (all_lists buckets (2 ^ width)) value list) other [] ≡ list_in (with_list_in buckets value list) other
     each_changed other low = elim (cases_eq other value) [
       | inl same ↦
           let inside : value < length (all_lists buckets (2 ^ width)) = omega (arith, below, length-map-range_with_len (list_in buckets) 0 (2 ^ width)) in
@@ -186,6 +187,11 @@ pub record IsBucketOf (width : ℕ) (shared : List (Arc (List (List (ℕ × List
   pub below : value < 2 ^ table.width
   pub stands : own ≡ get_or shared (value % 256) own
 
+pub bucket_of_value : {width : ℕ} {shared : List (Arc (List (List (ℕ × List ℕ))) Global)} {table : Table} {value : ℕ}
+    {own : Arc (List (List (ℕ × List ℕ))) Global} → AreBuckets width (buckets_of shared) → kept_table width shared ≡ table
+    → value < 2 ^ table.width → own ≡ get_or shared (value % 256) own → IsBucketOf width shared table value own
+bucket_of_value kept seen below stands = record { kept = kept; seen = seen; below = below; stands = stands }
+
 module _ {width : ℕ} {shared : List (Arc (List (List (ℕ × List ℕ))) Global)} {table : Table} {value : ℕ} {own : Arc (List (List (ℕ × List ℕ))) Global}
     (is : IsBucketOf width shared table value own) where
   within : value < 2 ^ width
@@ -254,7 +260,8 @@ module _ {width : ℕ} {shared : List (Arc (List (List (ℕ × List ℕ))) Globa
         ∙ get_or-set_same (all_lists (buckets_of shared) (2 ^ width)) value list [] in_lists
 
     -- the table is the old one with what is now the value's list
-    pub only_list_changed : kept_table width (set shared (value % 256) new) ≡ with_list table value (posting_list (kept_table width (set shared (value % 256) new)) value)
+    pub only_list_changed : kept_table width (set shared (value % 256) new)
+        ≡ with_list table value (posting_list (kept_table width (set shared (value % 256) new)) value)
     only_list_changed = table_changed ∙ ap (with_list table value) (sym list_changed)
 
     -- what is told of the list in the bucket is so of the value's
@@ -282,7 +289,8 @@ module _ {width : ℕ} {shared : List (Arc (List (List (ℕ × List ℕ))) Globa
     pushed = get_or (arc_value own) (value / 256) [] ++ entry ∷ []
 
     -- adds it to the table
-    pub entry_added : arc_value new ≡ set (arc_value own) (value / 256) pushed → kept_table width (set shared (value % 256) new) ≡ with_posting table value entry
+    pub entry_added : arc_value new ≡ set (arc_value own) (value / 256) pushed
+        → kept_table width (set shared (value % 256) new) ≡ with_posting table value entry
     entry_added changed = table_changed new pushed changed ∙ ap (λ (list : List (ℕ × List ℕ)). with_list table value (list ++ entry ∷ [])) own_list
 
     -- and is kept

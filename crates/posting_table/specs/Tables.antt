@@ -12,8 +12,10 @@ pub record Table : Type 0 where
 -- a table as a number and a list
 abbrev pub table_code : Coded Table
 table_code =
-    code_by (ℕ × List (List (ℕ × List ℕ))) (coded× coded_ℕ (coded_list (coded_list (coded× coded_ℕ (coded_list coded_ℕ)))))
-    (λ table. (table.width, table.lists)) (λ parts. record { width = parts.0; lists = parts.1 }) (λ _. refl)
+    code_by (ℕ × List (List (ℕ × List ℕ)))
+    (coded× coded_ℕ (coded_list (coded_list (coded× coded_ℕ (coded_list coded_ℕ)))))
+    (λ table. (table.width, table.lists)) (λ parts. record { width = parts.0; lists = parts.1 })
+    (λ _. refl)
 
 -- the table with no entries
 abbrev pub no_postings : ℕ → Table
@@ -25,7 +27,8 @@ posting_list table value = slice_index_or table.lists value []
 
 -- the table with these entries of a value in place of its own
 abbrev pub with_list : Table → ℕ → List (ℕ × List ℕ) → Table
-with_list table value entries = record { width = table.width; lists = slice_set table.lists value entries }
+with_list table value entries =
+    record { width = table.width; lists = slice_set table.lists value entries }
 
 -- the table with one entry more, at the end of the list of a value
 abbrev pub with_posting : Table → ℕ → ℕ × List ℕ → Table
@@ -37,7 +40,8 @@ has_key entries key = list_any (λ entry. entry.0 == key) entries
 
 -- the entry at this place is the key's
 abbrev pub key_at : List (ℕ × List ℕ) → ℕ → ℕ → Type 0
-key_at entries place key = (place < length entries) × ((other : ℕ × List ℕ) → (slice_index_or entries place other).0 ≡ key)
+key_at entries place key =
+    (place < length entries) × ((other : ℕ × List ℕ) → (slice_index_or entries place other).0 ≡ key)
 
 -- one entry of the key is gone, and each other entry is there as often as before, in some order
 pub record Loses (key : ℕ) (old new : List (ℕ × List ℕ)) : Type 0 where
@@ -50,4 +54,5 @@ LosesEntry old new value key = Loses key (posting_list old value) (posting_list 
 
 -- a place is that of an entry of the key, or there is none
 abbrev pub FindsKey : List (ℕ × List ℕ) → ℕ → Option ℕ → Type 0
-FindsKey entries key found = MatchOption found (has_key entries key ≡ false) (λ place. key_at entries place key)
+FindsKey entries key found =
+    MatchOption found (has_key entries key ≡ false) (λ place. key_at entries place key)

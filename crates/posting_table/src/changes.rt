@@ -17,7 +17,8 @@ pub(crate) fn push_in<const W: usize>(
     code: Code<W>,
 ) -> Result<(), NoMemory>
     requires { at < length (arc_value bucket.old) }
-    ensures added { OnOk result (arc_value bucket.new ≡ with_last (arc_value bucket.old) at (key, code.entry)) }
+    ensures added { OnOk result (arc_value bucket.new
+        ≡ with_last (arc_value bucket.old) at (key, code.entry)) }
     ensures unchanged { OnErr result (arc_value bucket.new ≡ arc_value bucket.old) }
 {
     let Ok(own) = Arc::make_mut(bucket) else {
@@ -34,8 +35,10 @@ pub(crate) fn remove_from<const W: usize>(
 ) -> Result<(), NoMemory>
     requires bucket { at < length (arc_value bucket.old) }
     requires list { place < length (list_at (arc_value bucket.old) at) }
-    ensures lost { OnOk result (LosesAt (list_at (arc_value bucket.old) at) (list_at (arc_value bucket.new) at) place) }
-    ensures others { arc_value bucket.new ≡ slice_set (arc_value bucket.old) at (list_at (arc_value bucket.new) at) }
+    ensures lost { OnOk result (LosesAt (list_at (arc_value bucket.old) at)
+        (list_at (arc_value bucket.new) at) place) }
+    ensures others { arc_value bucket.new
+        ≡ slice_set (arc_value bucket.old) at (list_at (arc_value bucket.new) at) }
     ensures unchanged { OnErr result (arc_value bucket.new ≡ arc_value bucket.old) }
 {
     let Ok(own) = Arc::make_mut(bucket) else {

@@ -149,13 +149,13 @@ impl<const W: usize> Postings<W> {
     }
 
     /// The entry at a place in the list of a value, for one step.
-    pub fn entry<L>(&self, value: u16, i: u32, steps: &mut Steps<L>) -> (u64, Code<W>)
+    pub fn entry<L>(&self, value: u16, place: u32, steps: &mut Steps<L>) -> (u64, Code<W>)
         requires in_width { value < 2 ^ self.now.width }
-        requires in_list { i < length (posting_list self.now value) }
-        ensures entry { result ≡ slice_index_or (posting_list self.now value) i result }
+        requires in_list { place < length (posting_list self.now value) }
+        ensures entry { result ≡ slice_index_or (posting_list self.now value) place result }
         ensures step { steps.new ≡ steps.old + 1 }
     {
         steps.tick();
-        self.buckets[value as usize % BUCKETS].list(value as usize / BUCKETS)[i as usize]
+        self.buckets[value as usize % BUCKETS].list(value as usize / BUCKETS)[place as usize]
     }
 }

@@ -1,4 +1,5 @@
 ghost use Rattle.std.specs.Prelude.{◌≡◌, ℕ, List, length, replicate, IfOk};
+ghost use Rattle.read_meter.specs.declared.meters.TheConstants.{LEDGERS};
 
 use crate::{NoMemory, Steps};
 use std::alloc::Global;
@@ -16,12 +17,13 @@ pub struct Meters<L> {
 
 impl<L> Model for Meters<L> {
     ghost use Rattle.std.specs.Prelude.{◌≡◌, ℕ, List, length};
+    ghost use Rattle.read_meter.specs.declared.meters.TheConstants.{LEDGERS};
 
     ghost Value = { List ℕ };
 
     ghost view = { λ m. m.all.items };
 
-    ghost invariant = { λ m. length m.all.items ≡ 16 };
+    ghost invariant = { λ m. length m.all.items ≡ LEDGERS };
 }
 
 impl<L> Meters<L> {
@@ -34,7 +36,7 @@ impl<L> Meters<L> {
     ///
     /// `NoMemory` where there is no memory for sixteen counters.
     pub fn new<Rt: Env>(_rt: &Rt, alloc: Global) -> Result<Meters<L>, NoMemory>
-        ensures { IfOk result (λ meters. meters ≡ replicate 16 0) }
+        ensures { IfOk result (λ meters. meters ≡ replicate LEDGERS 0) }
     {
         let mut all = Vec::with_capacity(alloc, LEDGERS)?;
         for _i in 0..LEDGERS {
@@ -47,7 +49,7 @@ impl<L> Meters<L> {
     pub fn as_mut(&mut self) -> &mut [Steps<L>]
         ensures* lends { sem 𝓛 (LendsAll L.row self.entry result) }
         ensures value { result.now ≡ self.old }
-        ensures sixteen { length result.now ≡ 16 }
+        ensures sixteen { length result.now ≡ LEDGERS }
     {
         self.all.as_mut_slice()
     }

@@ -235,7 +235,7 @@ by_radius a all (Some low) None up within = absurd up
 by_radius a all (Some low) (Some high) up within = all.rises low high up within
 
 -- the bound of a farther radius isn't less
-bound_rises : (a : Asked) → IsAsked a → (low high : Option ℕ) → IsUpTo low high
+pub bound_rises : (a : Asked) → IsAsked a → (low high : Option ℕ) → IsUpTo low high
     → IfSome high (λ radius. radius ≤ a.farthest) → a.bound low ≤ a.bound high
 bound_rises a is low high up within = go a.near refl
   where

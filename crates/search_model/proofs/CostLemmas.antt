@@ -11,7 +11,8 @@ use Rattle.search_model.specs.Keeping.{is_kept, hits_kept, hits_of_parts}
 use Rattle.search_model.proofs.PostingLemmas.{number_found}
 
 -- what the parts from one on read is their cost
-pub read_from : (count : ℕ → ℕ → ℕ) (rows : List (ℕ × List ℕ)) (query : List ℕ) (parts : List (List ℕ)) (ts : List ℤ) (read : List (List (ℕ × List ℕ))) (number : ℕ)
+pub read_from : (count : ℕ → ℕ → ℕ) (rows : List (ℕ × List ℕ)) (query : List ℕ) (parts : List (List ℕ)) (ts : List ℤ)
+    (read : List (List (ℕ × List ℕ))) (number : ℕ)
     → length ts ≡ length parts → length read ≡ length parts
     → ((part : ℕ) → part < length parts → HasSame (get_or read part []) (rows_found rows (get_or parts part []) query (units_of (threshold_at ts part))))
     → ((part place units : ℕ) → place ≡ number + part → part < length parts → count place units ≡ part_count rows (get_or parts part []) query units)
@@ -35,13 +36,15 @@ counts_at rows layout query part place units at less =
     ap (λ n. part_count rows (get_or layout n []) query units) same
 
 -- as many rows are read as the thresholds cost
-pub read_is_cost : (rows : List (ℕ × List ℕ)) (layout : List (List ℕ)) (thresholds : List ℤ) (query : List ℕ) (read : List (List (ℕ × List ℕ))) → length thresholds ≡ length layout
+pub read_is_cost : (rows : List (ℕ × List ℕ)) (layout : List (List ℕ)) (thresholds : List ℤ) (query : List ℕ)
+    (read : List (List (ℕ × List ℕ))) → length thresholds ≡ length layout
     → IsReading rows layout thresholds query read → number_read read ≡ cost (row_counts rows layout query) thresholds
 read_is_cost rows layout thresholds query read size reading =
     read_from (row_counts rows layout query) rows query layout thresholds read 0 size reading.size reading.each (counts_at rows layout query)
 
 -- a part keeps no more hits than it reads rows
-pub few_of_part : (layout : List (List ℕ)) (thresholds : List ℤ) (query : List ℕ) (tau part : ℕ) (rows : List (ℕ × List ℕ)) → length (hits_kept layout thresholds query tau part rows) ≤ length rows
+pub few_of_part : (layout : List (List ℕ)) (thresholds : List ℤ) (query : List ℕ) (tau part : ℕ) (rows : List (ℕ × List ℕ))
+    → length (hits_kept layout thresholds query tau part rows) ≤ length rows
 few_of_part layout thresholds query tau part rows =
     let mapped = length-map (filter (is_kept layout thresholds query tau part) rows) (hit_of query) in
     let filtered = length-filter (is_kept layout thresholds query tau part) rows in
@@ -49,7 +52,8 @@ few_of_part layout thresholds query tau part rows =
     omega arith
 
 -- and so do the parts
-pub few_of_parts : (layout : List (List ℕ)) (thresholds : List ℤ) (query : List ℕ) (tau part : ℕ) (read : List (List (ℕ × List ℕ))) → length (hits_of_parts layout thresholds query tau part read) ≤ number_read read
+pub few_of_parts : (layout : List (List ℕ)) (thresholds : List ℤ) (query : List ℕ) (tau part : ℕ) (read : List (List (ℕ × List ℕ)))
+    → length (hits_of_parts layout thresholds query tau part read) ≤ number_read read
 few_of_parts layout thresholds query tau part [] = omega arith
 few_of_parts layout thresholds query tau part (rows ∷ read) =
     let joined = length-append (hits_kept layout thresholds query tau part rows) (hits_of_parts layout thresholds query tau (part + 1) read) in

@@ -49,7 +49,8 @@ first_nearest hit default [] place first within = absurd (omega arith)
 first_nearest hit default (other ∷ hits) zero first within = nearer hit other first.0
 first_nearest hit default (other ∷ hits) (suc place) first within = first_nearest hit default hits place first.1 (omega arith)
 
-distances_rise : (hits : List Hit) (first second : ℕ) (default : Hit) → Ascends hits → first ≤ second → second < length hits → (get_or hits first default).dist ≤ (get_or hits second default).dist
+distances_rise : (hits : List Hit) (first second : ℕ) (default : Hit) → Ascends hits → first ≤ second → second < length hits
+    → (get_or hits first default).dist ≤ (get_or hits second default).dist
 distances_rise [] first second default up before within = absurd (omega arith)
 distances_rise (hit ∷ hits) zero zero default up before within = omega arith
 distances_rise (hit ∷ hits) zero (suc second) default up before within = first_nearest hit default hits second up.0 (omega arith)
@@ -57,7 +58,8 @@ distances_rise (hit ∷ hits) (suc first) zero default up before within = absurd
 distances_rise (hit ∷ hits) (suc first) (suc second) default up before within = distances_rise hits first second default up.1 (omega arith) (omega arith)
 
 -- the distances of a list in order don't fall
-pub order_rises : (xs : List Hit) (first second : ℕ) (default : Hit) → first ≤ second → second < length xs → (get_or (in_order xs) first default).dist ≤ (get_or (in_order xs) second default).dist
+pub order_rises : (xs : List Hit) (first second : ℕ) (default : Hit) → first ≤ second → second < length xs
+    → (get_or (in_order xs) first default).dist ≤ (get_or (in_order xs) second default).dist
 order_rises xs first second default before within =
     let size = order_size xs in
     distances_rise (in_order xs) first second default (ascends_in_order xs) before (omega arith)

@@ -54,7 +54,8 @@ kept_nothing (u ∷ us) (d ∷ ds) part place =
     omega arith
 
 -- a row whose place is the first part that finds it is kept once
-pub kept_once : (us ds : List ℕ) (part place amount : ℕ) → length us ≡ length ds → first_part us ds < length us → place ≡ part + first_part us ds → kept_amount us ds part place amount ≡ amount
+pub kept_once : (us ds : List ℕ) (part place amount : ℕ) → length us ≡ length ds → first_part us ds < length us
+    → place ≡ part + first_part us ds → kept_amount us ds part place amount ≡ amount
 kept_once [] ds part place amount size within at = absurd (omega arith)
 kept_once (u ∷ us) [] part place amount size within at = absurd (omega arith)
 kept_once (u ∷ us) (d ∷ ds) part place amount size within at =
@@ -72,8 +73,10 @@ kept_once (u ∷ us) (d ∷ ds) part place amount size within at =
         omega arith
 
 -- the parts of a vector keep a code within tau once, and no other
-pub code_kept : (bits tau amount : ℕ) (layout : List (List ℕ)) (thresholds : List ℤ) (code query : List ℕ) → IsLayout bits layout → IsCode bits code → IsCode bits query → IsVector tau (length layout) thresholds
-    → kept_amount (map units_of thresholds) (part_distances layout code query) 0 (first_part (map units_of thresholds) (part_distances layout code query)) (cond (nat_le (distance code query) tau) amount 0)
+pub code_kept : (bits tau amount : ℕ) (layout : List (List ℕ)) (thresholds : List ℤ) (code query : List ℕ) → IsLayout bits layout
+    → IsCode bits code → IsCode bits query → IsVector tau (length layout) thresholds
+    → kept_amount (map units_of thresholds) (part_distances layout code query) 0
+    (first_part (map units_of thresholds) (part_distances layout code query)) (cond (nat_le (distance code query) tau) amount 0)
     ≡ cond (nat_le (distance code query) tau) amount 0
 code_kept bits tau amount layout thresholds code query lay is_code is_query vector = go (nat_le (distance code query) tau) refl
   where
@@ -102,11 +105,13 @@ place_of layout thresholds query row = first_part (map units_of thresholds) (par
 
 module _ (layout : List (List ℕ)) (thresholds : List ℤ) (query : List ℕ) (tau : ℕ) where
   sum_of_part : (f : Hit → ℕ) (part : ℕ) (rows : List (ℕ × List ℕ))
-      → sum_by f (hits_kept layout thresholds query tau part rows) ≡ sum_by (λ row. cond (place_of layout thresholds query row == part) (worth f query tau row) 0) rows
+      → sum_by f (hits_kept layout thresholds query tau part rows)
+      ≡ sum_by (λ row. cond (place_of layout thresholds query row == part) (worth f query tau row) 0) rows
   sum_of_part f part rows =
       sum_map f (hit_of query) (filter (is_kept layout thresholds query tau part) rows)
       ∙ sum_filter (λ row. f (hit_of query row)) (is_kept layout thresholds query tau part) rows
-      ∙ sum_same (λ row. cond (is_kept layout thresholds query tau part row) (f (hit_of query row)) 0) (λ row. cond (place_of layout thresholds query row == part) (worth f query tau row) 0)
+      ∙ sum_same (λ row. cond (is_kept layout thresholds query tau part row) (f (hit_of query row)) 0)
+      (λ row. cond (place_of layout thresholds query row == part) (worth f query tau row) 0)
       (λ row. both_let (nat_le (distance row.1 query) tau) (place_of layout thresholds query row == part) (f (hit_of query row))) rows
 
   -- what the parts from one on keep, row by row
@@ -114,7 +119,9 @@ module _ (layout : List (List ℕ)) (thresholds : List ℤ) (query : List ℕ) (
       → length ts ≡ length parts → length read ≡ length parts
       → ((part : ℕ) → part < length parts → HasSame (get_or read part []) (rows_found rows (get_or parts part []) query (units_of (threshold_at ts part))))
       → sum_by f (hits_of_parts layout thresholds query tau number read)
-      ≡ sum_by (λ row. kept_amount (map units_of ts) (part_distances parts row.1 query) number (place_of layout thresholds query row) (worth f query tau row)) rows
+      ≡ sum_by
+      (λ row. kept_amount (map units_of ts) (part_distances parts row.1 query) number (place_of layout thresholds query row)
+      (worth f query tau row)) rows
   sum_of_parts f rows [] [] [] number size long each = sym (sum_none rows)
   sum_of_parts f rows [] [] (found ∷ read) number size long each = absurd (omega arith)
   sum_of_parts f rows [] (t ∷ ts) read number size long each = absurd (omega arith)
@@ -123,7 +130,8 @@ module _ (layout : List (List ℕ)) (thresholds : List ℤ) (query : List ℕ) (
   sum_of_parts f rows (part ∷ parts) (t ∷ ts) (found ∷ read) number size long each =
       let at : ℕ × List ℕ → ℕ = λ row. cond (place_of layout thresholds query row == number) (worth f query tau row) 0 in
       let here : ℕ × List ℕ → ℕ = λ row. cond (nat_lt (part_distance part row.1 query) (units_of t)) (at row) 0 in
-      let later : ℕ × List ℕ → ℕ = λ row. kept_amount (map units_of ts) (part_distances parts row.1 query) (number + 1) (place_of layout thresholds query row) (worth f query tau row) in
+      let later : ℕ × List ℕ → ℕ = λ row. kept_amount (map units_of ts) (part_distances parts row.1 query) (number + 1)
+      (place_of layout thresholds query row) (worth f query tau row) in
       let joined = sum_by-append f (hits_kept layout thresholds query tau number found) (hits_of_parts layout thresholds query tau (number + 1) read) in
       let first = sum_of_part f number found in
       let same = (each 0 (omega arith)).sums at in
@@ -133,8 +141,11 @@ module _ (layout : List (List ℕ)) (thresholds : List ℤ) (query : List ℕ) (
       joined ∙ ap (λ n. n + sum_by f (hits_of_parts layout thresholds query tau (number + 1) read)) (first ∙ same ∙ kept)
       ∙ ap (λ n. sum_by here rows + n) rest ∙ sym both
 
-  worth_kept : (bits : ℕ) (f : Hit → ℕ) (rows : List (ℕ × List ℕ)) → IsLayout bits layout → AreCodeRows bits rows → IsCode bits query → IsVector tau (length layout) thresholds
-      → AllByRecursion (λ row. kept_amount (map units_of thresholds) (part_distances layout row.1 query) 0 (place_of layout thresholds query row) (worth f query tau row) ≡ worth f query tau row) rows
+  worth_kept : (bits : ℕ) (f : Hit → ℕ) (rows : List (ℕ × List ℕ)) → IsLayout bits layout → AreCodeRows bits rows
+      → IsCode bits query → IsVector tau (length layout) thresholds
+      → AllByRecursion
+      (λ row. kept_amount (map units_of thresholds) (part_distances layout row.1 query) 0 (place_of layout thresholds query row)
+      (worth f query tau row) ≡ worth f query tau row) rows
   worth_kept bits f [] lay codes is_query vector = tt
   worth_kept bits f (row ∷ rows) lay codes is_query vector =
       (code_kept bits tau (f (hit_of query row)) layout thresholds row.1 query lay codes.0 is_query vector, worth_kept bits f rows lay codes.1 is_query vector)
@@ -146,13 +157,16 @@ module _ (layout : List (List ℕ)) (thresholds : List ℤ) (query : List ℕ) (
 
   -- the hits kept, in order, are the scan
   pub kept_is_scan : (bits : ℕ) (rows : List (ℕ × List ℕ)) (read : List (List (ℕ × List ℕ))) → IsLayout bits layout → AreCodeRows bits rows → IsCode bits query
-      → IsVector tau (length layout) thresholds → IsReading rows layout thresholds query read → in_order (hits_of_parts layout thresholds query tau 0 read) ≡ scan rows query tau
+      → IsVector tau (length layout) thresholds → IsReading rows layout thresholds query read
+      → in_order (hits_of_parts layout thresholds query tau 0 read) ≡ scan rows query tau
   kept_is_scan bits rows read lay codes is_query vector reading =
       same_in_order (hits_of_parts layout thresholds query tau 0 read) (hits_within rows query tau) (λ hit. sums (λ other. cond (is_same_hit hit other) 1 0))
     where
       sums : (f : Hit → ℕ) → sum_by f (hits_of_parts layout thresholds query tau 0 read) ≡ sum_by f (hits_within rows query tau)
       sums f =
           sum_of_parts f rows layout thresholds read 0 vector.size reading.size reading.each
-          ∙ sum_agrees (λ row. kept_amount (map units_of thresholds) (part_distances layout row.1 query) 0 (place_of layout thresholds query row) (worth f query tau row)) (worth f query tau) rows
+          ∙ sum_agrees
+          (λ row. kept_amount (map units_of thresholds) (part_distances layout row.1 query) 0
+          (place_of layout thresholds query row) (worth f query tau row)) (worth f query tau) rows
           (worth_kept bits f rows lay codes is_query vector)
           ∙ sym (sum_within f rows)

@@ -44,7 +44,8 @@ sum_elements f value test bound (x ∷ xs) below =
     let all = sum_filter full test (range_with_len 0 bound) in
     let kept = sum_filter later test (range_with_len 0 bound) in
     let apart = sum_same (λ v. cond (test v) (full v) 0) (λ v. here v + cond (test v) (later v) 0)
-    (λ v. ap (λ n. cond (test v) n 0) (sum_kept f (value x == v) x (filter (λ y. value y == v) xs)) ∙ both_or_none (test v) (cond (value x == v) (f x) 0) (later v))
+    (λ v. ap (λ n. cond (test v) n 0) (sum_kept f (value x == v) x (filter (λ y. value y == v) xs))
+    ∙ both_or_none (test v) (cond (value x == v) (f x) 0) (later v))
     (range_with_len 0 bound) in
     let both = sum_plus here (λ v. cond (test v) (later v) 0) (range_with_len 0 bound) in
     let one = sum_one here (value x) 0 bound (other_value test (f x) (value x)) (omega arith) (omega (arith, below.0)) in
@@ -71,7 +72,8 @@ part_is_code bits code part is_code =
 pub value_below : (bits : ℕ) (code part : List ℕ) → IsCode bits code → part_value code part < 2 ^ length part
 value_below bits code part is_code = number_below (length part) (bits_at code part) (part_is_code bits code part is_code)
 
-values_below : (bits : ℕ) (rows : List (ℕ × List ℕ)) (part : List ℕ) → AreCodeRows bits rows → AllByRecursion (λ row. part_value row.1 part < 2 ^ length part) rows
+values_below : (bits : ℕ) (rows : List (ℕ × List ℕ)) (part : List ℕ) → AreCodeRows bits rows
+    → AllByRecursion (λ row. part_value row.1 part < 2 ^ length part) rows
 values_below bits [] part codes = tt
 values_below bits (row ∷ rows) part codes = (value_below bits row.1 part codes.0, values_below bits rows part codes.1)
 
@@ -80,7 +82,9 @@ pub near_at_part : (bits units : ℕ) (code query part : List ℕ) → IsCode bi
     → is_near (part_value query part) units (part_value code part) ≡ nat_lt (part_distance part code query) units
 unfolding is_near
 near_at_part bits units code query part is_code is_query =
-    ap (λ n. nat_lt n units) (distance_codes (length part) (bits_at code part) (bits_at query part) (part_is_code bits code part is_code) (part_is_code bits query part is_query))
+    ap (λ n. nat_lt n units)
+    (distance_codes (length part) (bits_at code part) (bits_at query part) (part_is_code bits code part is_code)
+    (part_is_code bits query part is_query))
 
 near_rows : (bits units : ℕ) (rows : List (ℕ × List ℕ)) (part query : List ℕ) → AreCodeRows bits rows → IsCode bits query
     → filter (λ row. is_near (part_value query part) units (part_value row.1 part)) rows ≡ rows_found rows part query units
@@ -90,8 +94,10 @@ near_rows bits units (row ∷ rows) part query codes is_query =
     ap (λ keep. cond keep (row ∷ filter near rows) (filter near rows)) (near_at_part bits units row.1 query part codes.0 is_query)
     ∙ ap (λ others. cond (nat_lt (part_distance part row.1 query) units) (row ∷ others) others) (near_rows bits units rows part query codes.1 is_query)
 
-value_sum : (units : ℕ) (rows : List (ℕ × List ℕ)) (part : List ℕ) (value : ℕ) (f : ℕ × List ℕ → ℕ) → AllByRecursion (λ row. part_value row.1 part < 2 ^ length part) rows
-    → sum_by (λ v. sum_by f (rows_with rows part v)) (values_near value (length part) units) ≡ sum_by f (filter (λ row. is_near value units (part_value row.1 part)) rows)
+value_sum : (units : ℕ) (rows : List (ℕ × List ℕ)) (part : List ℕ) (value : ℕ) (f : ℕ × List ℕ → ℕ)
+    → AllByRecursion (λ row. part_value row.1 part < 2 ^ length part) rows
+    → sum_by (λ v. sum_by f (rows_with rows part v)) (values_near value (length part) units)
+    ≡ sum_by f (filter (λ row. is_near value units (part_value row.1 part)) rows)
 unfolding values_near values
 value_sum units rows part value f below = sum_elements f (λ row. part_value row.1 part) (is_near value units) (2 ^ length part) rows below
 
@@ -107,15 +113,18 @@ ball_reads bits units rows part query lists codes is_query are_lists = record { 
     sums f =
         let listed = λ (v : ℕ). sum_by f (lists v) in
         let of_rows = λ (v : ℕ). sum_by f (rows_with rows part v) in
-        let each = All-weaker (λ v. v < 2 ^ length part) (λ v. listed v ≡ of_rows v) (λ v below. (are_lists.each v below).sums f) (values_near value (length part) units) (near_below value (length part) units) in
+        let each = All-weaker (λ v. v < 2 ^ length part) (λ v. listed v ≡ of_rows v) (λ v below. (are_lists.each v below).sums f)
+        (values_near value (length part) units) (near_below value (length part) units) in
         sum_flat_map f lists (ball value (length part) units)
         ∙ ball_sum listed value (length part) units
-        ∙ sum_agrees listed of_rows (values_near value (length part) units) (recursion_from_All (λ v. listed v ≡ of_rows v) (values_near value (length part) units) each)
+        ∙ sum_agrees listed of_rows (values_near value (length part) units)
+        (recursion_from_All (λ v. listed v ≡ of_rows v) (values_near value (length part) units) each)
         ∙ value_sum units rows part value f (values_below bits rows part codes)
         ∙ ap (sum_by f) (near_rows bits units rows part query codes is_query)
 
 -- as many rows are read as the part counts
-pub number_found : (read rows : List (ℕ × List ℕ)) (part query : List ℕ) (units : ℕ) → HasSame read (rows_found rows part query units) → length read ≡ part_count rows part query units
+pub number_found : (read rows : List (ℕ × List ℕ)) (part query : List ℕ) (units : ℕ)
+    → HasSame read (rows_found rows part query units) → length read ≡ part_count rows part query units
 number_found read rows part query units same =
     same_length read (rows_found rows part query units) same ∙ length-filter (λ row. nat_lt (part_distance part row.1 query) units) rows
 

@@ -10,8 +10,8 @@ ghost use Rattle.search_model.specs.Keeping.{hits_of_parts};
 /// Law: of what the parts find at the thresholds of a vector, each row within tau is kept exactly once,
 /// at the first part that finds it; put in order, these hits are the scan.
 pub fn near_rows_are_kept_once()
-    ensures { (bits tau : ℕ) (rows : List (ℕ × List ℕ)) (layout : List (List ℕ)) (thresholds : List ℤ)
-        (query : List ℕ) (read : List (List (ℕ × List ℕ))) →
+    ensures { (bits tau : ℕ) (rows : List (ℕ × List ℕ)) (layout : List (List ℕ))
+        (thresholds : List ℤ) (query : List ℕ) (read : List (List (ℕ × List ℕ))) →
         IsLayout bits layout → AreCodeRows bits rows → IsCode bits query →
         IsVector tau (length layout) thresholds → IsReading rows layout thresholds query read →
         in_order (hits_of_parts layout thresholds query tau 0 read) ≡ scan rows query tau }

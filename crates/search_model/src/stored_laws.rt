@@ -14,8 +14,9 @@ pub fn stored_rows_search_alike()
         StandsFor words bits stored code → take bits stored ≡ code }
     ensures rows { (bits positions : ℕ) (rows : List (ℕ × List ℕ)) → AreCodeRows bits rows →
         map (unpadded bits) (stored_rows positions rows) ≡ rows }
-    ensures values { (words bits : ℕ) (stored code part : List ℕ) → StandsFor words bits stored code →
-        All (λ position. position < bits) part → part_value stored part ≡ part_value code part }
+    ensures values { (words bits : ℕ) (stored code part : List ℕ) →
+        StandsFor words bits stored code → All (λ position. position < bits) part →
+        part_value stored part ≡ part_value code part }
     ensures apart { (words bits : ℕ) (stored other code query part : List ℕ) →
         StandsFor words bits stored code → StandsFor words bits other query →
         All (λ position. position < bits) part →

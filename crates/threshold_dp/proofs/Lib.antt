@@ -1,2 +1,3 @@
-pub mod TableLemmas
+pub mod RadiiLemmas
 pub mod RowsLemmas
+pub mod TableLemmas

@@ -1,3 +1,4 @@
 pub mod Kept
+pub mod Radii
 pub mod Room
 pub mod Table

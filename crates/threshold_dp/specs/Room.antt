@@ -1,4 +1,5 @@
--- What contracts see of the table and of the thresholds: the room that was reserved, and the entries.
+-- What contracts see of the table and of the thresholds: the room that was reserved,
+-- and the entries.
 use Rattle.std.specs.Prelude.{ℕ, ℤ, List}
 
 -- the greatest number of parts and the greatest radius that a table has room for

@@ -1,6 +1,6 @@
--- The table of the allocation: for each part a row of picks, and the costs of the parts from one on.
--- No public clause cites this module.
-use Rattle.std.specs.Prelude.{◌≡◌, ℕ, zero, suc, ◌+◌, ◌-◌, ◌*◌, ◌<◌, ◌≤◌, List, [], ◌∷◌, length, take, drop, slice_index}
+-- The table of the allocation: for each part a row of picks, and the costs of the parts from one
+-- on. No public clause cites this module.
+use Rattle.std.specs.Prelude.{◌≡◌, ℕ, zero, suc, ◌+◌, ◌-◌, ◌*◌, ◌^◌, ◌<◌, ◌≤◌, List, [], ◌∷◌, length, take, drop, slice_index}
 use Rattle.threshold_model.specs.Splits.{split_cost, IsBest}
 
 -- so many rows of one width, one behind another
@@ -22,12 +22,13 @@ pub record IsFirstLeast (value : ℕ → ℕ) (last place : ℕ) : Type 0 where
 -- the counts of a part, asked for each number of units below the width
 pub record AreAsked (count : ℕ → ℕ → ℕ) (part width : ℕ) (asked : List ℕ) : Type 0 where
   pub counts : (units : ℕ) → units < width → slice_index asked units ≡ count part units
-  pub small : (units : ℕ) → units < width → slice_index asked units ≤ 4294967295
+  pub small : (units : ℕ) → units < width → slice_index asked units ≤ 2 ^ 32 - 1
 
 -- counts that never fall as the units rise
 abbrev pub NeverFallIn : List ℕ → Type 0
 NeverFallIn asked =
-    (fewer more : ℕ) → fewer ≤ more → more < length asked → slice_index asked fewer ≤ slice_index asked more
+    (fewer more : ℕ) → fewer ≤ more → more < length asked → slice_index asked fewer
+    ≤ slice_index asked more
 
 -- one part's count at its units, and the cost of the rest at the units that are left
 abbrev pub joint_cost : List ℕ → List ℕ → ℕ → ℕ → ℕ
@@ -35,8 +36,10 @@ joint_cost asked costs units pick = slice_index asked pick + slice_index costs (
 
 -- a row of picks, and the costs with this part, from so many units on
 pub record IsRowFrom (from width : ℕ) (asked before costs picks : List ℕ) : Type 0 where
-  pub picked : (units : ℕ) → from ≤ units → units < width → IsFirstLeast (joint_cost asked before units) units (slice_index picks units)
-  pub added : (units : ℕ) → from ≤ units → units < width → slice_index costs units ≡ joint_cost asked before units (slice_index picks units)
+  pub picked : (units : ℕ) → from ≤ units → units < width
+      → IsFirstLeast (joint_cost asked before units) units (slice_index picks units)
+  pub added : (units : ℕ) → from ≤ units → units < width
+      → slice_index costs units ≡ joint_cost asked before units (slice_index picks units)
   pub kept : (units : ℕ) → units < from → slice_index costs units ≡ slice_index before units
 
 -- the row of a part that takes all units, and its costs
@@ -45,7 +48,9 @@ pub record IsLastRow (width : ℕ) (asked costs picks : List ℕ) : Type 0 where
   pub asked_is : (units : ℕ) → units < width → slice_index costs units ≡ slice_index asked units
 
 -- the rows and the costs of the parts from this one on are solved for all units below the width
-pub record IsSolved (count : ℕ → ℕ → ℕ) (part : ℕ) (rows : List (List ℕ)) (costs : List ℕ) (width : ℕ) : Type 0 where
+pub record IsSolved (count : ℕ → ℕ → ℕ) (part : ℕ) (rows : List (List ℕ)) (costs : List ℕ)
+    (width : ℕ) : Type 0 where
   pub best : (units : ℕ) → units < width → IsBest count part (length rows) units (follow rows units)
-  pub cost : (units : ℕ) → units < width → slice_index costs units ≡ split_cost count part (follow rows units)
-  pub bound : (units : ℕ) → units < width → slice_index costs units ≤ length rows * 4294967295
+  pub cost : (units : ℕ) → units < width
+      → slice_index costs units ≡ split_cost count part (follow rows units)
+  pub bound : (units : ℕ) → units < width → slice_index costs units ≤ length rows * (2 ^ 32 - 1)

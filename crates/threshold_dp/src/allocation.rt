@@ -43,6 +43,8 @@ pub fn allocate<C: PartCounts>(
         scratch.costs.as_mut_slice(),
         scratch.picks.as_mut_slice(),
     );
-    read_out(scratch.picks.as_slice(), tau, parts, out);
+    let units = tau as usize + 1;
+    let width = tau as usize + 2;
+    read_out(scratch.picks.as_slice(), width, units, parts, out);
     least
 }

@@ -4,11 +4,13 @@
 
 mod allocation;
 mod part_counts;
+mod radii;
 mod scratch;
 mod table;
 mod thresholds;
 
 pub use allocation::allocate;
 pub use part_counts::PartCounts;
+pub use radii::Radii;
 pub use scratch::Scratch;
 pub use thresholds::Thresholds;

@@ -1,4 +1,5 @@
 ghost use Rattle.std.specs.Prelude.{◌≡◌, ◌<◌, ◌≤◌, IfOk};
+ghost use Rattle.hamming_model.specs.declared.limits.TheConstants.{PARTS_MOST};
 
 use read_meter::NoMemory;
 use std::alloc::Global;
@@ -31,7 +32,7 @@ impl Scratch {
     /// Room for up to so many parts and for radii up to tau: (tau + 2) * (parts * 2 + 12) bytes.
     pub fn reserve(alloc: Global, parts: usize, tau: u32) -> Result<Scratch, NoMemory>
         requires some { 0 < parts }
-        requires few { parts ≤ 64 }
+        requires few { parts ≤ PARTS_MOST }
         requires near { tau ≤ 512 }
         ensures room { IfOk result (λ scratch. scratch ≡ record { parts = parts; tau = tau }) }
     {

@@ -1,6 +1,7 @@
 // The table of the allocation, filled from the last part to the first.
 
-ghost use Rattle.std.specs.Prelude.{◌≡◌, ℕ, ◌+◌, ◌*◌, ◌<◌, ◌≤◌, length, map, slice_index};
+ghost use Rattle.std.specs.Prelude.{◌≡◌, ℕ, ◌+◌, ◌-◌, ◌*◌, ◌^◌, ◌<◌, ◌≤◌, length, map, slice_index};
+ghost use Rattle.hamming_model.specs.declared.limits.TheConstants.{PARTS_MOST};
 ghost use Rattle.threshold_model.specs.Splits.{threshold_of, units_total, split_cost, IsBest};
 ghost use Rattle.threshold_dp.specs.Table.{AreAsked, IsFirstLeast, NeverFallIn, joint_cost};
 ghost use Rattle.threshold_dp.specs.Table.{IsRowFrom, IsLastRow, IsSolved, pick_rows, follow};
@@ -33,7 +34,8 @@ fn cheapest_units(asked: &[u32], costs: &[u64], units: usize) -> Pick
     requires asked { units < length asked.now }
     requires costs { units < length costs.now }
     requires rises { NeverFallIn asked.now }
-    requires bound { (other : ℕ) → other ≤ units → slice_index costs.now other ≤ 64 * 4294967295 }
+    requires bound { (other : ℕ) → other ≤ units →
+        slice_index costs.now other ≤ PARTS_MOST * (2 ^ 32 - 1) }
     ensures first { IsFirstLeast (joint_cost asked.now costs.now units) units result.units }
     ensures cost { result.cost ≡ joint_cost asked.now costs.now units result.units }
 {
@@ -66,7 +68,7 @@ fn add_part(asked: &[u32], costs: &mut [u64], picks: &mut [u16])
     requires narrow { length asked.now ≤ 514 }
     requires rises { NeverFallIn asked.now }
     requires bound { (units : ℕ) → units < length asked.now →
-        slice_index costs.old units ≤ 64 * 4294967295 }
+        slice_index costs.old units ≤ PARTS_MOST * (2 ^ 32 - 1) }
     ensures row { IsRowFrom 0 (length asked.now) asked.now costs.old costs.new picks.new }
 {
     let mut units = asked.len();
@@ -92,7 +94,7 @@ fn add_last_part(asked: &[u32], costs: &mut [u64], picks: &mut [u16])
 }
 
 // Solves so many parts from the last one to the first, for all units below the width of the counts.
-fn solve_parts<C: PartCounts>(
+pub(crate) fn solve_parts<C: PartCounts>(
     counts: &C,
     parts: usize,
     asked: &mut [u32],
@@ -100,7 +102,7 @@ fn solve_parts<C: PartCounts>(
     picks: &mut [u16],
 )
     requires some { 0 < parts }
-    requires few { parts ≤ 64 }
+    requires few { parts ≤ PARTS_MOST }
     requires counted { parts ≤ C.parts counts.now }
     requires wide { 0 < length asked.old }
     requires narrow { length asked.old ≤ 514 }
@@ -132,7 +134,7 @@ pub(crate) fn solve<C: PartCounts>(
     picks: &mut [u16],
 ) -> u64
     requires some { 0 < parts }
-    requires few { parts ≤ 64 }
+    requires few { parts ≤ PARTS_MOST }
     requires counted { parts ≤ C.parts counts.now }
     requires near { tau ≤ 512 }
     requires asked { tau + 2 ≤ length asked.old }
@@ -154,19 +156,25 @@ pub(crate) fn solve<C: PartCounts>(
     costs[width - 1]
 }
 
-// Reads the split of tau + 1 units out of the rows of so many parts.
-pub(crate) fn read_out(picks: &[u16], tau: u32, parts: usize, out: &mut Thresholds)
+// Reads the split of so many units out of the rows of so many parts.
+pub(crate) fn read_out(
+    picks: &[u16],
+    width: usize,
+    units: usize,
+    parts: usize,
+    out: &mut Thresholds,
+)
     requires room { parts ≤ out.old.room }
-    requires near { tau ≤ 512 }
-    requires wide { parts * (tau + 2) ≤ length picks.now }
-    requires sum { units_total (follow (pick_rows (tau + 2) parts picks.now) (tau + 1)) ≡ tau + 1 }
+    requires narrow { width ≤ 514 }
+    requires within { units < width }
+    requires wide { parts * width ≤ length picks.now }
+    requires sum { units_total (follow (pick_rows width parts picks.now) units) ≡ units }
     ensures entries { out.new.entries
-        ≡ map threshold_of (follow (pick_rows (tau + 2) parts picks.now) (tau + 1)) }
+        ≡ map threshold_of (follow (pick_rows width parts picks.now) units) }
     ensures room { out.new.room ≡ out.old.room }
 {
     out.clear();
-    let width = tau as usize + 2;
-    let mut left = width - 1;
+    let mut left = units;
     for part in 0..parts {
         let pick = picks[part * width + left];
         out.push(pick);

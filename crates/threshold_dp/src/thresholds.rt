@@ -1,4 +1,5 @@
 ghost use Rattle.std.specs.Prelude.{◌≡◌, ◌<◌, ◌≤◌, List, [], ◌∷◌, ◌++◌, length, IfOk};
+ghost use Rattle.hamming_model.specs.declared.limits.TheConstants.{PARTS_MOST};
 ghost use Rattle.threshold_model.specs.Splits.{threshold_of};
 
 use read_meter::NoMemory;
@@ -27,7 +28,7 @@ impl Thresholds {
     /// No entries, and room for one for each of so many parts.
     pub fn reserve(alloc: Global, parts: usize) -> Result<Thresholds, NoMemory>
         requires some { 0 < parts }
-        requires few { parts ≤ 64 }
+        requires few { parts ≤ PARTS_MOST }
         ensures empty { IfOk result (λ thresholds. thresholds.entries ≡ []) }
         ensures room { IfOk result (λ thresholds. thresholds.room ≡ parts) }
     {

@@ -38,7 +38,8 @@ module _ (count : ℕ → ℕ → ℕ) (tau parts : ℕ) (split : List ℕ) (bes
   none_before : (us : List ℤ) → IsVector tau parts us → cost count us ≡ cost count (map threshold_of split) → ComesBefore us (map threshold_of split) → ⊥
   none_before us vector same before =
       best.none_before (map units_of us) (split_of_vector tau parts us vector) (sym (cost_units count 0 us) ∙ same ∙ cost_is)
-      (subst (StandsBefore (map units_of us)) (units_all split) (before_units us (map threshold_of split) (entries_are_low tau parts us vector) (thresholds_are_low split) before))
+      (subst (StandsBefore (map units_of us)) (units_all split)
+      (before_units us (map threshold_of split) (entries_are_low tau parts us vector) (thresholds_are_low split) before))
 
   pub choice_is : IsChoice count tau parts (map threshold_of split)
   choice_is = record { vector = vector_of_split tau parts split best.splits; none_cheaper = none_cheaper; none_before = none_before }
@@ -70,24 +71,28 @@ module _ (count : ℕ → ℕ → ℕ) (part parts units pick left : ℕ) (rest 
       let split_here = subst (λ v. IsSplit (suc parts) units (v ∷ vs)) same split in
       omega (arith, best_rest.none_cheaper vs (rest_splits vs split_here), ap (count part) same)
 
-  same_before : (v : ℕ) (vs : List ℕ) → v ≡ pick → IsSplit (suc parts) units (v ∷ vs) → split_cost count part (v ∷ vs) ≡ split_cost count part (pick ∷ rest) → StandsBefore vs rest → ⊥
+  same_before : (v : ℕ) (vs : List ℕ) → v ≡ pick → IsSplit (suc parts) units (v ∷ vs)
+      → split_cost count part (v ∷ vs) ≡ split_cost count part (pick ∷ rest) → StandsBefore vs rest → ⊥
   same_before v vs same split cost before =
       let split_here = subst (λ v. IsSplit (suc parts) units (v ∷ vs)) same split in
       best_rest.none_before vs (rest_splits vs split_here) (omega (arith, ap (count part) same)) before
 
   module _ (most : ℕ) (best : List ℕ) (up_to : IsBestUpTo count part (suc parts) units most best) (next : pick ≡ most + 1) where
-    cheaper_new : split_cost count part (pick ∷ rest) < split_cost count part best → (us : List ℕ) → IsSplit (suc parts) units us → first_units us ≤ pick → split_cost count part (pick ∷ rest) ≤ split_cost count part us
+    cheaper_new : split_cost count part (pick ∷ rest) < split_cost count part best → (us : List ℕ) → IsSplit (suc parts) units us
+        → first_units us ≤ pick → split_cost count part (pick ∷ rest) ≤ split_cost count part us
     cheaper_new less [] split le = let size : zero ≡ suc parts = split.size in absurd (omega arith)
     cheaper_new less (v ∷ vs) split le =
         ⊎_elim (λ (lt : v < pick). let fewer : v ≤ most = omega arith in omega (arith, up_to.none_cheaper (v ∷ vs) split fewer))
         (λ (ge : pick ≤ v). same_cheaper v vs (omega arith) split) (cases_lt v pick)
 
-    before_new : split_cost count part (pick ∷ rest) < split_cost count part best → (us : List ℕ) → IsSplit (suc parts) units us → first_units us ≤ pick → split_cost count part us ≡ split_cost count part (pick ∷ rest) → StandsBefore us (pick ∷ rest) → ⊥
+    before_new : split_cost count part (pick ∷ rest) < split_cost count part best → (us : List ℕ) → IsSplit (suc parts) units us
+        → first_units us ≤ pick → split_cost count part us ≡ split_cost count part (pick ∷ rest) → StandsBefore us (pick ∷ rest) → ⊥
     before_new less [] split le same before = let size : zero ≡ suc parts = split.size in absurd (omega arith)
     before_new less (v ∷ vs) split le same (inl earlier) = let fewer : v ≤ most = omega arith in omega (arith, up_to.none_cheaper (v ∷ vs) split fewer)
     before_new less (v ∷ vs) split le same (inr later) = same_before v vs later.0 split same later.1
 
-    cheaper_old : split_cost count part best ≤ split_cost count part (pick ∷ rest) → (us : List ℕ) → IsSplit (suc parts) units us → first_units us ≤ pick → split_cost count part best ≤ split_cost count part us
+    cheaper_old : split_cost count part best ≤ split_cost count part (pick ∷ rest) → (us : List ℕ) → IsSplit (suc parts) units us
+        → first_units us ≤ pick → split_cost count part best ≤ split_cost count part us
     cheaper_old least [] split le = let size : zero ≡ suc parts = split.size in absurd (omega arith)
     cheaper_old least (v ∷ vs) split le =
         ⊎_elim (λ (lt : v < pick). up_to.none_cheaper (v ∷ vs) split (omega arith))
@@ -98,7 +103,8 @@ module _ (count : ℕ → ℕ → ℕ) (part parts units pick left : ℕ) (rest 
     not_before v vs (b ∷ bs) size le ge (inl earlier) = omega arith
     not_before v vs (b ∷ bs) size le ge (inr later) = let same : v ≡ b = later.0 in omega arith
 
-    before_old : (us : List ℕ) → IsSplit (suc parts) units us → first_units us ≤ pick → split_cost count part us ≡ split_cost count part best → StandsBefore us best → ⊥
+    before_old : (us : List ℕ) → IsSplit (suc parts) units us → first_units us ≤ pick
+        → split_cost count part us ≡ split_cost count part best → StandsBefore us best → ⊥
     before_old [] split le same before = let size : zero ≡ suc parts = split.size in omega arith
     before_old (v ∷ vs) split le same before =
         ⊎_elim (λ (lt : v < pick). up_to.none_before (v ∷ vs) split (omega arith) same before)
@@ -118,19 +124,26 @@ module _ (count : ℕ → ℕ → ℕ) (part parts units : ℕ) (rest : List ℕ
   cheaper_none [] split le = let size : zero ≡ suc parts = split.size in absurd (omega arith)
   cheaper_none (v ∷ vs) split le = same_cheaper count part parts units 0 units rest (omega arith) best_rest v vs (omega arith) split
 
-  before_none : (us : List ℕ) → IsSplit (suc parts) units us → first_units us ≤ 0 → split_cost count part us ≡ split_cost count part (0 ∷ rest) → StandsBefore us (0 ∷ rest) → ⊥
+  before_none : (us : List ℕ) → IsSplit (suc parts) units us → first_units us ≤ 0
+      → split_cost count part us ≡ split_cost count part (0 ∷ rest) → StandsBefore us (0 ∷ rest) → ⊥
   before_none [] split le same before = let size : zero ≡ suc parts = split.size in omega arith
   before_none (v ∷ vs) split le same (inl earlier) = omega arith
   before_none (v ∷ vs) split le same (inr later) = same_before count part parts units 0 units rest (omega arith) best_rest v vs later.0 split same later.1
 
   pub up_to_none : IsBestUpTo count part (suc parts) units 0 (0 ∷ rest)
-  up_to_none = record { splits = front_splits count part parts units 0 units rest (omega arith) best_rest; among = omega arith; none_cheaper = cheaper_none; none_before = before_none }
+  up_to_none = record {
+    splits = front_splits count part parts units 0 units rest (omega arith) best_rest;
+    among = omega arith;
+    none_cheaper = cheaper_none;
+    none_before = before_none;
+  }
 
 few_first : (parts units : ℕ) (us : List ℕ) → IsSplit parts units us → first_units us ≤ units
 few_first parts units [] split = omega arith
 few_first parts units (u ∷ us) split = let sum : u + units_total us ≡ units = split.sum in omega arith
 
-pub best_of_all : (count : ℕ → ℕ → ℕ) (part parts units : ℕ) (split : List ℕ) → IsBestUpTo count part parts units units split → IsBest count part parts units split
+pub best_of_all : (count : ℕ → ℕ → ℕ) (part parts units : ℕ) (split : List ℕ) → IsBestUpTo count part parts units units split
+    → IsBest count part parts units split
 best_of_all count part parts units split h =
     record {
       splits = h.splits;

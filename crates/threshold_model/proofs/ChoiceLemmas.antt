@@ -15,7 +15,9 @@ same_or_apart t u =
     by_lt_z t u (λ less. inr (inl less)) (λ le. by_lt_z u t (λ less. inr (inr less)) (λ other. inl (omega (arith, ints))))
 
 -- of two lists of one length that differ one comes before the other
-in_order : (ts us : List ℤ) → length ts ≡ length us → (t u : ℤ) → (t ≡ u) ⊎ ((t <ℤ u) ⊎ (u <ℤ t)) → ((ts ≡ us) ⊎ (ComesBefore ts us ⊎ ComesBefore us ts)) → ((t ∷ ts) ≡ (u ∷ us)) ⊎ (ComesBefore (t ∷ ts) (u ∷ us) ⊎ ComesBefore (u ∷ us) (t ∷ ts))
+in_order : (ts us : List ℤ) → length ts ≡ length us → (t u : ℤ) → (t ≡ u) ⊎ ((t <ℤ u) ⊎ (u <ℤ t))
+    → ((ts ≡ us) ⊎ (ComesBefore ts us ⊎ ComesBefore us ts))
+    → ((t ∷ ts) ≡ (u ∷ us)) ⊎ (ComesBefore (t ∷ ts) (u ∷ us) ⊎ ComesBefore (u ∷ us) (t ∷ ts))
 in_order ts us size t u (inr (inl less)) rest = inr (inl (inl less))
 in_order ts us size t u (inr (inr less)) rest = inr (inr (inl less))
 in_order ts us size t u (inl same) (inl others) = inl (cc)
@@ -60,11 +62,13 @@ first_part_vector tau parts some =
       sum = omega (arith, ints);
     }
 
-cost_unsearched : (count : ℕ → ℕ → ℕ) (parts n part : ℕ) → ((other : ℕ) → other < parts → count other 0 ≡ 0) → part + n ≤ parts → cost_from count part (replicate n (negsuc 0)) ≡ 0
+cost_unsearched : (count : ℕ → ℕ → ℕ) (parts n part : ℕ) → ((other : ℕ) → other < parts → count other 0 ≡ 0) → part + n ≤ parts
+    → cost_from count part (replicate n (negsuc 0)) ≡ 0
 cost_unsearched count parts zero part none fits = refl
 cost_unsearched count parts (suc n) part none fits = omega (arith, none part (omega arith), cost_unsearched count parts n (part + 1) none (omega arith))
 
-pub least_at_most : (count : ℕ → ℕ → ℕ) (tau parts most least : ℕ) → 0 < parts → ((part : ℕ) → part < parts → count part 0 ≡ 0) → ((part units : ℕ) → part < parts → count part units ≤ most) → IsLeast count tau parts least → least ≤ most
+pub least_at_most : (count : ℕ → ℕ → ℕ) (tau parts most least : ℕ) → 0 < parts → ((part : ℕ) → part < parts → count part 0 ≡ 0)
+    → ((part units : ℕ) → part < parts → count part units ≤ most) → IsLeast count tau parts least → least ≤ most
 least_at_most count tau parts most least some none few is_least =
     let rest : cost_from count (0 + 1) (replicate (parts - 1) (negsuc 0)) ≡ 0 = cost_unsearched count parts (parts - 1) (0 + 1) none (omega arith) in
     omega (arith, is_least.none_cheaper (at_first_part tau parts) (first_part_vector tau parts some), few 0 (suc tau) some)
@@ -79,9 +83,15 @@ hit_rises d fewer more le = grind (arith, nat_tests)
 rows_none : (rows : List (ℕ × List ℕ)) (part query : List ℕ) → part_count rows part query 0 ≡ 0
 rows_none [] part query = refl
 rows_none (row ∷ rows) part query =
-    omega (arith, none_below (part_distance part row.1 query), sum_by-cons (λ (row : ℕ × List ℕ). cond (ltb (part_distance part row.1 query) 0) 1 0) row rows, rows_none rows part query)
+    omega (
+      arith,
+      none_below (part_distance part row.1 query),
+      sum_by-cons (λ (row : ℕ × List ℕ). cond (ltb (part_distance part row.1 query) 0) 1 0) row rows,
+      rows_none rows part query,
+    )
 
-rows_rise : (rows : List (ℕ × List ℕ)) (part query : List ℕ) (fewer more : ℕ) → fewer ≤ more → part_count rows part query fewer ≤ part_count rows part query more
+rows_rise : (rows : List (ℕ × List ℕ)) (part query : List ℕ) (fewer more : ℕ) → fewer ≤ more
+    → part_count rows part query fewer ≤ part_count rows part query more
 rows_rise [] part query fewer more le = omega arith
 rows_rise (row ∷ rows) part query fewer more le =
     omega (
@@ -98,10 +108,12 @@ row_counts_start rows layout query part = rows_none rows (get_or layout part [])
 pub row_counts_rise : (rows : List (ℕ × List ℕ)) (layout : List (List ℕ)) (query : List ℕ) (part : ℕ) → NeverFalls (row_counts rows layout query part)
 row_counts_rise rows layout query part = rows_rise rows (get_or layout part []) query
 
-pub row_counts_few : (rows : List (ℕ × List ℕ)) (layout : List (List ℕ)) (query : List ℕ) (part units : ℕ) → row_counts rows layout query part units ≤ length rows
+pub row_counts_few : (rows : List (ℕ × List ℕ)) (layout : List (List ℕ)) (query : List ℕ) (part units : ℕ)
+    → row_counts rows layout query part units ≤ length rows
 row_counts_few rows layout query part units = count_by-le-length (λ (row : ℕ × List ℕ). ltb (part_distance (get_or layout part []) row.1 query) units) rows
 
-pub least_of_rows : (rows : List (ℕ × List ℕ)) (layout : List (List ℕ)) (query : List ℕ) (tau least : ℕ) → 0 < length layout → IsLeast (row_counts rows layout query) tau (length layout) least → least ≤ length rows
+pub least_of_rows : (rows : List (ℕ × List ℕ)) (layout : List (List ℕ)) (query : List ℕ) (tau least : ℕ) → 0 < length layout
+    → IsLeast (row_counts rows layout query) tau (length layout) least → least ≤ length rows
 least_of_rows rows layout query tau least some is_least =
     least_at_most (row_counts rows layout query) tau (length layout) (length rows) least some
     (λ part less. row_counts_start rows layout query part) (λ part units less. row_counts_few rows layout query part units) is_least
@@ -111,7 +123,8 @@ total_low [] low = omega (arith, ints)
 total_low (t ∷ ts) low = let rest = total_low ts low.1 in let first = low.0 in omega (arith, ints)
 
 -- no entry exceeds tau
-pub entry_small : (ts : List ℤ) (low : AllByRecursion (λ threshold. negsuc 0 ≤ℤ threshold) ts) (tau : ℕ) → (total ts +ℤ pos (length ts)) ≤ℤ pos (tau + 1) → AllByRecursion (λ threshold. threshold ≤ℤ pos tau) ts
+pub entry_small : (ts : List ℤ) (low : AllByRecursion (λ threshold. negsuc 0 ≤ℤ threshold) ts) (tau : ℕ)
+    → (total ts +ℤ pos (length ts)) ≤ℤ pos (tau + 1) → AllByRecursion (λ threshold. threshold ≤ℤ pos tau) ts
 entry_small [] low tau sum = tt
 entry_small (t ∷ ts) low tau sum =
     let rest = total_low ts low.1 in

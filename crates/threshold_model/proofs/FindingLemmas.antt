@@ -26,7 +26,8 @@ first_later u d us ds le = grind (arith, nat_tests)
 below_here : (u d : ℕ) (us ds : List ℕ) → d < u → IsFirstBelow (u ∷ us) (d ∷ ds) 0
 below_here u d us ds less = record { within = omega arith; below = less; first = λ earlier lt. absurd (omega arith) }
 
-earlier_all : (u d : ℕ) (us ds : List ℕ) (place : ℕ) → u ≤ d → ((k : ℕ) → k < place → get_or us k 0 ≤ get_or ds k 0) → (k : ℕ) → k < suc place → get_or (u ∷ us) k 0 ≤ get_or (d ∷ ds) k 0
+earlier_all : (u d : ℕ) (us ds : List ℕ) (place : ℕ) → u ≤ d → ((k : ℕ) → k < place → get_or us k 0 ≤ get_or ds k 0) → (k : ℕ)
+    → k < suc place → get_or (u ∷ us) k 0 ≤ get_or (d ∷ ds) k 0
 earlier_all u d us ds place le first zero less = le
 earlier_all u d us ds place le first (suc k) less = first k (omega arith)
 
@@ -74,7 +75,8 @@ found_of_below ts ds place size h =
     }
 
 pub near_code_found : (bits tau : ℕ) (layout : List (List ℕ)) (ts : List ℤ) (code query : List ℕ) → IsLayout bits layout → IsCode bits code → IsCode bits query
-    → IsVector tau (length layout) ts → distance code query ≤ tau → IsFirstFound ts (part_distances layout code query) (first_part (map units_of ts) (part_distances layout code query))
+    → IsVector tau (length layout) ts → distance code query ≤ tau
+    → IsFirstFound ts (part_distances layout code query) (first_part (map units_of ts) (part_distances layout code query))
 near_code_found bits tau layout ts code query lay is_code is_query vector near =
     let split = split_of_vector tau (length layout) ts vector in
     let units : units_total (map units_of ts) ≡ tau + 1 = split.sum in

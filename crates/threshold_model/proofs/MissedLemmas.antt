@@ -38,7 +38,8 @@ marked_right (x ∷ xs) ys p = omega (arith, marked_right xs ys p, marked_more x
 
 one_hit : (x n : ℕ) → below (λ p. cond (eqb x p) 1 0) n ≤ 1
 one_hit x n =
-    ⊎_elim (λ (less : x < n). let e = below_one (λ p. cond (eqb x p) 1 0) x n less (λ p ne. grind (arith, nat_tests)) in let small : cond (eqb x x) 1 0 ≤ 1 = grind (arith, nat_tests) in omega arith)
+    ⊎_elim (λ (less : x < n). let e = below_one (λ p. cond (eqb x p) 1 0) x n less (λ p ne. grind (arith, nat_tests)) in
+    let small : cond (eqb x x) 1 0 ≤ 1 = grind (arith, nat_tests) in omega arith)
     (λ (le : n ≤ x). let e = below_none (λ p. cond (eqb x p) 1 0) n (λ p less. grind (arith, nat_tests)) in omega arith) (cases_lt x n)
 
 marked_few : (xs : List ℕ) (n : ℕ) → below (marked xs) n ≤ length xs
@@ -71,7 +72,8 @@ turned_at (x ∷ ps) query p less small =
     (λ (e : x ≡ p).
     let inside : p < length (turned ps query) = omega (arith, length_turned ps query) in
     subst (λ x. difference (get_or (set (turned ps query) x (1 - get_or query x 0)) p 0) (get_or query p 0) ≡ marked (x ∷ ps) p) (sym e)
-    (ap (λ bit. difference bit (get_or query p 0)) (get_or-set_same (turned ps query) p (1 - get_or query p 0) 0 inside) ∙ turned_bit (get_or query p 0) small ∙ sym (marked_here p ps)))
+    (ap (λ bit. difference bit (get_or query p 0)) (get_or-set_same (turned ps query) p (1 - get_or query p 0) 0 inside)
+    ∙ turned_bit (get_or query p 0) small ∙ sym (marked_here p ps)))
     (λ (ne : x ≢ p).
     ap (λ bit. difference bit (get_or query p 0)) (get_or-set_other (turned ps query) x p (1 - get_or query x 0) 0 (λ same. ne (sym same)))
     ∙ turned_at ps query p less small ∙ sym (marked_elsewhere x p ps ne))
@@ -90,7 +92,8 @@ all_right n [] ys all = all
 all_right n (x ∷ xs) ys all = all_right n xs ys all.1
 
 -- a function that is at least 1 at the first positions of a part adds up to their number
-count_marked : (g : ℕ → ℕ) (n u : ℕ) (part : List ℕ) → AllByRecursion (λ p. p < n) part → ((p : ℕ) → p < n → marked (take u part) p ≤ g p) → u ≤ length part → u ≤ sum_by g part
+count_marked : (g : ℕ → ℕ) (n u : ℕ) (part : List ℕ) → AllByRecursion (λ p. p < n) part
+    → ((p : ℕ) → p < n → marked (take u part) p ≤ g p) → u ≤ length part → u ≤ sum_by g part
 count_marked g n zero part inside le fits = omega arith
 count_marked g n (suc u) [] inside le fits = absurd (omega arith)
 count_marked g n (suc u) (x ∷ part) inside le fits =
@@ -114,8 +117,10 @@ covers_at (u ∷ us) [] covers k = absurd covers
 covers_at (u ∷ us) (d ∷ ds) covers zero = covers.0
 covers_at (u ∷ us) (d ∷ ds) covers (suc k) = covers_at us ds covers.1 k
 
-parts_covered : (code query : List ℕ) (n : ℕ) (ts : List ℤ) (layout : List (List ℕ)) → length ts ≡ length layout → AllByRecursion (λ p. p < n) (flat_map (λ part. part) layout)
-    → FitWidths ts layout → ((p : ℕ) → p < n → marked (missed_positions ts layout) p ≤ difference_at code query p) → Covers (map units_of ts) (part_distances layout code query)
+parts_covered : (code query : List ℕ) (n : ℕ) (ts : List ℤ) (layout : List (List ℕ)) → length ts ≡ length layout
+    → AllByRecursion (λ p. p < n) (flat_map (λ part. part) layout)
+    → FitWidths ts layout → ((p : ℕ) → p < n → marked (missed_positions ts layout) p ≤ difference_at code query p)
+    → Covers (map units_of ts) (part_distances layout code query)
 parts_covered code query n [] layout size inside fits le = tt
 parts_covered code query n (t ∷ ts) [] size inside fits le = absurd (omega arith)
 parts_covered code query n (t ∷ ts) (part ∷ layout) size inside fits le =
@@ -161,14 +166,20 @@ module _ (bits tau : ℕ) (layout : List (List ℕ)) (ts : List ℤ) (query : Li
       let sums = units_sum (part_distances layout (missed_code ts layout query) query) in
       let low = covers_total (map units_of ts) (part_distances layout (missed_code ts layout query) query) covered in
       let by_bits = distance_below (missed_code ts layout query) query (code_size ∙ sym is_query.size) in
-      let wide : below (difference_at (missed_code ts layout query) query) (length query) ≡ below (difference_at (missed_code ts layout query) query) bits = ap (below (difference_at (missed_code ts layout query) query)) is_query.size in
+      let wide : below (difference_at (missed_code ts layout query) query) (length query)
+      ≡ below (difference_at (missed_code ts layout query) query) bits =
+      ap (below (difference_at (missed_code ts layout query) query)) is_query.size in
       let same = below_same (difference_at (missed_code ts layout query) query) (marked (missed_positions ts layout)) bits marks in
       let few = marked_few (missed_positions ts layout) bits in
       omega (arith, positions_few ts layout, units_are)
 
   pub code_missed : IsMissed bits tau layout ts query (missed_code ts layout query)
   code_missed = record {
-    is_code = record { size = code_size; binary = recursion_from_All (λ bit. bit < 2) (missed_code ts layout query) (turned_binary (missed_positions ts layout) query binary) };
+    is_code = record {
+      size = code_size;
+      binary = recursion_from_All (λ bit. bit < 2) (missed_code ts layout query)
+          (turned_binary (missed_positions ts layout) query binary);
+    };
     near = distance_is;
     missed = λ part less.
         far_of_units (part_distance (get_or layout part []) (missed_code ts layout query) query) (threshold_at ts part)

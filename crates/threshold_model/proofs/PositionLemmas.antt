@@ -51,10 +51,12 @@ sum_by_counts f n (x ∷ xs) inside =
     let is_x : cond (eqb x x) 1 0 * f x ≡ f x = grind (arith, nat_tests) in
     let rest = sum_by_counts f n xs inside.1 in
     let step = below_add (λ p. cond (eqb x p) 1 0 * f p) (λ p. count_by (λ other. eqb other p) xs * f p) (λ p. count_by (λ other. eqb other p) (x ∷ xs) * f p) n
-    (λ p. spread (cond (eqb x p) 1 0) (count_by (λ other. eqb other p) xs) (f p) (count_by (λ other. eqb other p) (x ∷ xs)) (sum_by-cons (λ other. cond (eqb other p) 1 0) x xs)) in
+    (λ p. spread (cond (eqb x p) 1 0) (count_by (λ other. eqb other p) xs) (f p) (count_by (λ other. eqb other p) (x ∷ xs))
+    (sum_by-cons (λ other. cond (eqb other p) 1 0) x xs)) in
     omega (arith, sum_by-cons f x xs)
 
-pub sum_by_once : (f : ℕ → ℕ) (n : ℕ) (xs : List ℕ) → AllByRecursion (λ x. x < n) xs → ((p : ℕ) → p < n → count_by (λ other. eqb other p) xs ≡ 1) → sum_by f xs ≡ below f n
+pub sum_by_once : (f : ℕ → ℕ) (n : ℕ) (xs : List ℕ) → AllByRecursion (λ x. x < n) xs
+    → ((p : ℕ) → p < n → count_by (λ other. eqb other p) xs ≡ 1) → sum_by f xs ≡ below f n
 sum_by_once f n xs inside once =
     sum_by_counts f n xs inside ∙ below_same (λ p. count_by (λ other. eqb other p) xs * f p) f n (λ p less. let e = once p less in grind arith)
 
@@ -73,9 +75,11 @@ distance_below (a ∷ rest) (b ∷ others) size =
 
 pub part_distance_sum : (code query part : List ℕ) → part_distance part code query ≡ sum_by (difference_at code query) part
 part_distance_sum code query [] = refl
-part_distance_sum code query (p ∷ part) = ap (λ n. difference_at code query p + n) (part_distance_sum code query part) ∙ sym (sum_by-cons (difference_at code query) p part)
+part_distance_sum code query (p ∷ part) = ap (λ n. difference_at code query p + n) (part_distance_sum code query part)
+    ∙ sym (sum_by-cons (difference_at code query) p part)
 
-pub parts_sum : (code query : List ℕ) (layout : List (List ℕ)) → sum (part_distances layout code query) ≡ sum_by (difference_at code query) (flat_map (λ part. part) layout)
+pub parts_sum : (code query : List ℕ) (layout : List (List ℕ))
+    → sum (part_distances layout code query) ≡ sum_by (difference_at code query) (flat_map (λ part. part) layout)
 parts_sum code query [] = refl
 parts_sum code query (part ∷ layout) =
     sum_by-cons (λ x. x) (part_distance part code query) (part_distances layout code query)
@@ -85,9 +89,11 @@ parts_sum code query (part ∷ layout) =
 
 -- a sum over the parts of a layout is one over all positions
 pub layout_sum : (f : ℕ → ℕ) (bits : ℕ) (layout : List (List ℕ)) → IsLayout bits layout → sum_by f (flat_map (λ part. part) layout) ≡ below f bits
-layout_sum f bits layout h = sum_by_once f bits (flat_map (λ part. part) layout) (recursion_from_All (λ position. position < bits) (flat_map (λ part. part) layout) h.in_range) h.once
+layout_sum f bits layout h = sum_by_once f bits (flat_map (λ part. part) layout)
+    (recursion_from_All (λ position. position < bits) (flat_map (λ part. part) layout) h.in_range) h.once
 
-pub distance_is_sum : (bits : ℕ) (layout : List (List ℕ)) (code query : List ℕ) → IsLayout bits layout → length code ≡ bits → length query ≡ bits → distance code query ≡ sum (part_distances layout code query)
+pub distance_is_sum : (bits : ℕ) (layout : List (List ℕ)) (code query : List ℕ) → IsLayout bits layout → length code ≡ bits
+    → length query ≡ bits → distance code query ≡ sum (part_distances layout code query)
 distance_is_sum bits layout code query h size other =
     distance_below code query (size ∙ sym other) ∙ ap (below (difference_at code query)) other
     ∙ sym (layout_sum (difference_at code query) bits layout h) ∙ sym (parts_sum code query layout)

@@ -65,7 +65,8 @@ vector_of_split tau parts us h =
     let size : length (map threshold_of us) ≡ parts = length-map us threshold_of ∙ h.size in
     let all = total_units (map threshold_of us) low in
     let back : units_total (map units_of (map threshold_of us)) ≡ tau + 1 = ap units_total (units_all us) ∙ h.sum in
-    let same : total (map threshold_of us) +ℤ pos (length (map threshold_of us)) ≡ total (map threshold_of us) +ℤ pos parts = ap (λ n. total (map threshold_of us) +ℤ pos n) size in
+    let same : total (map threshold_of us) +ℤ pos (length (map threshold_of us)) ≡ total (map threshold_of us) +ℤ pos parts =
+    ap (λ n. total (map threshold_of us) +ℤ pos n) size in
     record { size = size; entries = All-from_recursion (λ threshold. negsuc 0 ≤ℤ threshold) (map threshold_of us) low; sum = sym same ∙ all ∙ ap pos back }
 
 pub entries_are_low : (tau parts : ℕ) (ts : List ℤ) → IsVector tau parts ts → AreThresholds ts

@@ -18,7 +18,8 @@ first_part (u ∷ us) (d ∷ ds) = if nat_lt d u then 0 else first_part us ds + 
 pub record IsFirstBelow (units distances : List ℕ) (place : ℕ) : Type 0 where
   pub within : place < length units
   pub below : slice_index distances place < slice_index units place
-  pub first : (earlier : ℕ) → earlier < place → slice_index units earlier ≤ slice_index distances earlier
+  pub first : (earlier : ℕ) → earlier < place
+      → slice_index units earlier ≤ slice_index distances earlier
 
 -- the threshold of a part
 abbrev pub threshold_at : List ℤ → ℕ → ℤ
@@ -28,9 +29,11 @@ threshold_at thresholds part = slice_index_or thresholds part (negsuc 0)
 pub record IsFirstFound (thresholds : List ℤ) (distances : List ℕ) (part : ℕ) : Type 0 where
   pub within : part < length distances
   pub near : pos (slice_index distances part) ≤ℤ threshold_at thresholds part
-  pub first : (earlier : ℕ) → earlier < part → threshold_at thresholds earlier <ℤ pos (slice_index distances earlier)
+  pub first : (earlier : ℕ) → earlier < part
+      → threshold_at thresholds earlier <ℤ pos (slice_index distances earlier)
 
--- a threshold for each part, each at least -1, with the sum tau - parts: one less than that of a vector
+-- a threshold for each part, each at least -1, with the sum tau - parts:
+-- one less than that of a vector
 pub record IsShortVector (tau parts : ℕ) (thresholds : List ℤ) : Type 0 where
   pub size : length thresholds ≡ parts
   pub entries : All (λ threshold. negsuc 0 ≤ℤ threshold) thresholds
@@ -38,7 +41,8 @@ pub record IsShortVector (tau parts : ℕ) (thresholds : List ℤ) : Type 0 wher
 
 -- one more than each threshold is at most the width of its part
 abbrev pub FitWidths : List ℤ → List (List ℕ) → Type 0
-FitWidths thresholds layout = (part : ℕ) → part < length layout → units_of (threshold_at thresholds part) ≤ length (slice_index_or layout part [])
+FitWidths thresholds layout = (part : ℕ) → part < length layout
+    → units_of (threshold_at thresholds part) ≤ length (slice_index_or layout part [])
 
 -- of each part the first positions, one more of them than its threshold
 abbrev pub missed_positions : List ℤ → List (List ℕ) → List ℕ
@@ -49,17 +53,21 @@ missed_positions (t ∷ ts) (part ∷ layout) = take (units_of t) part ++ missed
 -- a code with its bits turned over at some positions
 abbrev pub turned : List ℕ → List ℕ → List ℕ
 turned [] code = code
-turned (position ∷ positions) code = slice_set (turned positions code) position (1 - slice_index code position)
+turned (position ∷ positions) code =
+    slice_set (turned positions code) position (1 - slice_index code position)
 
 -- the code that differs from the query at one more position of each part than the part's threshold
 abbrev pub missed_code : List ℤ → List (List ℕ) → List ℕ → List ℕ
 missed_code thresholds layout query = turned (missed_positions thresholds layout) query
 
 -- a code is near the query, and no part finds it
-pub record IsMissed (bits tau : ℕ) (layout : List (List ℕ)) (thresholds : List ℤ) (query code : List ℕ) : Type 0 where
+pub record IsMissed (bits tau : ℕ) (layout : List (List ℕ)) (thresholds : List ℤ)
+    (query code : List ℕ) : Type 0 where
   pub is_code : IsCode bits code
   pub near : distance code query ≡ tau
-  pub missed : (part : ℕ) → part < length layout → threshold_at thresholds part <ℤ pos (part_distance (slice_index_or layout part []) code query)
+  pub missed : (part : ℕ) → part < length layout
+      → threshold_at thresholds part <ℤ pos
+      (part_distance (slice_index_or layout part []) code query)
 
 -- the vector that searches the first part alone, up to tau
 abbrev pub at_first_part : ℕ → ℕ → List ℤ

@@ -31,8 +31,10 @@ pub record IsSplit (parts units : ℕ) (split : List ℕ) : Type 0 where
 -- the first of the cheapest splits of so many units over the parts from this one on
 pub record IsBest (count : ℕ → ℕ → ℕ) (part parts units : ℕ) (split : List ℕ) : Type 0 where
   pub splits : IsSplit parts units split
-  pub none_cheaper : (us : List ℕ) → IsSplit parts units us → split_cost count part split ≤ split_cost count part us
-  pub none_before : (us : List ℕ) → IsSplit parts units us → split_cost count part us ≡ split_cost count part split → StandsBefore us split → ⊥
+  pub none_cheaper : (us : List ℕ) → IsSplit parts units us
+      → split_cost count part split ≤ split_cost count part us
+  pub none_before : (us : List ℕ) → IsSplit parts units us
+      → split_cost count part us ≡ split_cost count part split → StandsBefore us split → ⊥
 
 -- the units of the first part
 abbrev pub first_units : List ℕ → ℕ
@@ -40,11 +42,14 @@ first_units [] = 0
 first_units (u ∷ us) = u
 
 -- the first of the cheapest among the splits with at most so many units for the first part
-pub record IsBestUpTo (count : ℕ → ℕ → ℕ) (part parts units most : ℕ) (split : List ℕ) : Type 0 where
+pub record IsBestUpTo (count : ℕ → ℕ → ℕ) (part parts units most : ℕ)
+    (split : List ℕ) : Type 0 where
   pub splits : IsSplit parts units split
   pub among : first_units split ≤ most
-  pub none_cheaper : (us : List ℕ) → IsSplit parts units us → first_units us ≤ most → split_cost count part split ≤ split_cost count part us
-  pub none_before : (us : List ℕ) → IsSplit parts units us → first_units us ≤ most → split_cost count part us ≡ split_cost count part split → StandsBefore us split → ⊥
+  pub none_cheaper : (us : List ℕ) → IsSplit parts units us → first_units us ≤ most
+      → split_cost count part split ≤ split_cost count part us
+  pub none_before : (us : List ℕ) → IsSplit parts units us → first_units us ≤ most
+      → split_cost count part us ≡ split_cost count part split → StandsBefore us split → ⊥
 
 -- a table of counts, one row of so many for each part
 abbrev pub table_count : List ℕ → ℕ → ℕ → ℕ → ℕ

@@ -7,7 +7,8 @@ abbrev pub total : List ℤ → ℤ
 total [] = pos 0
 total (t ∷ ts) = t +ℤ total ts
 
--- a threshold for each part, each at least -1, with the sum tau - parts + 1; -1 is a part that isn't searched
+-- a threshold for each part, each at least -1, with the sum tau - parts + 1;
+-- -1 is a part that isn't searched
 pub record IsVector (tau parts : ℕ) (thresholds : List ℤ) : Type 0 where
   pub size : length thresholds ≡ parts
   pub entries : All (λ threshold. negsuc 0 ≤ℤ threshold) thresholds
@@ -43,11 +44,13 @@ pub record IsLeast (count : ℕ → ℕ → ℕ) (tau parts least : ℕ) : Type 
 pub record IsChoice (count : ℕ → ℕ → ℕ) (tau parts : ℕ) (thresholds : List ℤ) : Type 0 where
   pub vector : IsVector tau parts thresholds
   pub none_cheaper : (us : List ℤ) → IsVector tau parts us → cost count thresholds ≤ cost count us
-  pub none_before : (us : List ℤ) → IsVector tau parts us → cost count us ≡ cost count thresholds → ComesBefore us thresholds → ⊥
+  pub none_before : (us : List ℤ) → IsVector tau parts us → cost count us ≡ cost count thresholds
+      → ComesBefore us thresholds → ⊥
 
 -- the counts of rows at the parts of a layout round a query
 abbrev pub row_counts : List (ℕ × List ℕ) → List (List ℕ) → List ℕ → ℕ → ℕ → ℕ
-row_counts rows layout query part units = part_count rows (slice_index_or layout part []) query units
+row_counts rows layout query part units =
+    part_count rows (slice_index_or layout part []) query units
 
 -- a count that never falls as the units rise
 abbrev pub NeverFalls : (ℕ → ℕ) → Type 0

@@ -10,7 +10,8 @@ pub fn least_is_at_most_the_greatest_count()
         ((part : ℕ) → part < parts → count part 0 ≡ 0) →
         ((part units : ℕ) → part < parts → count part units ≤ most) →
         IsLeast count tau parts least → least ≤ most }
-    ensures rows { (rows : List (ℕ × List ℕ)) (layout : List (List ℕ)) (query : List ℕ) (tau least : ℕ) →
+    ensures rows { (rows : List (ℕ × List ℕ)) (layout : List (List ℕ)) (query : List ℕ) →
+        (tau least : ℕ) →
         0 < length layout → IsLeast (row_counts rows layout query) tau (length layout) least →
         least ≤ length rows }
 {}

@@ -1,4 +1,5 @@
-ghost use Rattle.std.specs.Prelude.{◌≡◌, ℕ, ◌+◌, ◌*◌, ◌<◌, ◌≤◌, [], ◌∷◌, length, slice_index, map, IfOk};
+ghost use Rattle.std.specs.Prelude.{◌≡◌, ℕ, ◌+◌, ◌-◌, ◌*◌, ◌^◌, ◌<◌, ◌≤◌, [], ◌∷◌, length, slice_index, map, IfOk};
+ghost use Rattle.hamming_model.specs.declared.limits.TheConstants.{PARTS_MOST};
 ghost use Rattle.threshold_model.specs.Vectors.{IsChoice, cost};
 ghost use Rattle.threshold_model.specs.Splits.{threshold_of, split_cost, table_count, IsBest};
 
@@ -29,7 +30,7 @@ pub fn least_by_listing(
     tau: u32,
 ) -> Result<Listed, AllocError>
     requires some { 0 < parts }
-    requires few { parts ≤ 64 }
+    requires few { parts ≤ PARTS_MOST }
     requires near { tau ≤ 512 }
     requires size { length counts.now ≡ parts * (tau + 2) }
     ensures choice { IfOk result (λ listed.
@@ -56,7 +57,7 @@ fn least_from(
     units: usize,
 ) -> Result<Split, AllocError>
     requires some { 0 < parts }
-    requires few { parts ≤ 64 }
+    requires few { parts ≤ PARTS_MOST }
     requires units { units < width }
     requires narrow { width ≤ 514 }
     requires size { (part + parts) * width ≤ length counts.now }
@@ -64,7 +65,7 @@ fn least_from(
         IsBest (table_count counts.now width) part parts units split.units.items) }
     ensures cost { IfOk result (λ split.
         split.cost ≡ split_cost (table_count counts.now width) part split.units.items) }
-    ensures bound { IfOk result (λ split. split.cost ≤ parts * 4294967295) }
+    ensures bound { IfOk result (λ split. split.cost ≤ parts * (2 ^ 32 - 1)) }
 {
     if parts == 1 {
         return last_split(alloc, counts[part * width + units], units);
@@ -95,7 +96,7 @@ fn last_split(alloc: Global, count: u32, units: usize) -> Result<Split, AllocErr
 // A split with one more part in front.
 fn with_front(count: u32, pick: usize, mut rest: Split) -> Result<Split, AllocError>
     requires narrow { pick ≤ 514 }
-    requires bound { rest.cost ≤ 64 * 4294967295 }
+    requires bound { rest.cost ≤ PARTS_MOST * (2 ^ 32 - 1) }
     ensures units { IfOk result (λ split. split.units.items ≡ pick ∷ rest.units.items) }
     ensures cost { IfOk result (λ split. split.cost ≡ count + rest.cost) }
 {

@@ -7,5 +7,6 @@ use Rattle.commit_journal.proofs.chunks.shared_chunks.Goals as goal
 pub loop-chunk-preserved : goal.loop-chunk-preserved
 loop-chunk-preserved g c =
     rw c.in-Ok-push.ensures.items
-    (map_more chunk_items c.args.chunks.now c.loop-chunk.shared.items c.loop-chunk.chunk-index c.chunk-item.result c.in-Ok-clone.one c.loop-chunk-test.true c.chunk-item.is
+    (map_more chunk_items c.args.chunks.now c.loop-chunk.shared.items c.loop-chunk.chunk-index c.chunk-item.result c.in-Ok-clone.one
+    c.loop-chunk-test.true c.chunk-item.is
     (ap (λ list. list.items) c.in-Ok-clone.ensures.cases) c.loop-chunk.invariant)

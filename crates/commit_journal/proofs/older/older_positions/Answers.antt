@@ -3,14 +3,19 @@ use Rattle.commit_journal.proofs.GatherLemmas.{gathered_first, gathered_more, ga
 use Rattle.commit_journal.proofs.older.older_positions.Goals as goal
 
 pub loop-id-init : goal.loop-id-init
-loop-id-init c =
-    (tt, tt, gathered_first c.args.live.now c.args.position c.new-older.result.items c.into_iter-id-iterator.result c.new-older.ensures.items (c.into_iter-id-iterator.ensures.into_iter_gives ∙ c.iter-id-items.ensures.rest))
+loop-id-init c = (
+  tt,
+  tt,
+  gathered_first c.args.live.now c.args.position c.new-older.result.items c.into_iter-id-iterator.result
+      c.new-older.ensures.items (c.into_iter-id-iterator.ensures.into_iter_gives ∙ c.iter-id-items.ensures.rest),
+)
 
 pub loop-id-preserved-in-Continue-1 : goal.loop-id-preserved-in-Continue-1
 loop-id-preserved-in-Continue-1 c = (
   tt,
   tt,
-  gathered_more c.args.live.now c.args.position c.loop-id.older.items c.add_position.new.positions.items c.loop-id._id-iterator c.next.new.self (c.in-Some._id, c.in-Some.front.now)
+  gathered_more c.args.live.now c.args.position c.loop-id.older.items c.add_position.new.positions.items c.loop-id._id-iterator
+      c.next.new.self (c.in-Some._id, c.in-Some.front.now)
       c.loop-id.invariant.2 c.in-Some.ensures.steps c.if-front-position.true c.in_ok-add_position.ensures,
 )
 

@@ -9,7 +9,8 @@ loop-other-init c = rw (c.fill.ensures.after (λ y same. same)) (counted_none c.
 pub overflow_add-out : goal.overflow_add-out
 overflow_add-out c =
     rw c.distance-units.ensures.distance
-    (let fits = counted_fits c.args.copies.now c.loop-other.out c.args.value c.loop-other.other (omega arith) (omega arith) c.loop-other.invariant in omega arith)
+    (let fits = counted_fits c.args.copies.now c.loop-other.out c.args.value c.loop-other.other (omega arith)
+    (omega arith) c.loop-other.invariant in omega arith)
 
 pub loop-other-preserved : goal.loop-other-preserved
 loop-other-preserved c =

@@ -3,5 +3,5 @@ use Rattle.hex.specs.Hex.{IsBytes}
 use Rattle.gph_codes.specs.Words.{byte_bits, word_bits}
 use Rattle.gph_codes.proofs.bytes.bytes_of.Given as goal
 
-abbrev pub invariant-loop-i : goal.invariant-loop-i
-invariant-loop-i g l = (byte_bits (take (8 * l.i) l.bytes) ≡ word_bits (take l.i l.words)) × IsBytes l.bytes
+abbrev pub invariant-loop-place : goal.invariant-loop-place
+invariant-loop-place g l = (byte_bits (take (8 * l.place) l.bytes) ≡ word_bits (take l.place l.words)) × IsBytes l.bytes

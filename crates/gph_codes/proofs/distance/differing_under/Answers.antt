@@ -3,4 +3,4 @@ use Rattle.gph_codes.proofs.distance.differing_under.Goals as goal
 
 pub returns-clause-count : goal.returns-clause-count
 returns-clause-count c =
-    ones_of_words_under c.args.mask c.args.a c.args.b c.ranges.mask.fits c.ranges.a.fits c.ranges.b.fits
+    ones_of_words_under c.args.mask c.args.one c.args.other c.ranges.mask.fits c.ranges.one.fits c.ranges.other.fits

@@ -5,5 +5,5 @@ use Rattle.gph_codes.proofs.distance.word_distance_under.Given as goal
 
 abbrev pub invariant-loop-word : goal.invariant-loop-word
 invariant-loop-word g l =
-    (l.counted ≡ distance_under (word_bits (take l.word l.mask)) (word_bits (take l.word l.a)) (word_bits (take l.word l.b)))
+    (l.counted ≡ distance_under (word_bits (take l.word l.mask)) (word_bits (take l.word l.one)) (word_bits (take l.word l.other)))
     × (l.counted ≤ 64 * l.word)

@@ -4,4 +4,4 @@ use Rattle.hamming_model.proofs.PlainLemmas.{none_left}
 use Rattle.hamming_model.proofs.plain.differences.Goals as goal
 
 pub returns : goal.returns
-returns c = record { count = omega (arith, none_left c.args.code.now c.args.query.now c.loop-i.i (omega arith)) }
+returns c = record { count = omega (arith, none_left c.args.code.now c.args.query.now c.loop-position.position (omega arith)) }

@@ -4,4 +4,9 @@ use Rattle.hamming_model.specs.Scan.{hit_cmp}
 use Rattle.hamming_model.proofs.scan_laws.hits_ascend.Goals as goal
 
 pub returns : goal.returns
-returns c = record { one = λ a b. not_both_gt (hit_cmp a b) (hit_cmp b a) (hit_order.antisymm b a); first = first_before; sorted = λ hits. (sorted_from_ascends hits, ascends_from_sorted hits); in_order = ascends_in_order }
+returns c = record {
+  one = λ a b. not_both_gt (hit_cmp a b) (hit_cmp b a) (hit_order.antisymm b a);
+  first = first_before;
+  sorted = λ hits. (sorted_from_ascends hits, ascends_from_sorted hits);
+  in_order = ascends_in_order;
+}

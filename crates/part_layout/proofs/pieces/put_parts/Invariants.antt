@@ -4,7 +4,7 @@ use Rattle.part_layout.specs.Kept.{lists_of}
 use Rattle.part_layout.specs.Text.{layout_text}
 use Rattle.part_layout.proofs.pieces.put_parts.Given as goal
 
-abbrev pub invariant-loop-i : goal.invariant-loop-i
-invariant-loop-i l =
-    (take l.at l.out ≡ layout_text (take l.i (lists_of l.parts)))
-    × (l.at + min l.i 1 ≤ 4 * length (flat_map (λ part. part) (take l.i (lists_of l.parts))))
+abbrev pub invariant-loop-place : goal.invariant-loop-place
+invariant-loop-place l =
+    (take l.at l.out ≡ layout_text (take l.place (lists_of l.parts)))
+    × (l.at + min l.place 1 ≤ 4 * length (flat_map (λ part. part) (take l.place (lists_of l.parts))))

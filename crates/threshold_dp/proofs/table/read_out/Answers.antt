@@ -7,7 +7,7 @@ use Rattle.threshold_dp.proofs.table.read_out.Goals as goal
 
 pub loop-part-preserved : goal.loop-part-preserved
 loop-part-preserved c =
-    let width = c.args.tau + 2 in
+    let width = c.args.width in
     let pick = get_or c.args.picks.now (c.loop-part.part * width + c.loop-part.left) 0 in
     let few = c.loop-part.invariant.2 in (
       search rules,
@@ -18,5 +18,5 @@ loop-part-preserved c =
       rw c.push.ensures.entries
           (read_entries c.args.picks.now width c.args.parts c.loop-part.part c.loop-part.left pick c.from-left.result
           (omega arith) (omega arith) refl c.from-left.ensures c.loop-part.invariant.3
-          c.loop-part.out.entries (map threshold_of (follow (pick_rows width c.args.parts c.args.picks.now) (c.args.tau + 1))) c.loop-part.invariant.4),
+          c.loop-part.out.entries (map threshold_of (follow (pick_rows width c.args.parts c.args.picks.now) c.args.units)) c.loop-part.invariant.4),
     )

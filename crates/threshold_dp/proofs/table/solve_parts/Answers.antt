@@ -22,9 +22,8 @@ loop-part-init g c =
 
 pub add_part-requires-clause-bound : goal.add_part-requires-clause-bound
 add_part-requires-clause-bound g c = λ units less.
-    let width = length c.args.asked.now in
     let left = c.args.parts - c.loop-part.part in
-    let number = rows_number width left (drop (c.loop-part.part * width) c.loop-part.picks) in
+    let number = rows_number (length c.args.asked.now) left (drop (c.loop-part.part * length c.args.asked.now) c.loop-part.picks) in
     let inside = c.read_counts-in-loop-part.auto.asked ∙ c.loop-part.auto.asked in
     omega (arith, c.loop-part.invariant.2.bound units (omega (arith, inside)))
 

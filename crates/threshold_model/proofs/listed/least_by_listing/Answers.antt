@@ -15,17 +15,21 @@ thresholds_of-requires c =
 
 pub returns-clause-choice : goal.returns-clause-choice
 returns-clause-choice c =
-    let same : c.in_ok-thresholds.thresholds.items ≡ map threshold_of c.in_ok-split.split.units.items = c.in_ok-thresholds.ensures.thresholds ∙ ap (map threshold_of) c.as_slice.ensures.value in
+    let same : c.in_ok-thresholds.thresholds.items ≡ map threshold_of c.in_ok-split.split.units.items =
+    c.in_ok-thresholds.ensures.thresholds ∙ ap (map threshold_of) c.as_slice.ensures.value in
     let all : c.args.tau + 2 - 1 ≡ c.args.tau + 1 = omega arith in
-    let best = subst (λ units. IsBest (table_count c.args.counts.now (c.args.tau + 2)) 0 c.args.parts units c.in_ok-split.split.units.items) all c.in_ok-split.ensures.best in
+    let best = subst (λ units. IsBest (table_count c.args.counts.now (c.args.tau + 2)) 0 c.args.parts units
+    c.in_ok-split.split.units.items) all c.in_ok-split.ensures.best in
     subst (IsChoice (table_count c.args.counts.now (c.args.tau + 2)) c.args.tau c.args.parts) (sym same)
     (choice_is (table_count c.args.counts.now (c.args.tau + 2)) c.args.tau c.args.parts c.in_ok-split.split.units.items best)
 
 pub returns-clause-cost : goal.returns-clause-cost
 returns-clause-cost c =
-    let same : c.in_ok-thresholds.thresholds.items ≡ map threshold_of c.in_ok-split.split.units.items = c.in_ok-thresholds.ensures.thresholds ∙ ap (map threshold_of) c.as_slice.ensures.value in
+    let same : c.in_ok-thresholds.thresholds.items ≡ map threshold_of c.in_ok-split.split.units.items =
+    c.in_ok-thresholds.ensures.thresholds ∙ ap (map threshold_of) c.as_slice.ensures.value in
     let all : c.args.tau + 2 - 1 ≡ c.args.tau + 1 = omega arith in
-    let best = subst (λ units. IsBest (table_count c.args.counts.now (c.args.tau + 2)) 0 c.args.parts units c.in_ok-split.split.units.items) all c.in_ok-split.ensures.best in
+    let best = subst (λ units. IsBest (table_count c.args.counts.now (c.args.tau + 2)) 0 c.args.parts units
+    c.in_ok-split.split.units.items) all c.in_ok-split.ensures.best in
     c.in_ok-split.ensures.cost
     ∙ sym (cost_is (table_count c.args.counts.now (c.args.tau + 2)) c.args.tau c.args.parts c.in_ok-split.split.units.items best)
     ∙ ap (cost (table_count c.args.counts.now (c.args.tau + 2))) (sym same)

@@ -8,9 +8,7 @@ use Rattle.commit_journal.proofs.chunks.Chunks.len.Goals as goal
 
 pub overflow_mul-result : goal.overflow_mul-result
 overflow_mul-result g c =
-    let all = length_joined chunk_items c.self.inside.all.items c.self.invariant.full in
-    let number : c.len.result ≡ length c.self.inside.all.items = search rules in
-    record { fits = omega (arith, all, number, c.self.invariant.few) }
+    record { fits = omega (arith, length_joined chunk_items c.self.inside.all.items c.self.invariant.full, c.len.ensures, c.self.invariant.few) }
 
 pub returns-clause-number : goal.returns-clause-number
 returns-clause-number g c =

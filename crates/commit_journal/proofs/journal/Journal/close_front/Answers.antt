@@ -14,8 +14,8 @@ invariant_of-self g c =
 
 pub returns-clause-closed : goal.returns-clause-closed
 returns-clause-closed g c =
-    let inside = c.self.inside in
-    slab_closed inside.entries inside.live c.try_remove.new.self inside.next inside.limit c.id.result c.try_remove.ensures.updates
+    slab_closed c.self.inside.entries c.self.inside.live c.try_remove.new.self c.self.inside.next c.self.inside.limit c.id.result
+    c.try_remove.ensures.updates
     ∙ ap (λ (state : JournalState). without_front state c.id.result) c.self.view_is ∙ ap (without_front c.args.self.now) c.id.ensures
 
 pub returns-clause-fronts : goal.returns-clause-fronts

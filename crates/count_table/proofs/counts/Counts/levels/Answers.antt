@@ -5,9 +5,8 @@ use Rattle.count_table.proofs.counts.Counts.levels.Goals as goal
 
 pub count_apart-requires-clause-small : goal.count_apart-requires-clause-small
 count_apart-requires-clause-small c =
-    let long : length c.deref.result.now ≡ 2 ^ c.self.inside.width = ap length c.deref.ensures.value ∙ c.self.invariant.each_value in
     let few = few_values c.self.inside.width c.self.invariant.small_width in
-    omega arith
+    omega (arith, ap length c.deref.ensures.value, c.self.invariant.each_value)
 
 pub add_up-requires : goal.add_up-requires
 add_up-requires c =

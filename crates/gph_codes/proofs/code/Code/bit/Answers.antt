@@ -3,4 +3,4 @@ use Rattle.gph_codes.proofs.BitsLemmas.{bit_told}
 use Rattle.gph_codes.proofs.code.Code.bit.Goals as goal
 
 pub returns : goal.returns
-returns g c = bit_told c.self.inside.words c.args.self.now c.args.j (omega arith) c.self.view_is
+returns g c = bit_told c.self.inside.words c.args.self.now c.args.position (omega arith) c.self.view_is

@@ -33,7 +33,8 @@ returns-in-Some-clause-parts c = λ n.
 pub returns-in-Some-fault_in-clause-syntax : goal.returns-in-Some-fault_in-clause-syntax
 returns-in-Some-fault_in-clause-syntax c = λ at.
     let faulty : fault_of c.args.bits (spelled c.args.text.now) ≡ Some c.in-Some-fault_in.fault = search rules in
-    syntax_apart c.args.text.now at (Err c.in-Some-fault_in.fault) (no_syntax c.args.bits (spelled c.args.text.now) c.in-Some-fault_in.fault faulty) c.in_default.ensures
+    syntax_apart c.args.text.now at (Err c.in-Some-fault_in.fault)
+    (no_syntax c.args.bits (spelled c.args.text.now) c.in-Some-fault_in.fault faulty) c.in_default.ensures
 
 pub returns-in_default-parts_of-clause-syntax : goal.returns-in_default-parts_of-clause-syntax
 returns-in_default-parts_of-clause-syntax c = λ at. syntax_apart c.args.text.now at (Err NoMemory) refl c.in_default.ensures
