@@ -1,0 +1,11 @@
+pub mod MomentLemmas
+pub mod FlowLemmas
+pub mod BlockLemmas
+pub mod ServeLemmas
+pub mod Here
+pub mod QueryLemmas
+pub mod BoundLemmas
+pub mod NextLemmas
+pub mod AskLemmas
+pub mod CommitLemmas
+pub mod LookLemmas

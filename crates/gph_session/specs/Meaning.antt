@@ -25,6 +25,7 @@ use Rattle.gph_session.specs.Sessions.{layouts_of}
 pub record AsksWithin (rows : List (ℕ × List ℕ)) (layout : List (List ℕ)) (code : List ℕ) (tau : ℕ)
     (a : Asked) : Type 0 where
   pub hits : a.hits ≡ scan rows code tau
+  pub rows_are : a.rows ≡ length rows
   pub few : length rows ≤ ENTRIES_MOST
   pub vector : (given : Option ℕ) →
       IsChoice (row_counts rows layout code) tau (length layout) (a.plan given).0

@@ -41,9 +41,13 @@ pub(crate) fn next<const W: usize, K: Sink, R: Threads + Sync, G: Gate, L: Send>
     ensures requests { session.new.requests ≡ session.old.requests }
     ensures cause { IsCaused (K.faults sink.old) (K.faults sink.new) result }
 {
-    session
+    // Each time the call says how many ledgers there are.
+    let _before = meters.as_mut().len();
+    let said = session
         .queries
-        .next(rt, gate, tag, n, &mut session.out, sink, meters)
+        .next(rt, gate, tag, n, &mut session.out, sink, meters);
+    let _after = meters.as_mut().len();
+    said
 }
 
 /// Answers what the query of a tag has read, and what it may read.
