@@ -61,8 +61,9 @@ def names_of(path, line, crate, in_reach):
     for value in sorted(set(literals)):
         named = [it for it in in_reach if it.value == value]
         if declares:
-            # another constant of the same value may well mean something else, but for the limits of the whole program
-            named = [it for it in named if it.path == LIMITS and path != LIMITS and value >= 100]
+            # another constant of the same value may well mean something else, as a chunk or a table of 256 does,
+            # but for the greatest limits of the whole program
+            named = [it for it in named if it.path == LIMITS and path != LIMITS and value >= 1000]
         elif value < 100:
             of_file = [it for it in named if it.path == path and value >= 10 and re.search(SAME.format(value), line)]
             named = of_file or [it for it in named if value in bounds and is_bounded(it, path, line, crate)]

@@ -20,7 +20,7 @@ def look_at_clauses(path, lines):
             is_law = bool(re.search(r"\(\)( \{\})?$", head))
         if re.match(r"(ensures|requires)\b", head):
             inside, since = True, number
-        elif re.match(r"(\{$|\}|where\b|;|//)", head):
+        elif re.match(r"(\{|\}|where\b|;|//)", head):
             inside = False
         if inside and len(line) > CLAUSE:
             say("clauses over 100 columns", f"{path}:{number}", f"{len(line)} columns")

@@ -6,7 +6,8 @@ use Rattle.hit_source.specs.Sources.{Standing}
 
 -- a hit by its distance and its key
 abbrev pub hit_code : Coded Hit
-hit_code = code_by (ℕ × ℕ) (coded× coded_ℕ coded_ℕ) (λ hit. (hit.dist, hit.key)) (λ p. record { dist = p.0; key = p.1 }) (λ _. refl)
+hit_code = code_by (ℕ × ℕ) (coded× coded_ℕ coded_ℕ) (λ hit. (hit.dist, hit.key))
+    (λ p. record { dist = p.0; key = p.1 }) (λ _. refl)
 
 -- a radius or a floor, if there is one
 abbrev pub some_code : Coded (Option ℕ)

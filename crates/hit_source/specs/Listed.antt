@@ -35,7 +35,8 @@ start_of_list hits = record {
 -- where it stands after so many reads, with this window over its hits
 abbrev pub standing_of_list : Window → ℕ → Standing
 standing_of_list w reads =
-    window_standing w reads (w.moved == length w.found) ((length w.found - reads) + (length w.found - w.moved))
+    window_standing w reads (w.moved == length w.found)
+    ((length w.found - reads) + (length w.found - w.moved))
 
 -- the hits are in order, and each was read before it was moved, at most one before the next was
 pub record IsListed (w : Window) (reads : ℕ) : Type 0 where

@@ -16,8 +16,10 @@ pub window_reached : (w : Window) (reads : ℕ) (ended : Bool) (units : ℕ) →
 window_reached w reads ended units is = omega (arith, waits w is, is.behind)
 
 -- the floor of a source whose hits are a window's, all in order
-pub window_floor : (a : Asked) (w : Window) (reads : ℕ) (ended : Bool) (units : ℕ) → a.hits ≡ w.found → Ascends w.found
-    → IsWindow w → (w.given ≡ length w.found → ended ≡ true) → IsFloor a (window_standing w reads ended units)
+pub window_floor : (a : Asked) (w : Window) (reads : ℕ) (ended : Bool) (units : ℕ)
+    → a.hits ≡ w.found → Ascends w.found
+    → IsWindow w → (w.given ≡ length w.found → ended ≡ true)
+    → IsFloor a (window_standing w reads ended units)
 window_floor a w reads ended units hits up is ends = record {
   none_nearer = rw hits (none_nearer (left_of w) (ascends_drop w.given w.found up));
   none_left = rw hits (to, back);
@@ -27,7 +29,13 @@ window_floor a w reads ended units hits up is ends = record {
     to : first_distance (left_of w) ≡ None → (w.given ≡ length w.found) × (ended ≡ true)
     to none =
         let all : w.given ≡ length w.found =
-        omega (arith, none_where_empty (left_of w) none, length-drop w.given w.found, is.behind, is.among) in
+        omega (
+          arith,
+          none_where_empty (left_of w) none,
+          length-drop w.given w.found,
+          is.behind,
+          is.among,
+        ) in
         (all, ends all)
 
     back : (w.given ≡ length w.found) × (ended ≡ true) → first_distance (left_of w) ≡ None
@@ -49,7 +57,8 @@ pub listed_lawful : (w : Window) (reads : ℕ) → IsListed w reads
     → IsLawful (asked_of_list w.found w.room) (standing_of_list w reads)
 listed_lawful w reads is =
     let fits : reached (standing_of_list w reads) ≡ w.moved =
-    window_reached w reads (w.moved == length w.found) ((length w.found - reads) + (length w.found - w.moved))
+    window_reached w reads (w.moved == length w.found)
+    ((length w.found - reads) + (length w.found - w.moved))
     is.window in
     record {
       asked = listed_asked w reads is;
@@ -60,11 +69,19 @@ listed_lawful w reads is =
       begun = record { range = λ range. refl; near = tt };
       bounded = is.bounded;
       floor = window_floor (asked_of_list w.found w.room) w reads (w.moved == length w.found)
-          ((length w.found - reads) + (length w.found - w.moved)) refl (ascends_from_sorted w.found is.ascends)
-          is.window (λ all. eq-eqb w.moved (length w.found) (omega (arith, all, is.window.behind, is.window.among)));
+          ((length w.found - reads) + (length w.found - w.moved)) refl
+          (ascends_from_sorted w.found is.ascends)
+          is.window
+          (λ all. eq-eqb w.moved (length w.found)
+          (omega (arith, all, is.window.behind, is.window.among)));
       end = record {
         all_reached = λ ended. omega (arith, fits, eqb-true w.moved (length w.found) ended);
-        all_read = λ ended range. omega (arith, eqb-true w.moved (length w.found) ended, is.read_first, is.bounded);
+        all_read = λ ended range. omega (
+          arith,
+          eqb-true w.moved (length w.found) ended,
+          is.read_first,
+          is.bounded,
+        );
         of_range = λ range all read. eq-eqb w.moved (length w.found) (omega (arith, fits, all));
         of_near = λ near. cc;
       };

@@ -13,23 +13,25 @@ NotBelow (Some old) (Some new) = old ≤ new
 
 -- the radius begun last is the one before, or at most the floor
 abbrev pub BeginsWithin : Option ℕ → Option ℕ → Option ℕ → Type 0
-BeginsWithin floor old new = (new ≡ old) ⊎ IfSome new (λ radius. IfSome floor (λ most. radius ≤ most))
+BeginsWithin floor old new =
+    (new ≡ old) ⊎ IfSome new (λ radius. IfSome floor (λ most. radius ≤ most))
 
--- what a poll that no hit waited for answers: that the source has ended, else that the room is full, else that it moved
+-- what a poll that no hit waited for answers: that the source has ended,
+-- else that the room is full, else that it moved
 pub record PollAnswers (a : Asked) (new : Standing) (result : Polled) : Type 0 where
   pub ended : (result ≡ Ended) ↔ (new.ended ≡ true)
   pub full : (result ≡ Full) ↔ ((new.ended ≡ false) × (length new.waiting ≡ a.room))
 
--- the next unit would begin a radius above a floor: every hit within the radii begun was given or waits, and a hit waits or the
--- floor has risen since
+-- the next unit would begin a radius above a floor: every hit within the radii begun was given or
+-- waits, and a hit waits or the floor has risen since
 pub record AwaitsRadius (a : Asked) (floor : Option ℕ) (s : Standing) : Type 0 where
   pub near : a.near ≡ true
   pub above : IfSome floor (λ most. most < radii_begun s.begun)
   pub none_nearer : All (λ hit. radii_begun s.begun ≤ hit.dist) (drop (reached s) a.hits)
   pub onward : s.waiting ≡ [] → s.floor ≡ floor → ⊥
 
--- a poll takes units off, at most its budget where it begins no radius; it answers Moved only after the whole budget, or where the
--- next unit would begin a radius above the floor at entry
+-- a poll takes units off, at most its budget where it begins no radius; it answers Moved only
+-- after the whole budget, or where the next unit would begin a radius above the floor at entry
 pub record PollSpends (budget : ℕ) (a : Asked) (old new : Standing) (result : Polled) : Type 0 where
   pub units : new.units ≤ old.units
   pub most : new.begun ≡ old.begun → old.units ≤ new.units + budget
@@ -43,7 +45,8 @@ pub record StaysEnded (old new : Standing) : Type 0 where
   pub begun : new.begun ≡ old.begun
 
 -- what a poll with a budget of units does, with the ledger before and after it
-pub record Polls (budget : ℕ) (a : Asked) (old new : Standing) (from to : ℕ) (result : Polled) : Type 0 where
+pub record Polls (budget : ℕ) (a : Asked) (old new : Standing) (from to : ℕ)
+    (result : Polled) : Type 0 where
   pub given : new.given ≡ old.given
   pub floor : NotBelow old.floor new.floor
   pub rises : old.reads ≤ new.reads

@@ -1,4 +1,5 @@
--- A window over hits in order: what waits is the next of the hits, and its floor is that of what wasn't given.
+-- A window over hits in order: what waits is the next of the hits,
+-- and its floor is that of what wasn't given.
 use Rattle.std.proofs.Common.{◌≡◌, ℕ, ◌+◌, ◌-◌, ◌≤◌, ◌<◌, List, [], ◌∷◌, length, take, drop, refl, sym, ap, ◌∙◌, arith, false, zero, suc, Option, Some, None}
 use Rattle.std.specs.Prelude.{All, IfSome}
 use Rattle.std.specs.List.{AllByRecursion}
@@ -14,7 +15,8 @@ use Rattle.hamming_model.proofs.OrderLemmas.{IsFirst, Ascends}
 use Rattle.hit_source.specs.Moves.{NotBelow}
 use Rattle.hit_source.specs.Windows.{Window, IsWindow, left_of, waiting_of, first_distance, with_given}
 
-by_rank : (o p : Ordering) (x y : ℕ) → MatchOrdering o (x < y) (x ≡ y) (y < x) → is_gt (ordering_then o p) ≡ false
+by_rank : (o p : Ordering) (x y : ℕ) → MatchOrdering o (x < y) (x ≡ y) (y < x)
+    → is_gt (ordering_then o p) ≡ false
     → x ≤ y
 by_rank Less p x y rank h = omega (arith, rank)
 by_rank Equal p x y rank h = omega (arith, rank)
@@ -25,7 +27,8 @@ pub nearer : (a b : Hit) → is_gt (hit_cmp a b) ≡ false → a.dist ≤ b.dist
 nearer a b h = by_rank (nat_cmp a.dist b.dist) (nat_cmp a.key b.key) a.dist b.dist
     (ranked a.dist b.dist (nat_cmp a.dist b.dist) refl) h
 
-nearest : (hit : Hit) (hits : List Hit) → IsFirst hit hits → AllByRecursion (λ other. hit.dist ≤ other.dist) hits
+nearest : (hit : Hit) (hits : List Hit) → IsFirst hit hits
+    → AllByRecursion (λ other. hit.dist ≤ other.dist) hits
 nearest hit [] first = tt
 nearest hit (other ∷ hits) first = (nearer hit other first.0, nearest hit hits first.1)
 
@@ -34,7 +37,8 @@ pub none_nearer : (hits : List Hit) → Ascends hits
     → IfSome (first_distance hits) (λ floor. All (λ hit. floor ≤ hit.dist) hits)
 none_nearer [] up = tt
 none_nearer (hit ∷ hits) up =
-    All-from_recursion (λ other. hit.dist ≤ other.dist) (hit ∷ hits) (omega arith, nearest hit hits up.0)
+    All-from_recursion (λ other. hit.dist ≤ other.dist) (hit ∷ hits)
+    (omega arith, nearest hit hits up.0)
 
 -- what follows the first hits of a list that ascends ascends
 pub ascends_drop : (n : ℕ) (hits : List Hit) → Ascends hits → Ascends (drop n hits)
@@ -71,7 +75,8 @@ empty_where_none [] none = refl
 empty_where_none (hit ∷ hits) none = absurd (omega (arith, none))
 
 -- the floor is that of the first hit that waits
-pub floor_of_head : (n : ℕ) (hits : List Hit) (head : Hit) (rest : List Hit) → take n hits ≡ head ∷ rest
+pub floor_of_head : (n : ℕ) (hits : List Hit) (head : Hit) (rest : List Hit)
+    → take n hits ≡ head ∷ rest
     → first_distance hits ≡ Some head.dist
 floor_of_head zero hits head rest first = cc
 floor_of_head (suc n) [] head rest first = cc
@@ -83,11 +88,13 @@ waits w is = length-take-le (w.moved - w.given) (left_of w)
     (omega (arith, is.behind, is.among, length-drop w.given w.found))
 
 -- what waits is the next of the hits
-pub window_prefix : (w : Window) → IsWindow w → waiting_of w ≡ take (length (waiting_of w)) (left_of w)
+pub window_prefix : (w : Window) → IsWindow w
+    → waiting_of w ≡ take (length (waiting_of w)) (left_of w)
 window_prefix w is = ap (λ n. take n (left_of w)) (sym (waits w is))
 
 after_first : (n : ℕ) (hits : List Hit) → n ≤ length hits
-    → take (n - length (take 1 (take n hits))) (drop (length (take 1 (take n hits))) hits) ≡ drop 1 (take n hits)
+    → take (n - length (take 1 (take n hits))) (drop (length (take 1 (take n hits))) hits)
+    ≡ drop 1 (take n hits)
 after_first zero hits l = refl
 after_first (suc n) [] l = absurd (omega arith)
 after_first (suc n) (hit ∷ hits) l =
@@ -101,4 +108,5 @@ rest_waits w is =
     let fewer : w.moved - (w.given + given) ≡ (w.moved - w.given) - given = omega arith in
     ap (λ n. take n (drop (w.given + given) w.found)) fewer
     ∙ ap (λ hits. take ((w.moved - w.given) - given) hits) (sym (drop-drop given w.given w.found))
-    ∙ after_first (w.moved - w.given) (left_of w) (omega (arith, is.behind, is.among, length-drop w.given w.found))
+    ∙ after_first (w.moved - w.given) (left_of w)
+    (omega (arith, is.behind, is.among, length-drop w.given w.found))

@@ -3,7 +3,8 @@ use Rattle.std.specs.Prelude.{ℕ, ◌+◌, ◌-◌, ◌≤◌, List, [], ◌∷
 use Rattle.hamming_model.specs.declared.hit.Hit.{Hit}
 use Rattle.hamming_model.specs.Scan.{in_order}
 
--- hits, how many memory is reserved for, how many may wait, how many were given, and how many were given or moved into the room
+-- hits, how many memory is reserved for, how many may wait, how many were given,
+-- and how many were given or moved into the room
 pub record Window : Type 0 where
   pub found : List Hit
   pub capacity : ℕ
@@ -32,7 +33,8 @@ pub record IsWindow (w : Window) : Type 0 where
 
 -- a window by its parts
 abbrev pub window_at : List Hit → ℕ → ℕ → ℕ → ℕ → Window
-window_at found capacity room given moved = record { found = found; capacity = capacity; room = room; given = given; moved = moved }
+window_at found capacity room given moved =
+    record { found = found; capacity = capacity; room = room; given = given; moved = moved }
 
 -- a window over these hits of which none was moved
 abbrev pub window_of : List Hit → ℕ → ℕ → Window
@@ -52,4 +54,5 @@ with_moved w = window_at w.found w.capacity w.room w.given (w.moved + 1)
 
 -- the window after its first waiting hit was given, if one waits
 abbrev pub with_given : Window → Window
-with_given w = window_at w.found w.capacity w.room (w.given + length (take 1 (waiting_of w))) w.moved
+with_given w =
+    window_at w.found w.capacity w.room (w.given + length (take 1 (waiting_of w))) w.moved

@@ -4,8 +4,9 @@ use Rattle.hit_source.specs.Sources.{Asked, Standing, radii_begun}
 use Rattle.hit_source.specs.Moves.{NotBelow, BeginsWithin, StaysEnded}
 use Rattle.hit_source.specs.Windows.{Window, left_of, waiting_of, first_distance}
 
--- what so many units of work do to where a source stands, of which none begins a radius above the limit, with the ledger before
--- and after them: each takes one off the units left, and only where a radius is begun the units left may be fewer
+-- what so many units of work do to where a source stands, of which none begins a radius above the
+-- limit, with the ledger before and after them: each takes one off the units left, and only where
+-- a radius is begun the units left may be fewer
 pub record Works (limit : Option ℕ) (count : ℕ) (old new : Standing) (from to : ℕ) : Type 0 where
   pub given : new.given ≡ old.given
   pub floor : NotBelow old.floor new.floor

@@ -13,6 +13,11 @@ use Rattle.scatter_gather.specs.Moves.{ReadsRise, Waited, Gave, GivesReady, Give
 use Rattle.scatter_gather.proofs.KeepLemmas.{asked_seen, given_seen, same_gathering, set_alike}
 use Rattle.scatter_gather.proofs.TodoLemmas.{some_of, round_todo}
 
+-- where no hit was ready the gathering is as before
+pub ready_stays : {S : Type 0} (asks : S → Asked) (stands : S → Standing) (old new : Gathered S) (hit : Option Hit) → hit ≡ None
+    → GivesReady asks stands old new hit → new ≡ old
+ready_stays asks stands old new hit none gives = subst (GivesReady asks stands old new) none gives
+
 -- what no poll changes is as before a round of polls
 pub round_same : {S T : Type 0} (h : S → T) (asks : S → Asked) (stands : S → Standing) (budget : ℕ) (old new : List S)
     (from to : List ℕ) → ((x y : S) (m n : ℕ) → PollsOnce asks stands budget x m y n → h y ≡ h x)

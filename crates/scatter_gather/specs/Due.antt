@@ -60,6 +60,7 @@ some_due g = nat_lt g.given g.limit && any_may_have_next g.sources
 abbrev pub is_idle : Standing → Bool
 is_idle s = is_empty s.waiting && is_some s.floor
 
--- how much a source has to do at most until a hit waits or it has ended: its units, and one where it is idle
+-- how much a source has to do at most until a hit waits or it has ended: its units,
+-- and one where it is idle
 abbrev pub todo : Source → ℕ
 todo s = s.standing.units + (if is_idle s.standing then 1 else 0)

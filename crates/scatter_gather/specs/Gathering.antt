@@ -1,4 +1,5 @@
--- Many sources of hits asked at once: their merge, the answer, and where a gathering of them stands.
+-- Many sources of hits asked at once: their merge, the answer,
+-- and where a gathering of them stands.
 use Rattle.std.specs.Prelude.{ℕ, min, nat_le, nat_lt, ◌&&◌, Bool, List, length, take, drop, Option, map}
 use Rattle.std.specs.List.{flat_map, list_all, sum_by}
 use Rattle.hamming_model.specs.declared.hit.Hit.{Hit}
@@ -19,7 +20,8 @@ source_of asks stands source = record { asked = asks source; standing = stands s
 abbrev pub sources_of : {S : Type 0} → (S → Asked) → (S → Standing) → List S → List Source
 sources_of asks stands sources = map (source_of asks stands) sources
 
--- a gathering: its sources, how many hits it gives at most, how many it gave, and the distance of the last
+-- a gathering: its sources, how many hits it gives at most, how many it gave,
+-- and the distance of the last
 pub record Gathering : Type 0 where
   pub sources : List Source
   pub limit : ℕ
@@ -28,7 +30,8 @@ pub record Gathering : Type 0 where
 
 -- a gathering by its parts
 abbrev pub gathering_of : List Source → ℕ → ℕ → Option ℕ → Gathering
-gathering_of sources limit given last = record { sources = sources; limit = limit; given = given; last = last }
+gathering_of sources limit given last =
+    record { sources = sources; limit = limit; given = given; last = last }
 
 -- a gathering over sources as the program holds them
 pub record Gathered (S : Type 0) : Type 0 where
@@ -39,7 +42,8 @@ pub record Gathered (S : Type 0) : Type 0 where
 
 -- such a gathering by its parts
 abbrev pub gathered : {S : Type 0} → List S → ℕ → ℕ → Option ℕ → Gathered S
-gathered sources limit given last = record { sources = sources; limit = limit; given = given; last = last }
+gathered sources limit given last =
+    record { sources = sources; limit = limit; given = given; last = last }
 
 -- a gathering by what its sources are seen as
 abbrev pub seen : {S : Type 0} → (S → Asked) → (S → Standing) → Gathered S → Gathering
@@ -75,7 +79,8 @@ has_more g = nat_lt g.given (length (answer_of g))
 
 -- every row is a hit, and there are as many as the limit
 abbrev pub reaches_by_rows : Gathering → Bool
-reaches_by_rows g = list_all (λ s. s.asked.near) g.sources && nat_le g.limit (sum_by (λ s. s.asked.rows) g.sources)
+reaches_by_rows g =
+    list_all (λ s. s.asked.near) g.sources && nat_le g.limit (sum_by (λ s. s.asked.rows) g.sources)
 
 -- the reads of all sources, at most the greatest number of 64 bits
 abbrev pub all_reads : {S : Type 0} → (S → Standing) → Gathered S → ℕ
@@ -83,7 +88,8 @@ all_reads stands g = min (sum_by (λ source. (stands source).reads) g.sources) 1
 
 -- the bounds of all sources for the last hit given, at most that number
 abbrev pub all_bounds : {S : Type 0} → (S → Asked) → Gathered S → ℕ
-all_bounds asks g = min (sum_by (λ source. (asks source).bound g.last) g.sources) 18446744073709551615
+all_bounds asks g =
+    min (sum_by (λ source. (asks source).bound g.last) g.sources) 18446744073709551615
 
 -- the hits that their sources have not given
 abbrev pub left_hits : List Source → List Hit

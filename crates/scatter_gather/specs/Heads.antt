@@ -9,7 +9,8 @@ use Rattle.hit_source.specs.Moves.{first_of}
 use Rattle.scatter_gather.specs.Gathering.{Source, Gathering}
 use Rattle.scatter_gather.specs.Due.{is_empty, any_may_have_next}
 
--- a source lets a hit go first: its own head isn't before it, or none waits and its floor is greater, if it has one
+-- a source lets a hit go first: its own head isn't before it,
+-- or none waits and its floor is greater, if it has one
 abbrev pub LetsGo : Hit → Source → Type 0
 LetsGo hit s =
     MatchOption (first_of s.standing.waiting)
@@ -30,9 +31,11 @@ pub record MayGo (g : Gathering) (hit : Hit) : Type 0 where
 
 -- the first hit that waits at a source, if one does, isn't before this one
 abbrev pub HeadNotBefore : Hit → Source → Type 0
-HeadNotBefore hit s = IfSome (first_of s.standing.waiting) (λ other. is_gt (hit_cmp hit other) ≡ false)
+HeadNotBefore hit s =
+    IfSome (first_of s.standing.waiting) (λ other. is_gt (hit_cmp hit other) ≡ false)
 
--- this hit is the first that waits at one source, and among the first n sources none waits before it
+-- this hit is the first that waits at one source,
+-- and among the first n sources none waits before it
 pub record IsBestHead (sources : List Source) (n shard : ℕ) (hit : Hit) : Type 0 where
   pub within : shard < length sources
   pub waits : (d : Source) → first_of (slice_index_or sources shard d).standing.waiting ≡ Some hit
@@ -47,7 +50,8 @@ BestOf sources n (Some best) = IsBestHead sources n best.0 best.1
 abbrev pub better : Option (ℕ × Hit) → ℕ → Option Hit → Option (ℕ × Hit)
 better best shard None = best
 better None shard (Some head) = Some (shard, head)
-better (Some best) shard (Some head) = if is_gt (hit_cmp best.1 head) then Some (shard, head) else Some best
+better (Some best) shard (Some head) =
+    if is_gt (hit_cmp best.1 head) then Some (shard, head) else Some best
 
 -- the floor of a source at which no hit waits
 abbrev pub empty_floor : Source → Option ℕ
@@ -59,11 +63,13 @@ has_to_wait best None = false
 has_to_wait None (Some floor) = true
 has_to_wait (Some best) (Some floor) = nat_le floor best.1.dist
 
--- the best head where it goes first; where none does, some source may have the next hit, or no hit waits
+-- the best head where it goes first; where none does, some source may have the next hit,
+-- or no hit waits
 pub record IsReadyHead (sources : List Source) (result : Option (ℕ × Hit)) : Type 0 where
   pub best : IfSome result (λ best. IsBestHead sources (length sources) best.0 best.1)
   pub held : MatchOption result
-      (any_may_have_next sources ≡ false → AllByRecursion (λ s. first_of s.standing.waiting ≡ None) sources)
+      (any_may_have_next sources ≡ false
+      → AllByRecursion (λ s. first_of s.standing.waiting ≡ None) sources)
       (λ best. any_may_have_next sources ≡ false)
   pub goes : MatchOption result ((hit : Hit) → GoesFirst sources hit → ⊥)
       (λ best. GoesFirst sources best.1 × ((hit : Hit) → GoesFirst sources hit → hit ≡ best.1))

@@ -1,4 +1,5 @@
--- What is true of a gathering at every moment. No public clause but those of private calls cites this module.
+-- What is true of a gathering at every moment.
+-- No public clause but those of private calls cites this module.
 use Rattle.std.specs.Prelude.{◌≡◌, ℕ, ◌≤◌, List, [], ◌∷◌, length, drop, Option, Some, None, IfSome}
 use Rattle.std.specs.List.{AllByRecursion}
 use Rattle.hamming_model.specs.declared.limits.TheConstants.{SHARDS_MOST}
@@ -21,7 +22,8 @@ length_of (a ∷ asks) = a.farthest
 abbrev pub AreOneLength : List Asked → Type 0
 AreOneLength asks = AllByRecursion (λ a. a.farthest ≡ length_of asks) asks
 
--- what the sources have not given is what the merge has after the hits given, none of it nearer than the last
+-- what the sources have not given is what the merge has after the hits given,
+-- none of it nearer than the last
 pub record IsGathering (g : Gathering) : Type 0 where
   pub some : 1 ≤ length g.sources
   pub few : length g.sources ≤ SHARDS_MOST

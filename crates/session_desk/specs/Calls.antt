@@ -89,8 +89,8 @@ abbrev pub one_more : ℕ → ℕ
 one_more count = if count == 18446744073709551615 then count else count + 1
 
 -- whether a prepared version at the last front's position is behind the shard: another desk must have advanced it
-abbrev pub is_late : DeskState → ℕ → ℕ → Bool
-is_late old prepared_at shard_at = (prepared_at == old.last) && nat_lt old.last shard_at
+abbrev pub is_late : ℕ → ℕ → ℕ → Bool
+is_late last prepared_at shard_at = (prepared_at == last) && nat_lt last shard_at
 
 -- a swap: Moved exactly where the prepared version stands at another position than the shard, and else the shard has its layout
 pub record Swaps (old new : DeskState) (shard : ℕ) (prepared : Contents) (moved : Bool) : Type 0 where
@@ -101,7 +101,7 @@ pub record Swaps (old new : DeskState) (shard : ℕ) (prepared : Contents) (move
     seen = new.seen;
     left = slice_set old.left shard (left_at new shard);
     done = if moved then old.done else one_more old.done;
-    late = if moved && is_late old prepared.at (left_at new shard) then one_more old.late else old.late;
+    late = if moved && is_late old.last prepared.at (left_at new shard) then one_more old.late else old.late;
     places = new.places;
   }
   pub places : old.alone ≡ true → new.places ≡ (if moved then old.places else slice_set old.places shard ((place_at old shard).0, prepared.layout))

@@ -3,5 +3,8 @@
 #![tactic(auto)]
 
 mod desk;
+mod shards;
+mod solo;
 
 pub use desk::Desk;
+pub use solo::SoloDesk;

@@ -14,20 +14,23 @@ opened_code version stored = take version.layout.bits stored
 abbrev pub opened_counts : Contents → List ℕ → ℕ → ℕ → ℕ
 opened_counts version query = row_counts version.rows version.layout.parts query
 
--- a range query's hits are the scan of the version's rows; its one radius has the first of the cheapest vectors as its plan and
--- the least cost as its bound
+-- a range query's hits are the scan of the version's rows; its one radius has the first of the
+-- cheapest vectors as its plan and the least cost as its bound
 pub record AsksRange (version : Contents) (query : List ℕ) (tau room : ℕ) (a : Asked) : Type 0 where
   pub hits : a.hits ≡ scan version.rows query tau
   pub rows : a.rows ≡ length version.rows
   pub near : a.near ≡ false
   pub room_is : a.room ≡ room
   pub farthest : a.farthest ≡ version.layout.bits
-  pub vector : (given : Option ℕ) → IsChoice (opened_counts version query) tau (length version.layout.parts) (a.plan given).0
-  pub cost : (given : Option ℕ) → IsLeast (opened_counts version query) tau (length version.layout.parts) (a.plan given).1
-  pub bound : (given : Option ℕ) → IsLeast (opened_counts version query) tau (length version.layout.parts) (a.bound given)
+  pub vector : (given : Option ℕ)
+      → IsChoice (opened_counts version query) tau (length version.layout.parts) (a.plan given).0
+  pub cost : (given : Option ℕ)
+      → IsLeast (opened_counts version query) tau (length version.layout.parts) (a.plan given).1
+  pub bound : (given : Option ℕ)
+      → IsLeast (opened_counts version query) tau (length version.layout.parts) (a.bound given)
 
--- a range query that has read and given nothing: its units are at most the values of all parts, twice its bound and one, and where its
--- bound is 0 it has ended
+-- a range query that has read and given nothing: its units are at most the values of all parts,
+-- twice its bound and one, and where its bound is 0 it has ended
 pub record BeginsRange (version : Contents) (a : Asked) (s : Standing) : Type 0 where
   pub given : s.given ≡ 0
   pub waiting : s.waiting ≡ []

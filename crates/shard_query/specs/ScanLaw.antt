@@ -19,19 +19,22 @@ near_only radius (hit ∷ hits) = go (near_only radius hits) (nat_le hit.dist ra
     rest : List Hit
     rest = filter (λ hit. nat_le hit.dist radius) hits
 
-    go : AllByRecursion (λ hit. hit.dist ≤ radius) rest → (near : Bool) → nat_le hit.dist radius ≡ near
+    go : AllByRecursion (λ hit. hit.dist ≤ radius) rest → (near : Bool)
+        → nat_le hit.dist radius ≡ near
         → AllByRecursion (λ hit. hit.dist ≤ radius) (cond near (hit ∷ rest) rest)
     go later true e = (leb-true hit.dist radius e, later)
     go later false e = later
 
-few_near : (radius : ℕ) (hits : List Hit) → length (filter (λ hit. nat_le hit.dist radius) hits) ≤ length hits
+few_near : (radius : ℕ) (hits : List Hit)
+    → length (filter (λ hit. nat_le hit.dist radius) hits) ≤ length hits
 few_near radius [] = omega arith
 few_near radius (hit ∷ hits) = go (few_near radius hits) (nat_le hit.dist radius)
   where
     rest : List Hit
     rest = filter (λ hit. nat_le hit.dist radius) hits
 
-    go : length rest ≤ length hits → (near : Bool) → length (cond near (hit ∷ rest) rest) ≤ suc (length hits)
+    go : length rest ≤ length hits → (near : Bool)
+        → length (cond near (hit ∷ rest) rest) ≤ suc (length hits)
     go few true = omega arith
     go few false = omega arith
 
@@ -39,7 +42,8 @@ few_near radius (hit ∷ hits) = go (few_near radius hits) (nat_le hit.dist radi
 pub scan_near : (rows : List (ℕ × List ℕ)) (query : List ℕ) (radius most : ℕ) → radius ≤ most
     → All (λ hit. hit.dist ≤ most) (scan rows query radius)
 scan_near rows query radius most le =
-    All-permutation (λ (hit : Hit). hit.dist ≤ most) (hits_within rows query radius) (scan rows query radius)
+    All-permutation (λ (hit : Hit). hit.dist ≤ most) (hits_within rows query radius)
+    (scan rows query radius)
     (in_order_permutation (hits_within rows query radius))
     (All-from_recursion (λ (hit : Hit). hit.dist ≤ most) (hits_within rows query radius)
     (farther (hits_within rows query radius) (near_only radius (map (hit_of query) rows))))
@@ -50,7 +54,8 @@ scan_near rows query radius most le =
     farther (hit ∷ hits) all = (omega (arith, all.0, le), farther hits all.1)
 
 -- a scan has at most as many hits as there are rows
-pub scan_few : (rows : List (ℕ × List ℕ)) (query : List ℕ) (radius : ℕ) → length (scan rows query radius) ≤ length rows
+pub scan_few : (rows : List (ℕ × List ℕ)) (query : List ℕ) (radius : ℕ)
+    → length (scan rows query radius) ≤ length rows
 scan_few rows query radius =
     omega (
       arith,

@@ -22,7 +22,8 @@ module _ (p : Planned) (w : Place) (hits : Window) (reads : ℕ) (is : IsTask p 
   task_asked : IsAsked (asked_of p hits.room)
   task_asked = record {
     ascends = in_order_sorted (hits_within p.version.contents.rows (planned_query p) p.tau);
-    reached = scan_near p.version.contents.rows (planned_query p) p.tau p.version.contents.layout.bits is.near;
+    reached = scan_near p.version.contents.rows
+        (planned_query p) p.tau p.version.contents.layout.bits is.near;
     few = scan_few p.version.contents.rows (planned_query p) p.tau;
     some_room = is.some_room;
     range = λ range. record { plan = λ given. refl; bound = λ given. refl };
@@ -30,7 +31,8 @@ module _ (p : Planned) (w : Place) (hits : Window) (reads : ℕ) (is : IsTask p 
   }
 
   -- while it searches nothing was given, and nothing waits
-  while_searching : reads < p.least → IsLawful (asked_of p hits.room) (standing_at p w hits reads false)
+  while_searching : reads < p.least
+      → IsLawful (asked_of p hits.room) (standing_at p w hits reads false)
   while_searching more =
       let search = is.search more in
       let behind = is.window.behind in
@@ -68,13 +70,15 @@ module _ (p : Planned) (w : Place) (hits : Window) (reads : ℕ) (is : IsTask p 
   when_read all =
       let found = is.found_all all in
       let up : Ascends hits.found =
-      subst Ascends (sym found) (ascends_in_order (hits_within p.version.contents.rows (planned_query p) p.tau)) in
+      subst Ascends (sym found)
+      (ascends_in_order (hits_within p.version.contents.rows (planned_query p) p.tau)) in
       let reached_all = given_or_waiting in
       let number = ap length found in
       let among = is.window.among in
       record {
         asked = task_asked;
-        window = window_prefix hits is.window ∙ ap (λ xs. take (length (waiting_of hits)) (drop hits.given xs)) found;
+        window = window_prefix hits is.window
+            ∙ ap (λ xs. take (length (waiting_of hits)) (drop hits.given xs)) found;
         within = omega arith;
         room = omega (arith, waits hits is.window, is.window.fits);
         each_read = omega (arith, is.few);
@@ -82,7 +86,8 @@ module _ (p : Planned) (w : Place) (hits : Window) (reads : ℕ) (is : IsTask p 
         bounded = is.bounded;
         floor = window_floor (asked_of p hits.room) hits reads (hits.moved == length hits.found)
             (units_left p w hits reads) (sym found) up is.window
-            (λ given. eq-eqb hits.moved (length hits.found) (omega (arith, given, is.window.behind)));
+            (λ given. eq-eqb hits.moved (length hits.found)
+            (omega (arith, given, is.window.behind)));
         end = record {
           all_reached = λ ended. omega (arith, eqb-true hits.moved (length hits.found) ended);
           all_read = λ ended range. all;
@@ -94,9 +99,12 @@ module _ (p : Planned) (w : Place) (hits : Window) (reads : ℕ) (is : IsTask p 
   -- a range query is lawful
   pub task_lawful : IsLawful (asked_of p hits.room) (standing_of p w hits reads)
   task_lawful =
-      ⊎_elim (λ (more : reads < p.least). subst (λ b. IsLawful (asked_of p hits.room) (standing_at p w hits reads b))
+      ⊎_elim
+      (λ (more : reads < p.least).
+      subst (λ b. IsLawful (asked_of p hits.room) (standing_at p w hits reads b))
       (sym (ne_eqb reads p.least (λ (e : reads ≡ p.least). omega arith))) (while_searching more))
       (λ (all : p.least ≤ reads). (let read : reads ≡ p.least = omega (arith, is.bounded) in
-      subst (λ b. IsLawful (asked_of p hits.room) (standing_at p w hits reads b)) (sym (eq-eqb reads p.least read))
+      subst (λ b. IsLawful (asked_of p hits.room) (standing_at p w hits reads b))
+      (sym (eq-eqb reads p.least read))
       (when_read read)))
       (cases_lt reads p.least)

@@ -1,4 +1,5 @@
--- What a range query keeps while it is answered: first it searches, then it gives the hits that it found, all in order.
+-- What a range query keeps while it is answered: first it searches,
+-- then it gives the hits that it found, all in order.
 use Rattle.std.specs.Prelude.{◌≡◌, ℕ, ◌+◌, ◌-◌, ◌<◌, ◌≤◌, ◌==◌, ◌&&◌, if◌then◌else◌, Bool, false, List, ◌++◌, length, Option, Some, None}
 use Rattle.std.specs.Option.{option_to_list}
 use Rattle.hamming_model.specs.declared.hit.Hit.{Hit}
@@ -64,4 +65,5 @@ pub record IsTask (p : Planned) (w : Place) (hits : Window) (reads : ℕ) : Type
 
 -- the window after a posting was read, with its hit if it was kept
 abbrev pub with_kept : Window → Option Hit → Window
-with_kept hits kept = window_at (hits.found ++ option_to_list kept) hits.capacity hits.room hits.given hits.moved
+with_kept hits kept =
+    window_at (hits.found ++ option_to_list kept) hits.capacity hits.room hits.given hits.moved

@@ -7,7 +7,7 @@ ghost use Rattle.hamming_model.specs.declared.limits.TheConstants.{ROOM_MOST, WO
 ghost use Rattle.hit_source.specs.Moves.{PollAnswers};
 ghost use Rattle.hit_source.specs.Work.{Works, IsStopped};
 ghost use Rattle.shard_query.specs.Opening.{AsksRange, BeginsRange, opened_code};
-ghost use Rattle.shard_query.specs.Tasks.{IsTask, asked_of, standing_of, with_kept};
+ghost use Rattle.shard_query.specs.Tasks.{IsTask, with_kept};
 
 use gph_codes::Code;
 use hamming_model::Hit;
@@ -33,6 +33,8 @@ pub struct RangeTask<const W: usize> {
 }
 
 impl<const W: usize> RangeTask<W> {
+    ghost use Rattle.shard_query.specs.Standings.{task_asked, task_standing};
+
     /// Opens the query: plans it and takes all its memory, room for at most as many hits as the least cost.
     ///
     /// # Errors
@@ -51,11 +53,12 @@ impl<const W: usize> RangeTask<W> {
         requires near { tau ≤ (arc_value version).contents.layout.bits }
         requires some_room { 1 ≤ room }
         requires small_room { room ≤ ROOM_MOST }
-        ensures asked { IfOk result (λ task.
-            AsksRange (arc_value version.entry).contents (opened_code (arc_value version.entry).contents query.entry)
+        ensures asked { IfOk result (λ task. AsksRange (arc_value version.entry).contents
+            (opened_code (arc_value version.entry).contents query.entry)
             tau room (⟦<RangeTask<W> as HitSource>⟧.asked task)) }
         ensures begins { IfOk result (λ task. BeginsRange (arc_value version.entry).contents
-            (⟦<RangeTask<W> as HitSource>⟧.asked task) (⟦<RangeTask<W> as HitSource>⟧.standing task)) }
+            (⟦<RangeTask<W> as HitSource>⟧.asked task)
+            (⟦<RangeTask<W> as HitSource>⟧.standing task)) }
     {
         hits_are_few();
         let plan = Plan::open(alloc, version, query, tau)?;
@@ -75,12 +78,8 @@ impl<const W: usize> RangeTask<W> {
         ensures plan { self.new.plan ≡ self.old.plan }
         ensures room { self.new.window.room ≡ self.old.window.room }
         ensures works { Works None (if result then 1 else 0)
-            (standing_of self.old.plan self.old.walk self.old.window self.old.reads)
-            (standing_of self.new.plan self.new.walk self.new.window self.new.reads)
-            steps.old steps.new }
-        ensures stops { result ≡ false → IsStopped
-            (asked_of self.new.plan self.new.window.room)
-            (standing_of self.new.plan self.new.walk self.new.window self.new.reads) }
+            (task_standing self.old) (task_standing self.new) steps.old steps.new }
+        ensures stops { result ≡ false → IsStopped (task_asked self.new) (task_standing self.new) }
     {
         if self.reads < self.plan.least() {
             self.search(steps);
@@ -99,9 +98,7 @@ impl<const W: usize> RangeTask<W> {
         ensures plan { self.new.plan ≡ self.old.plan }
         ensures room { self.new.window.room ≡ self.old.window.room }
         ensures works { Works None 1
-            (standing_of self.old.plan self.old.walk self.old.window self.old.reads)
-            (standing_of self.new.plan self.new.walk self.new.window self.new.reads)
-            steps.old steps.new }
+            (task_standing self.old) (task_standing self.new) steps.old steps.new }
     {
         if self.walk.is_in_list() {
             self.read(steps);
@@ -117,9 +114,7 @@ impl<const W: usize> RangeTask<W> {
         ensures plan { self.new.plan ≡ self.old.plan }
         ensures room { self.new.window.room ≡ self.old.window.room }
         ensures works { Works None 1
-            (standing_of self.old.plan self.old.walk self.old.window self.old.reads)
-            (standing_of self.new.plan self.new.walk self.new.window self.new.reads)
-            steps.old steps.new }
+            (task_standing self.old) (task_standing self.new) steps.old steps.new }
     {
         hits_are_few();
         let least = self.plan.least();
@@ -133,8 +128,7 @@ impl<const W: usize> RangeTask<W> {
 
     // How a poll ends that ends here.
     fn judged(&self) -> Polled
-        ensures { PollAnswers (asked_of self.now.plan self.now.window.room)
-            (standing_of self.now.plan self.now.walk self.now.window self.now.reads) result }
+        ensures { PollAnswers (task_asked self.now) (task_standing self.now) result }
     {
         if self.reads == self.plan.least() && self.window.has_moved_all() {
             Polled::Ended

@@ -59,7 +59,8 @@ module _ (rows : List (ℕ × List ℕ)) (key place : ℕ) (at : IsPlace rows ke
           ∙ code_behind (take place rows) ((key, row.1) ∷ drop (suc place) rows) key at.before ∙ first
 
 -- the same of rows as callers see them, and as a search finds the place
-module _ (inside self : List (ℕ × List ℕ)) (seen : inside ≡ self) (key place : ℕ) (lent : List (ℕ × List ℕ)) (same : lent ≡ inside) (found : IsPlace lent key place) where
+module _ (inside self : List (ℕ × List ℕ)) (seen : inside ≡ self) (key place : ℕ) (lent : List (ℕ × List ℕ)) (same : lent ≡ inside)
+    (found : IsPlace lent key place) where
   at : IsPlace self key place
   at = subst (λ (rows : List (ℕ × List ℕ)). IsPlace rows key place) (same ∙ seen) found
 
@@ -122,7 +123,8 @@ same_later : (x : ℕ × List ℕ) (xs : List (ℕ × List ℕ)) (y : ℕ × Lis
 same_later x xs y ys up up' keys same key = elim (cases_eq key x.0) [
   | inl here ↦
       let own : AllByRecursion (λ other. key < other.0) xs = subst (λ (n : ℕ). AllByRecursion (λ other. n < other.0) xs) (sym here) (all_above x.0 xs up) in
-      let other : AllByRecursion (λ other. key < other.0) ys = subst (λ (n : ℕ). AllByRecursion (λ other. n < other.0) ys) (sym (here ∙ keys)) (all_above y.0 ys up') in
+      let other : AllByRecursion (λ other. key < other.0) ys =
+      subst (λ (n : ℕ). AllByRecursion (λ other. n < other.0) ys) (sym (here ∙ keys)) (all_above y.0 ys up') in
       code_before xs key own ∙ sym (code_before ys key other)
   | inr apart ↦
       sym (lookup_tail (is_at (nat_cmp key)) x xs (apart_key key x.0 apart)) ∙ same key
@@ -227,7 +229,8 @@ module _ (buckets : List (List (ℕ × List ℕ))) (are : AreRowBuckets buckets)
   pub rows_are : (rows : List (ℕ × List ℕ)) → IsStrictlySortedBy nat_cmp (keys_of rows) → ((at : ℕ) → at < 256 → shard_rows at 256 rows ≡ bucket_at buckets at)
       → rows_in buckets ≡ rows
   rows_are rows up same = same_rows (rows_in buckets) rows (up_in buckets) up
-      (λ key. code_in key ∙ ap (λ (some : List (ℕ × List ℕ)). code_at some key) (sym (same (key % 256) (omega arith))) ∙ code_of_shard (key % 256) 256 rows key refl)
+      (λ key. code_in key ∙ ap (λ (some : List (ℕ × List ℕ)). code_at some key) (sym (same (key % 256) (omega arith)))
+      ∙ code_of_shard (key % 256) 256 rows key refl)
 
 -- ---- one bucket changed
 
@@ -238,7 +241,8 @@ all_inserted at [] key code own all = (own, tt)
 all_inserted at (row ∷ rows) key code own all = go (nat_cmp key row.0) (all_inserted at rows key code own all.1)
   where
     go : (o : Ordering) → AllByRecursion (λ row. row.0 % 256 ≡ at) (insert_entry nat_cmp rows key code)
-        → AllByRecursion (λ row. row.0 % 256 ≡ at) (match_ordering o ((key, code) ∷ row ∷ rows) ((row.0, code) ∷ rows) (row ∷ insert_entry nat_cmp rows key code))
+        → AllByRecursion (λ row. row.0 % 256 ≡ at)
+        (match_ordering o ((key, code) ∷ row ∷ rows) ((row.0, code) ∷ rows) (row ∷ insert_entry nat_cmp rows key code))
     go Less rest = (own, all)
     go Equal rest = all
     go Greater rest = (all.0, rest)
@@ -292,14 +296,17 @@ module _ (buckets : List (List (ℕ × List ℕ))) (are : AreRowBuckets buckets)
   module _ (code : List ℕ) where
     -- a row put into its bucket is put among the rows
     pub are_added : AreRowBuckets (set buckets (key % 256) (insert_entry nat_cmp (bucket_at buckets (key % 256)) key code))
-    are_added = are_changed (insert_entry nat_cmp own_rows key code) (ascends_inserted own_rows key code own_up) (all_inserted (key % 256) own_rows key code refl own_keys)
+    are_added = are_changed (insert_entry nat_cmp own_rows key code) (ascends_inserted own_rows key code own_up)
+        (all_inserted (key % 256) own_rows key code refl own_keys)
 
-    pub rows_added : rows_in (set buckets (key % 256) (insert_entry nat_cmp (bucket_at buckets (key % 256)) key code)) ≡ insert_entry nat_cmp (rows_in buckets) key code
+    pub rows_added : rows_in (set buckets (key % 256) (insert_entry nat_cmp (bucket_at buckets (key % 256)) key code))
+        ≡ insert_entry nat_cmp (rows_in buckets) key code
     rows_added = rows_are (set buckets (key % 256) (insert_entry nat_cmp own_rows key code)) are_added (insert_entry nat_cmp (rows_in buckets) key code)
         (ascends_inserted (rows_in buckets) key code (up_in buckets)) (λ at below. elim (cases_eq at (key % 256)) [
           | inl same ↦
               own_inserted at 256 key (rows_in buckets) code (eq-eqb (key % 256) at (sym same)) (up_in buckets)
-              ∙ ap (λ (rows : List (ℕ × List ℕ)). insert_entry nat_cmp rows key code) (bucket_of_rows buckets are at below ∙ ap (λ (n : ℕ). bucket_at buckets n) same)
+              ∙ ap (λ (rows : List (ℕ × List ℕ)). insert_entry nat_cmp rows key code)
+              (bucket_of_rows buckets are at below ∙ ap (λ (n : ℕ). bucket_at buckets n) same)
               ∙ sym (changed_here (insert_entry nat_cmp own_rows key code) at same)
           | inr apart ↦
               other_inserted at 256 key (rows_in buckets) code (ne_eqb (key % 256) at (λ (e : key % 256 ≡ at). apart (sym e)))
@@ -308,14 +315,18 @@ module _ (buckets : List (List (ℕ × List ℕ))) (are : AreRowBuckets buckets)
 
   -- a row taken out of its bucket is taken out of the rows
   pub are_removed : AreRowBuckets (set buckets (key % 256) (remove_entry (is_at (nat_cmp key)) (bucket_at buckets (key % 256))))
-  are_removed = are_changed (remove_entry (is_at (nat_cmp key)) own_rows) (ascends_removed own_rows key own_up) (all_removed (key % 256) own_rows (is_at (nat_cmp key)) own_keys)
+  are_removed = are_changed (remove_entry (is_at (nat_cmp key)) own_rows) (ascends_removed own_rows key own_up)
+      (all_removed (key % 256) own_rows (is_at (nat_cmp key)) own_keys)
 
-  pub rows_removed : rows_in (set buckets (key % 256) (remove_entry (is_at (nat_cmp key)) (bucket_at buckets (key % 256)))) ≡ remove_entry (is_at (nat_cmp key)) (rows_in buckets)
-  rows_removed = rows_are (set buckets (key % 256) (remove_entry (is_at (nat_cmp key)) own_rows)) are_removed (remove_entry (is_at (nat_cmp key)) (rows_in buckets))
+  pub rows_removed : rows_in (set buckets (key % 256) (remove_entry (is_at (nat_cmp key)) (bucket_at buckets (key % 256))))
+      ≡ remove_entry (is_at (nat_cmp key)) (rows_in buckets)
+  rows_removed = rows_are (set buckets (key % 256) (remove_entry (is_at (nat_cmp key)) own_rows)) are_removed
+      (remove_entry (is_at (nat_cmp key)) (rows_in buckets))
       (ascends_removed (rows_in buckets) key (up_in buckets)) (λ at below. elim (cases_eq at (key % 256)) [
         | inl same ↦
             own_removed at 256 key (rows_in buckets) (eq-eqb (key % 256) at (sym same))
-            ∙ ap (λ (rows : List (ℕ × List ℕ)). remove_entry (is_at (nat_cmp key)) rows) (bucket_of_rows buckets are at below ∙ ap (λ (n : ℕ). bucket_at buckets n) same)
+            ∙ ap (λ (rows : List (ℕ × List ℕ)). remove_entry (is_at (nat_cmp key)) rows)
+            (bucket_of_rows buckets are at below ∙ ap (λ (n : ℕ). bucket_at buckets n) same)
             ∙ sym (changed_here (remove_entry (is_at (nat_cmp key)) own_rows) at same)
         | inr apart ↦
             other_removed at 256 key (rows_in buckets) (ne_eqb (key % 256) at (λ (e : key % 256 ≡ at). apart (sym e)))

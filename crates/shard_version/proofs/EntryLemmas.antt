@@ -22,7 +22,8 @@ none_of : {X : Type 0} (found : Option X) → is_some found ≡ false → found 
 none_of None e = refl
 none_of (Some x) e = cc
 
-module _ {W : ℕ} (shard shards at : ℕ) (layout : Laid) (stored : List (ℕ × List ℕ)) (tables : List (PartTable W)) (kept : AgreesWithRows (contents_of shard shards at layout stored) stored tables)
+module _ {W : ℕ} (shard shards at : ℕ) (layout : Laid) (stored : List (ℕ × List ℕ)) (tables : List (PartTable W))
+    (kept : AgreesWithRows (contents_of shard shards at layout stored) stored tables)
     (self : Contents) (seen : contents_of shard shards at layout stored ≡ self) (key : ℕ) where
   abbrev place : ℕ
   place = place_in stored key
@@ -34,7 +35,8 @@ module _ {W : ℕ} (shard shards at : ℕ) (layout : Laid) (stored : List (ℕ �
   pub same_stands : is_some (code_at stored key) ≡ is_some (code_at self.rows key)
   same_stands = sym (stands_unpadded layout.bits stored key) ∙ ap (λ (contents : Contents). is_some (code_at contents.rows key)) seen
 
-  module _ (room : length self.rows < 1048576) (code : List ℕ) (absent : code_at self.rows key ≡ None) (stands : StandsFor W self.layout.bits code (take self.layout.bits code)) (own : key % self.shards ≡ self.shard)
+  module _ (room : length self.rows < 1048576) (code : List ℕ) (absent : code_at self.rows key ≡ None)
+      (stands : StandsFor W self.layout.bits code (take self.layout.bits code)) (own : key % self.shards ≡ self.shard)
       (lent : Laid) (is : lent ≡ layout) where
     none : code_at (map (unpadded layout.bits) stored) key ≡ None
     none = ap (λ (contents : Contents). code_at contents.rows key) seen ∙ absent
@@ -53,8 +55,14 @@ module _ {W : ℕ} (shard shards at : ℕ) (layout : Laid) (stored : List (ℕ �
     stand = subst (λ (contents : Contents). StandsFor W contents.layout.bits code (take contents.layout.bits code)) (sym seen) stands
 
     -- what adding a row to each part asks
-    pub asks_to_add : CountsAll → (lent.bits ≤ 64 * W) × ((length tables ≡ length lent.parts) × (StandsFor W lent.bits code (take lent.bits code) × EachTakes lent tables key (take lent.bits code)))
-    asks_to_add all = subst (λ (laid : Laid). (laid.bits ≤ 64 * W) × ((length tables ≡ length laid.parts) × (StandsFor W laid.bits code (take laid.bits code) × EachTakes laid tables key (take laid.bits code))))
+    pub asks_to_add : CountsAll
+        → (lent.bits ≤ 64 * W)
+        × ((length tables ≡ length lent.parts)
+        × (StandsFor W lent.bits code (take lent.bits code) × EachTakes lent tables key (take lent.bits code)))
+    asks_to_add all = subst
+        (λ (laid : Laid). (laid.bits ≤ 64 * W)
+        × ((length tables ≡ length laid.parts)
+        × (StandsFor W laid.bits code (take laid.bits code) × EachTakes laid tables key (take laid.bits code))))
         (sym is) (kept.room, (kept.number, (stand, each_takes shard shards at layout stored tables kept key place placed code none stand fits all)))
 
     module _ (left : List (ℕ × List ℕ)) (added : left ≡ insert_entry nat_cmp stored key code) where
@@ -62,7 +70,9 @@ module _ {W : ℕ} (shard shards at : ℕ) (layout : Laid) (stored : List (ℕ �
       put = added ∙ sym (placed_added stored key place placed code absent_there)
 
       -- the version with the row is kept
-      pub kept_added : AddsValue → (new : List (PartTable W)) → AreChanged (Taken lent key code (take lent.bits code)) tables new (length tables) → AgreesWithRows (contents_of shard shards (at + 1) layout left) left new
+      pub kept_added : AddsValue → (new : List (PartTable W))
+          → AreChanged (Taken lent key code (take lent.bits code)) tables new (length tables)
+          → AgreesWithRows (contents_of shard shards (at + 1) layout left) left new
       kept_added adds new changed =
           let mine = subst (λ (contents : Contents). key % contents.shards ≡ contents.shard) (sym seen) own in
           subst (λ (others : List (ℕ × List ℕ)). AgreesWithRows (contents_of shard shards (at + 1) layout others) others new) (sym put)
@@ -72,7 +82,9 @@ module _ {W : ℕ} (shard shards at : ℕ) (layout : Laid) (stored : List (ℕ �
       -- and is seen as the version before with the row
       pub seen_added : contents_of shard shards (at + 1) layout left ≡ with_added self key code
       seen_added =
-          ap (next_with (contents_of shard shards at layout stored)) (ap (map (unpadded layout.bits)) put ∙ rows_with_row shard shards at layout stored tables kept key place placed code none stand)
+          ap (next_with (contents_of shard shards at layout stored))
+          (ap (map (unpadded layout.bits)) put ∙ rows_with_row shard shards at layout stored tables kept key place placed
+          code none stand)
           ∙ ap (λ (contents : Contents). with_added contents key code) seen
 
   module _ (present : is_some (code_at self.rows key) ≡ true) where
@@ -104,16 +116,33 @@ module _ {W : ℕ} (shard shards at : ℕ) (layout : Laid) (stored : List (ℕ �
           ap (λ (c : List ℕ). (key, c)) codes ∙ ap (λ (k : ℕ). (k, there.1)) (sym keys)
 
       -- what taking a row out of each part asks
-      pub asks_to_delete : CountsValue → (lent.bits ≤ 64 * W) × ((length tables ≡ length lent.parts) × (StandsFor W lent.bits code (take lent.bits code) × EachHas lent tables key (take lent.bits code)))
-      asks_to_delete counted = subst (λ (laid : Laid). (laid.bits ≤ 64 * W) × ((length tables ≡ length laid.parts) × (StandsFor W laid.bits code (take laid.bits code) × EachHas laid tables key (take laid.bits code))))
-          (sym is) (kept.room, (kept.number, (stands_own shard shards at layout stored tables kept key place placed some code stood, each_has shard shards at layout stored tables kept key place placed some code stood counted)))
+      pub asks_to_delete : CountsValue
+          → (lent.bits ≤ 64 * W)
+          × ((length tables ≡ length lent.parts)
+          × (StandsFor W lent.bits code (take lent.bits code) × EachHas lent tables key (take lent.bits code)))
+      asks_to_delete counted = subst
+          (λ (laid : Laid). (laid.bits ≤ 64 * W)
+          × ((length tables ≡ length laid.parts)
+          × (StandsFor W laid.bits code (take laid.bits code) × EachHas laid tables key (take laid.bits code))))
+          (sym is) (
+            kept.room,
+            (
+              kept.number,
+              (
+                stands_own shard shards at layout stored tables kept key place placed some code stood,
+                each_has shard shards at layout stored tables kept key place placed some code stood counted,
+              ),
+            ),
+          )
 
       module _ (left : List (ℕ × List ℕ)) (lost : left ≡ remove_entry (is_at (nat_cmp key)) stored) where
         cut : left ≡ take place stored ++ drop (suc place) stored
         cut = lost ∙ sym (placed_removed stored key place placed up present_there (key, code) stood)
 
         -- the version without the row is kept
-        pub kept_deleted : RemovesValue → (new : List (PartTable W)) → AreChanged (Lost lent key (take lent.bits code)) tables new (length tables) → AgreesWithRows (contents_of shard shards (at + 1) layout left) left new
+        pub kept_deleted : RemovesValue → (new : List (PartTable W))
+            → AreChanged (Lost lent key (take lent.bits code)) tables new (length tables)
+            → AgreesWithRows (contents_of shard shards (at + 1) layout left) left new
         kept_deleted removed new changed =
             subst (λ (others : List (ℕ × List ℕ)). AgreesWithRows (contents_of shard shards (at + 1) layout others) others new) (sym cut)
             (kept_without_row shard shards at layout stored tables kept key place placed some code stood new removed
@@ -122,5 +151,7 @@ module _ {W : ℕ} (shard shards at : ℕ) (layout : Laid) (stored : List (ℕ �
         -- and is seen as the version before without the row
         pub seen_deleted : contents_of shard shards (at + 1) layout left ≡ with_deleted self key
         seen_deleted =
-            ap (next_with (contents_of shard shards at layout stored)) (ap (map (unpadded layout.bits)) cut ∙ rows_without_row shard shards at layout stored tables kept key place placed some code stood)
+            ap (next_with (contents_of shard shards at layout stored))
+            (ap (map (unpadded layout.bits)) cut ∙ rows_without_row shard shards at layout stored tables kept key place placed
+            some code stood)
             ∙ ap (λ (contents : Contents). with_deleted contents key) seen

@@ -30,7 +30,8 @@ none_taken heads number all is = record {
 }
 
 -- a bucket as it is lent
-pub bucket_seen : (shared : List (Arc (List (ℕ × List ℕ)) Global)) (at : ℕ) (own : Arc (List (ℕ × List ℕ)) Global) → at < length shared → own ≡ get_or shared at own
+pub bucket_seen : (shared : List (Arc (List (ℕ × List ℕ)) Global)) (at : ℕ) (own : Arc (List (ℕ × List ℕ)) Global)
+    → at < length shared → own ≡ get_or shared at own
     → (lent : List (ℕ × List ℕ)) → lent ≡ arc_value own → lent ≡ bucket_at (row_buckets_of shared) at
 bucket_seen shared at own below is lent same = same ∙ ap (λ bucket. arc_value bucket) is ∙ sym (get_or-map (λ bucket. arc_value bucket) shared at own [] below)
 
@@ -78,7 +79,8 @@ at_behind front back row other head is = rw is (behind front back row other)
 -- and its key
 key_behind : (front back : List (ℕ × List ℕ)) (row : ℕ × List ℕ) (head : ℕ) → head ≡ length front → key_from (front ++ row ∷ back) head ≡ row.0
 key_behind front back row head is =
-    let less : nat_lt head (length (front ++ row ∷ back)) ≡ true = lt-ltb head (length (front ++ row ∷ back)) (omega (arith, is, length-append front (row ∷ back))) in
+    let less : nat_lt head (length (front ++ row ∷ back)) ≡ true =
+    lt-ltb head (length (front ++ row ∷ back)) (omega (arith, is, length-append front (row ∷ back))) in
     rw less (ap (λ (one : ℕ × List ℕ). one.0) (at_behind front back row (0, []) head is))
 
 key_past : (rows : List (ℕ × List ℕ)) (head : ℕ) → length rows ≤ head → key_from rows head ≡ 2 ^ 64
@@ -104,7 +106,9 @@ module _ (buckets : List (List (ℕ × List ℕ))) (are : AreRowBuckets buckets)
 
   -- no key that is left is below the next row's
   above : AllByRecursion (λ other. row.0 < other.0) past
-  above = above_first row past (subst (λ (left : List (ℕ × List ℕ)). IsStrictlySortedBy nat_cmp (keys_of left)) (drop_here count rows (0, []) within) (ascend_from count rows (up_in buckets)))
+  above = above_first row past
+      (subst (λ (left : List (ℕ × List ℕ)). IsStrictlySortedBy nat_cmp (keys_of left)) (drop_here count rows (0, []) within)
+      (ascend_from count rows (up_in buckets)))
 
   module _ (heads : List ℕ) (each : (at : ℕ) → at < 256 → get_or heads at 0 ≡ length (shard_rows at 256 (take count rows))) where
     -- the next row is the head of its bucket
@@ -112,10 +116,12 @@ module _ (buckets : List (List (ℕ × List ℕ))) (are : AreRowBuckets buckets)
     own_head =
         let own : (row.0 % 256 == row.0 % 256) ≡ true = eq-eqb (row.0 % 256) (row.0 % 256) refl in
         split (row.0 % 256) (omega arith)
-        ∙ ap (λ (keep : Bool). shard_rows (row.0 % 256) 256 (take count rows) ++ cond keep (row ∷ shard_rows (row.0 % 256) 256 past) (shard_rows (row.0 % 256) 256 past)) own
+        ∙ ap (λ (keep : Bool). shard_rows (row.0 % 256) 256 (take count rows) ++ cond keep (row ∷ shard_rows (row.0 % 256) 256 past)
+        (shard_rows (row.0 % 256) 256 past)) own
 
     own_key : head_key buckets heads (row.0 % 256) ≡ row.0
-    own_key = rw own_head (key_behind (shard_rows (row.0 % 256) 256 (take count rows)) (shard_rows (row.0 % 256) 256 past) row (get_or heads (row.0 % 256) 0) (each (row.0 % 256) (omega arith)))
+    own_key = rw own_head (key_behind (shard_rows (row.0 % 256) 256 (take count rows)) (shard_rows (row.0 % 256) 256 past) row
+        (get_or heads (row.0 % 256) 0) (each (row.0 % 256) (omega arith)))
 
     -- the head of another bucket is above it
     other_key : (at : ℕ) → at < 256 → at ≢ row.0 % 256 → row.0 < 2 ^ 64 → row.0 < head_key buckets heads at
@@ -125,19 +131,24 @@ module _ (buckets : List (List (ℕ × List ℕ))) (are : AreRowBuckets buckets)
         none = ne_eqb (row.0 % 256) at (λ (e : row.0 % 256 ≡ at). apart (sym e))
 
         left_is : bucket_at buckets at ≡ shard_rows at 256 (take count rows) ++ shard_rows at 256 past
-        left_is = split at below ∙ ap (λ (keep : Bool). shard_rows at 256 (take count rows) ++ cond keep (row ∷ shard_rows at 256 past) (shard_rows at 256 past)) none
+        left_is = split at below
+            ∙ ap (λ (keep : Bool). shard_rows at 256 (take count rows) ++ cond keep (row ∷ shard_rows at 256 past)
+            (shard_rows at 256 past)) none
 
         go : (left : List (ℕ × List ℕ)) → shard_rows at 256 past ≡ left → AllByRecursion (λ other. row.0 < other.0) left → row.0 < head_key buckets heads at
         go [] e all =
-            let whole : bucket_at buckets at ≡ shard_rows at 256 (take count rows) ++ [] = left_is ∙ ap (λ (l : List (ℕ × List ℕ)). shard_rows at 256 (take count rows) ++ l) e in
+            let whole : bucket_at buckets at ≡ shard_rows at 256 (take count rows) ++ [] =
+            left_is ∙ ap (λ (l : List (ℕ × List ℕ)). shard_rows at 256 (take count rows) ++ l) e in
             let long = ap (λ (l : List (ℕ × List ℕ)). length l) whole in
             let sum = length-append (shard_rows at 256 (take count rows)) [] in
             let head = each at below in
             let key = key_past (bucket_at buckets at) (get_or heads at 0) (omega arith) in
             omega arith
         go (next ∷ left) e all =
-            let whole : bucket_at buckets at ≡ shard_rows at 256 (take count rows) ++ next ∷ left = left_is ∙ ap (λ (l : List (ℕ × List ℕ)). shard_rows at 256 (take count rows) ++ l) e in
-            let key : head_key buckets heads at ≡ next.0 = rw whole (key_behind (shard_rows at 256 (take count rows)) left next (get_or heads at 0) (each at below)) in
+            let whole : bucket_at buckets at ≡ shard_rows at 256 (take count rows) ++ next ∷ left =
+            left_is ∙ ap (λ (l : List (ℕ × List ℕ)). shard_rows at 256 (take count rows) ++ l) e in
+            let key : head_key buckets heads at ≡ next.0 =
+            rw whole (key_behind (shard_rows at 256 (take count rows)) left next (get_or heads at 0) (each at below)) in
             let low = all.0 in
             omega arith
 
@@ -178,7 +189,8 @@ module _ (buckets : List (List (ℕ × List ℕ))) (are : AreRowBuckets buckets)
       pub taken_more : (first : List (ℕ × List ℕ)) → AreTaken rows first heads count → (taken : ℕ × List ℕ) → taken ≡ row
           → AreTaken rows (first ++ taken ∷ []) (set heads least (get_or heads least 0 + 1)) (count + 1)
       taken_more first before taken is = record {
-        taken = ap (λ (one : ℕ × List ℕ). first ++ one ∷ []) is ∙ ap (λ (l : List (ℕ × List ℕ)). l ++ row ∷ []) before.taken ∙ sym (take_more rows count (0, []) within);
+        taken = ap (λ (one : ℕ × List ℕ). first ++ one ∷ []) is ∙ ap (λ (l : List (ℕ × List ℕ)). l ++ row ∷ []) before.taken
+            ∙ sym (take_more rows count (0, []) within);
         number = length-set heads least (get_or heads least 0 + 1) ∙ before.number;
         each = λ at below. one_more at below (cases_eq at least);
       }
@@ -186,7 +198,8 @@ module _ (buckets : List (List (ℕ × List ℕ))) (are : AreRowBuckets buckets)
           counted : (at : ℕ) → length (shard_rows at 256 (take (count + 1) rows)) ≡ length (shard_rows at 256 (take count rows)) + cond (row.0 % 256 == at) 1 0
           counted at = length-filter_more (λ (one : ℕ × List ℕ). one.0 % 256 == at) rows count (0, []) within
 
-          one_more : (at : ℕ) → at < 256 → (at ≡ least) ⊎ (at ≢ least) → get_or (set heads least (get_or heads least 0 + 1)) at 0 ≡ length (shard_rows at 256 (take (count + 1) rows))
+          one_more : (at : ℕ) → at < 256 → (at ≡ least) ⊎ (at ≢ least)
+              → get_or (set heads least (get_or heads least 0 + 1)) at 0 ≡ length (shard_rows at 256 (take (count + 1) rows))
           one_more at below (inl here) =
               let own : ◌≡◌ {A = ℕ} (cond (row.0 % 256 == at) 1 0) 1 = ap (λ (b : Bool). cond b 1 0) (eq-eqb (row.0 % 256) at (sym (here ∙ same))) in
               let number = before.number in
@@ -194,5 +207,6 @@ module _ (buckets : List (List (ℕ × List ℕ))) (are : AreRowBuckets buckets)
               ap (λ (n : ℕ). get_or (set heads least (get_or heads least 0 + 1)) n 0) here ∙ get_or-set_same heads least (get_or heads least 0 + 1) 0 inside
               ∙ ap (λ (n : ℕ). get_or heads n 0 + 1) (sym here) ∙ omega (arith, each at below, counted at, own)
           one_more at below (inr apart) =
-              let other : ◌≡◌ {A = ℕ} (cond (row.0 % 256 == at) 1 0) 0 = ap (λ (b : Bool). cond b 1 0) (ne_eqb (row.0 % 256) at (λ (e : row.0 % 256 ≡ at). apart (sym (same ∙ e)))) in
+              let other : ◌≡◌ {A = ℕ} (cond (row.0 % 256 == at) 1 0) 0 =
+              ap (λ (b : Bool). cond b 1 0) (ne_eqb (row.0 % 256) at (λ (e : row.0 % 256 ≡ at). apart (sym (same ∙ e)))) in
               get_or-set_other heads least at (get_or heads least 0 + 1) 0 apart ∙ omega (arith, each at below, counted at, other)

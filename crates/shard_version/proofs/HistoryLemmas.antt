@@ -44,7 +44,8 @@ all_of_shard P test (row ∷ rows) all = go (test row) (all_of_shard P test rows
     go true rest = (all.0, rest)
     go false rest = rest
 
-pub keys_above : (key low : ℕ) (rows : List (ℕ × List ℕ)) → key < low → AllByRecursion (λ other. low < other.0) rows → AllByRecursion (λ other. key < other.0) rows
+pub keys_above : (key low : ℕ) (rows : List (ℕ × List ℕ)) → key < low → AllByRecursion (λ other. low < other.0) rows
+    → AllByRecursion (λ other. key < other.0) rows
 keys_above key low rows below all = all_weaker (λ other. low < other.0) (λ other. key < other.0) (λ other h. omega arith) rows all
 
 module _ (shard shards key : ℕ) where
@@ -62,30 +63,44 @@ module _ (shard shards key : ℕ) where
       go Less keep e k rest =
           let low = less_below key row.0 e in
           let above : AllByRecursion (λ other. key < other.0) (row ∷ rows) = (low, keys_above key row.0 rows low (all_above row.0 rows up.0)) in
-          let new = inserted_between [] (shard_rows shard shards (row ∷ rows)) key code tt (all_of_shard (λ other. key < other.0) (λ other. other.0 % shards == shard) (row ∷ rows) above) in
+          let new = inserted_between [] (shard_rows shard shards (row ∷ rows)) key code tt
+          (all_of_shard (λ other. key < other.0) (λ other. other.0 % shards == shard) (row ∷ rows) above) in
           ap (λ own. cond own ((key, code) ∷ shard_rows shard shards (row ∷ rows)) (shard_rows shard shards (row ∷ rows))) own ∙ sym new
       go Equal keep e k rest =
           let mine : (row.0 % shards == shard) ≡ true = subst (λ (n : ℕ). (n % shards == shard) ≡ true) (same_key key row.0 e) own in
           ap (λ keep. cond keep ((row.0, code) ∷ shard_rows shard shards rows) (shard_rows shard shards rows)) mine
           ∙ sym (ap (λ keep. insert_entry nat_cmp (cond keep (row ∷ shard_rows shard shards rows) (shard_rows shard shards rows)) key code) mine
-          ∙ ap (λ o. match_ordering o ((key, code) ∷ row ∷ shard_rows shard shards rows) ((row.0, code) ∷ shard_rows shard shards rows) (row ∷ insert_entry nat_cmp (shard_rows shard shards rows) key code)) e)
+          ∙ ap
+          (λ o. match_ordering o ((key, code) ∷ row ∷ shard_rows shard shards rows)
+          ((row.0, code) ∷ shard_rows shard shards rows) (row ∷ insert_entry nat_cmp (shard_rows shard shards rows) key code))
+          e)
       go Greater true e k rest =
-          ap (λ keep. cond keep (row ∷ shard_rows shard shards (insert_entry nat_cmp rows key code)) (shard_rows shard shards (insert_entry nat_cmp rows key code))) k
+          ap
+          (λ keep. cond keep (row ∷ shard_rows shard shards (insert_entry nat_cmp rows key code))
+          (shard_rows shard shards (insert_entry nat_cmp rows key code))) k
           ∙ ap (λ (more : List (ℕ × List ℕ)). row ∷ more) rest
           ∙ sym (ap (λ keep. insert_entry nat_cmp (cond keep (row ∷ shard_rows shard shards rows) (shard_rows shard shards rows)) key code) k
-          ∙ ap (λ o. match_ordering o ((key, code) ∷ row ∷ shard_rows shard shards rows) ((row.0, code) ∷ shard_rows shard shards rows) (row ∷ insert_entry nat_cmp (shard_rows shard shards rows) key code)) e)
+          ∙ ap
+          (λ o. match_ordering o ((key, code) ∷ row ∷ shard_rows shard shards rows)
+          ((row.0, code) ∷ shard_rows shard shards rows) (row ∷ insert_entry nat_cmp (shard_rows shard shards rows) key code))
+          e)
       go Greater false e k rest =
-          ap (λ keep. cond keep (row ∷ shard_rows shard shards (insert_entry nat_cmp rows key code)) (shard_rows shard shards (insert_entry nat_cmp rows key code))) k
+          ap
+          (λ keep. cond keep (row ∷ shard_rows shard shards (insert_entry nat_cmp rows key code))
+          (shard_rows shard shards (insert_entry nat_cmp rows key code))) k
           ∙ rest
           ∙ sym (ap (λ keep. insert_entry nat_cmp (cond keep (row ∷ shard_rows shard shards rows) (shard_rows shard shards rows)) key code) k)
 
   -- a row of another shard changes none of the shard's
-  pub other_inserted : (rows : List (ℕ × List ℕ)) (code : List ℕ) → (key % shards == shard) ≡ false → shard_rows shard shards (insert_entry nat_cmp rows key code) ≡ shard_rows shard shards rows
+  pub other_inserted : (rows : List (ℕ × List ℕ)) (code : List ℕ) → (key % shards == shard) ≡ false
+      → shard_rows shard shards (insert_entry nat_cmp rows key code) ≡ shard_rows shard shards rows
   other_inserted [] code other = rw other refl
   other_inserted (row ∷ rows) code other = go (nat_cmp key row.0) refl (other_inserted rows code other)
     where
       go : (o : Ordering) → nat_cmp key row.0 ≡ o → (shard_rows shard shards (insert_entry nat_cmp rows key code) ≡ shard_rows shard shards rows)
-          → shard_rows shard shards (match_ordering o ((key, code) ∷ row ∷ rows) ((row.0, code) ∷ rows) (row ∷ insert_entry nat_cmp rows key code)) ≡ shard_rows shard shards (row ∷ rows)
+          → shard_rows shard shards
+          (match_ordering o ((key, code) ∷ row ∷ rows) ((row.0, code) ∷ rows) (row ∷ insert_entry nat_cmp rows key code))
+          ≡ shard_rows shard shards (row ∷ rows)
       go Less e rest = ap (λ own. cond own ((key, code) ∷ shard_rows shard shards (row ∷ rows)) (shard_rows shard shards (row ∷ rows))) other
       go Equal e rest =
           let none : (row.0 % shards == shard) ≡ false = subst (λ (n : ℕ). (n % shards == shard) ≡ false) (same_key key row.0 e) other in
@@ -101,23 +116,29 @@ module _ (shard shards key : ℕ) where
     where
       go : (here keep : Bool) → is_eq (nat_cmp key row.0) ≡ here → (row.0 % shards == shard) ≡ keep
           → (shard_rows shard shards (remove_entry (is_at (nat_cmp key)) rows) ≡ remove_entry (is_at (nat_cmp key)) (shard_rows shard shards rows))
-          → shard_rows shard shards (cond here rows (row ∷ remove_entry (is_at (nat_cmp key)) rows)) ≡ remove_entry (is_at (nat_cmp key)) (shard_rows shard shards (row ∷ rows))
+          → shard_rows shard shards (cond here rows (row ∷ remove_entry (is_at (nat_cmp key)) rows))
+          ≡ remove_entry (is_at (nat_cmp key)) (shard_rows shard shards (row ∷ rows))
       go true keep e k rest =
           let mine : (row.0 % shards == shard) ≡ true = subst (λ (n : ℕ). (n % shards == shard) ≡ true) (same_key key row.0 (equal_key key row.0 e)) own in
           sym (ap (λ keep. remove_entry (is_at (nat_cmp key)) (cond keep (row ∷ shard_rows shard shards rows) (shard_rows shard shards rows))) mine
           ∙ ap (λ here. cond here (shard_rows shard shards rows) (row ∷ remove_entry (is_at (nat_cmp key)) (shard_rows shard shards rows))) e)
       go false true e k rest =
-          ap (λ keep. cond keep (row ∷ shard_rows shard shards (remove_entry (is_at (nat_cmp key)) rows)) (shard_rows shard shards (remove_entry (is_at (nat_cmp key)) rows))) k
+          ap
+          (λ keep. cond keep (row ∷ shard_rows shard shards (remove_entry (is_at (nat_cmp key)) rows))
+          (shard_rows shard shards (remove_entry (is_at (nat_cmp key)) rows))) k
           ∙ ap (λ (more : List (ℕ × List ℕ)). row ∷ more) rest
           ∙ sym (ap (λ keep. remove_entry (is_at (nat_cmp key)) (cond keep (row ∷ shard_rows shard shards rows) (shard_rows shard shards rows))) k
           ∙ ap (λ here. cond here (shard_rows shard shards rows) (row ∷ remove_entry (is_at (nat_cmp key)) (shard_rows shard shards rows))) e)
       go false false e k rest =
-          ap (λ keep. cond keep (row ∷ shard_rows shard shards (remove_entry (is_at (nat_cmp key)) rows)) (shard_rows shard shards (remove_entry (is_at (nat_cmp key)) rows))) k
+          ap
+          (λ keep. cond keep (row ∷ shard_rows shard shards (remove_entry (is_at (nat_cmp key)) rows))
+          (shard_rows shard shards (remove_entry (is_at (nat_cmp key)) rows))) k
           ∙ rest
           ∙ sym (ap (λ keep. remove_entry (is_at (nat_cmp key)) (cond keep (row ∷ shard_rows shard shards rows) (shard_rows shard shards rows))) k)
 
   -- and one of another shard out of none
-  pub other_removed : (rows : List (ℕ × List ℕ)) → (key % shards == shard) ≡ false → shard_rows shard shards (remove_entry (is_at (nat_cmp key)) rows) ≡ shard_rows shard shards rows
+  pub other_removed : (rows : List (ℕ × List ℕ)) → (key % shards == shard) ≡ false
+      → shard_rows shard shards (remove_entry (is_at (nat_cmp key)) rows) ≡ shard_rows shard shards rows
   other_removed [] other = refl
   other_removed (row ∷ rows) other = go (is_eq (nat_cmp key row.0)) refl (other_removed rows other)
     where
@@ -151,7 +172,8 @@ rows_step shard shards history entry =
     ap (shard_rows shard shards) (rows_of_append history (entry ∷ [])) ∙ rows_changed shard shards (rows_of history) entry.operation (rows_ascend history)
 
 -- a version after the entries of two lists
-entries_append : (version : Contents) (history more : List JournalEntry) → after_entries version (history ++ more) ≡ after_entries (after_entries version history) more
+entries_append : (version : Contents) (history more : List JournalEntry)
+    → after_entries version (history ++ more) ≡ after_entries (after_entries version history) more
 entries_append version [] more = refl
 entries_append version (entry ∷ history) more = entries_append (after_entry version entry) history more
 
@@ -160,8 +182,22 @@ pub prefix_step : (shard shards : ℕ) (layout : Laid) (history : List JournalEn
     → after_entry (prefix_of shard shards layout history) entry ≡ prefix_of shard shards layout (history ++ entry ∷ [])
 prefix_step shard shards layout history entry =
     let long : length history + 1 ≡ length (history ++ entry ∷ []) = sym (length-append history (entry ∷ [])) in
-    ap (λ (n : ℕ). let version : Contents = record { shard = shard; shards = shards; at = n; layout = layout; rows = changed_in shard shards (shard_rows shard shards (rows_of history)) entry.operation } in version) long
-    ∙ ap (λ (rows : List (ℕ × List ℕ)). let version : Contents = record { shard = shard; shards = shards; at = length (history ++ entry ∷ []); layout = layout; rows = rows } in version) (sym (rows_step shard shards history entry))
+    ap (λ (n : ℕ). let version : Contents = record {
+      shard = shard;
+      shards = shards;
+      at = n;
+      layout = layout;
+      rows = changed_in shard shards (shard_rows shard shards (rows_of history)) entry.operation;
+    } in version) long
+    ∙ ap
+    (λ (rows : List (ℕ × List ℕ)). let version : Contents = record {
+      shard = shard;
+      shards = shards;
+      at = length (history ++ entry ∷ []);
+      layout = layout;
+      rows = rows;
+    } in version)
+    (sym (rows_step shard shards history entry))
 
 prefix_from : (shard shards : ℕ) (layout : Laid) (history more : List JournalEntry)
     → after_entries (prefix_of shard shards layout history) more ≡ prefix_of shard shards layout (history ++ more)
@@ -171,7 +207,8 @@ prefix_from shard shards layout history (entry ∷ more) =
     ∙ prefix_from shard shards layout (history ++ entry ∷ []) more ∙ ap (prefix_of shard shards layout) (append_assoc history (entry ∷ []) more)
 
 -- entries from the first on leave the version of their history
-pub prefix_reached : (shard shards : ℕ) (layout : Laid) (history : List JournalEntry) → after_entries (empty_of shard shards layout) history ≡ prefix_of shard shards layout history
+pub prefix_reached : (shard shards : ℕ) (layout : Laid) (history : List JournalEntry)
+    → after_entries (empty_of shard shards layout) history ≡ prefix_of shard shards layout history
 prefix_reached shard shards layout history = prefix_from shard shards layout [] history
 
 -- a row more or a code changed
@@ -207,12 +244,14 @@ pub few_rows : (shard shards : ℕ) (history : List JournalEntry) → length (sh
 few_rows shard shards history = omega (arith, filter_short (λ (row : ℕ × List ℕ). row.0 % shards == shard) (rows_of history), few_from [] history)
 
 -- the shard's rows have the codes of its keys
-pub code_of_shard : (shard shards : ℕ) (rows : List (ℕ × List ℕ)) (key : ℕ) → key % shards ≡ shard → code_at (shard_rows shard shards rows) key ≡ code_at rows key
+pub code_of_shard : (shard shards : ℕ) (rows : List (ℕ × List ℕ)) (key : ℕ) → key % shards ≡ shard
+    → code_at (shard_rows shard shards rows) key ≡ code_at rows key
 code_of_shard shard shards rows key own =
     lookup-filter-keys (is_at (nat_cmp key)) (λ other. other % shards == shard) true
     (λ other here. subst (λ (n : ℕ). (n % shards == shard) ≡ true) (same_key key other (equal_key key other here)) (eq-eqb (key % shards) shard own)) rows
 
 -- what fits all rows fits those of its shard
-pub fits_shard : (shard shards : ℕ) (rows : List (ℕ × List ℕ)) (operation : Operation) → Fits rows operation → operation_key operation % shards ≡ shard → Fits (shard_rows shard shards rows) operation
+pub fits_shard : (shard shards : ℕ) (rows : List (ℕ × List ℕ)) (operation : Operation) → Fits rows operation
+    → operation_key operation % shards ≡ shard → Fits (shard_rows shard shards rows) operation
 fits_shard shard shards rows (Add key code) fits own = code_of_shard shard shards rows key own ∙ fits
 fits_shard shard shards rows (Delete key) fits own = ap (λ found. is_some found) (code_of_shard shard shards rows key own) ∙ fits

@@ -41,13 +41,16 @@ stands_unpadded bits (row ∷ rows) key = go (is_at (nat_cmp key) row.0) (stands
     go false rest = rest
 
 -- a row more, once the zeros are left out
-unpadded_with : (bits : ℕ) (front back : List (ℕ × List ℕ)) (row : ℕ × List ℕ) → map (unpadded bits) (front ++ row ∷ back) ≡ map (unpadded bits) front ++ unpadded bits row ∷ map (unpadded bits) back
+unpadded_with : (bits : ℕ) (front back : List (ℕ × List ℕ)) (row : ℕ × List ℕ)
+    → map (unpadded bits) (front ++ row ∷ back) ≡ map (unpadded bits) front ++ unpadded bits row ∷ map (unpadded bits) back
 unpadded_with bits front back row = map-append (unpadded bits) front (row ∷ back)
 
 -- the kept rows ascend by key
-pub stored_ascend : {W : ℕ} (shard shards at : ℕ) (layout : Laid) (stored : List (ℕ × List ℕ)) (tables : List (PartTable W)) → AgreesWithRows (contents_of shard shards at layout stored) stored tables
+pub stored_ascend : {W : ℕ} (shard shards at : ℕ) (layout : Laid) (stored : List (ℕ × List ℕ)) (tables : List (PartTable W))
+    → AgreesWithRows (contents_of shard shards at layout stored) stored tables
     → IsStrictlySortedBy nat_cmp (keys_of stored)
-stored_ascend shard shards at layout stored tables kept = subst (λ (keys : List ℕ). IsStrictlySortedBy nat_cmp keys) (keys_unpadded layout.bits stored) kept.sound.ascending
+stored_ascend shard shards at layout stored tables kept =
+    subst (λ (keys : List ℕ). IsStrictlySortedBy nat_cmp keys) (keys_unpadded layout.bits stored) kept.sound.ascending
 
 -- what the laws of count tables say of all values
 abbrev pub CountsAll : Type 0
@@ -60,14 +63,18 @@ counts_width version part = refl
 
 -- no row is in more than one list, and no list has more rows than there are
 takes_row : {W : ℕ} (version : Contents) (front back : List (ℕ × List ℕ)) (key : ℕ) (stored : List ℕ) (part : ℕ) (table : PartTable W)
-    → StandsFor W version.layout.bits stored (take version.layout.bits stored) → version.rows ≡ front ++ back → AllByRecursion (λ row. row.0 ≢ key) (front ++ back)
-    → IsVersion version → length version.rows < 1048576 → CountsAll → IsPartTable version part table → TakesRow table (part_value (take version.layout.bits stored) (part_at version.layout part)) key
+    → StandsFor W version.layout.bits stored (take version.layout.bits stored) → version.rows ≡ front ++ back
+    → AllByRecursion (λ row. row.0 ≢ key) (front ++ back)
+    → IsVersion version → length version.rows < 1048576 → CountsAll → IsPartTable version part table
+    → TakesRow table (part_value (take version.layout.bits stored) (part_at version.layout part)) key
 takes_row version front back key stored part table stands rows_are apart sound room all own =
     let fits = value_fits version front back key stored part stands in
     let wide : 2 ^ table.postings.width ≡ 2 ^ length (part_at version.layout part) = ap (λ n. 2 ^ n) own.postings.width in
-    let counted : 2 ^ table.counts.width ≡ 2 ^ length (part_at version.layout part) = ap (λ n. 2 ^ n) (ap (λ (counts : CopyTable). counts.width) own.counts ∙ counts_width version part) in
+    let counted : 2 ^ table.counts.width ≡ 2 ^ length (part_at version.layout part) =
+    ap (λ n. 2 ^ n) (ap (λ (counts : CopyTable). counts.width) own.counts ∙ counts_width version part) in
     let short = list_short version front back key stored part stands table.postings rows_are own.postings own.size in
-    let total = all (length (part_at version.layout part)) (part_values version.rows (part_at version.layout part)) (values_in_width version.layout.bits version.rows (part_at version.layout part) sound.codes) in
+    let total = all (length (part_at version.layout part)) (part_values version.rows (part_at version.layout part))
+    (values_in_width version.layout.bits version.rows (part_at version.layout part) sound.codes) in
     let same : total_of table.counts ≡ total_of (counts_of version part) = ap (λ (counts : CopyTable). total_of counts) own.counts in
     let long = length-map version.rows (λ (row : ℕ × List ℕ). part_value row.1 (part_at version.layout part)) in
     record {
@@ -89,13 +96,15 @@ has_row version front back key stored part table stands rows_are present own =
     record {
       in_width = omega arith;
       present = key_present version front back key stored part stands table.postings rows_are own.postings own.size;
-      counted = subst (λ (counts : CopyTable). 0 < copies_at counts value) (sym own.counts) (counted_row version front back key stored part stands present rows_are);
+      counted = subst (λ (counts : CopyTable). 0 < copies_at counts value) (sym own.counts)
+          (counted_row version front back key stored part stands present rows_are);
     }
 
 -- the tables of a part with one row more
 part_with_row : {W : ℕ} (version : Contents) (front back : List (ℕ × List ℕ)) (key : ℕ) (stored : List ℕ) (part : ℕ) (table new : PartTable W)
     → StandsFor W version.layout.bits stored (take version.layout.bits stored) → version.rows ≡ front ++ back → AddsValue → IsPartTable version part table
-    → Taken version.layout key stored (take version.layout.bits stored) part table new → IsPartTable (next_with version (front ++ (key, take version.layout.bits stored) ∷ back)) part new
+    → Taken version.layout key stored (take version.layout.bits stored) part table new
+    → IsPartTable (next_with version (front ++ (key, take version.layout.bits stored) ∷ back)) part new
 part_with_row version front back key stored part table new stands rows_are added own taken =
     let value = part_value (take version.layout.bits stored) (part_at version.layout part) in
     subst (λ (tables : PartTable _). IsPartTable (next_with version (front ++ (key, take version.layout.bits stored) ∷ back)) part tables) (sym taken) (record {
@@ -106,15 +115,20 @@ part_with_row version front back key stored part table new stands rows_are added
 
 -- and with one row less
 part_without_row : {W : ℕ} (version : Contents) (front back : List (ℕ × List ℕ)) (key : ℕ) (stored : List ℕ) (part : ℕ) (table new : PartTable W)
-    → StandsFor W version.layout.bits stored (take version.layout.bits stored) → version.rows ≡ front ++ (key, take version.layout.bits stored) ∷ back → AllByRecursion (λ row. row.0 ≢ key) (front ++ back)
-    → RemovesValue → IsPartTable version part table → Lost version.layout key (take version.layout.bits stored) part table new → IsPartTable (next_with version (front ++ back)) part new
+    → StandsFor W version.layout.bits stored (take version.layout.bits stored)
+    → version.rows ≡ front ++ (key, take version.layout.bits stored) ∷ back → AllByRecursion (λ row. row.0 ≢ key) (front ++ back)
+    → RemovesValue → IsPartTable version part table → Lost version.layout key (take version.layout.bits stored) part table new
+    → IsPartTable (next_with version (front ++ back)) part new
 part_without_row version front back key stored part table new stands rows_are apart removed own lost =
     let value = part_value (take version.layout.bits stored) (part_at version.layout part) in
     let wide : new.postings.width ≡ table.postings.width = ap (λ (t : Table). t.width) lost.others in
     record {
-      postings = postings_lost version front back key stored part stands table.postings rows_are own.postings own.size new.postings apart lost.entry lost.others;
-      size = ap (λ (t : Table). length t.lists) lost.others ∙ length-set table.postings.lists value (posting_list new.postings value) ∙ own.size ∙ sym (ap (λ n. 2 ^ n) wide);
-      counts = lost.counts ∙ ap (λ (counts : CopyTable). without_one counts value) own.counts ∙ counts_lost version front back key stored part stands removed rows_are;
+      postings = postings_lost version front back key stored part stands table.postings rows_are own.postings own.size new.postings
+          apart lost.entry lost.others;
+      size = ap (λ (t : Table). length t.lists) lost.others ∙ length-set table.postings.lists value
+          (posting_list new.postings value) ∙ own.size ∙ sym (ap (λ n. 2 ^ n) wide);
+      counts = lost.counts ∙ ap (λ (counts : CopyTable). without_one counts value) own.counts
+          ∙ counts_lost version front back key stored part stands removed rows_are;
     }
 
 module _ {W : ℕ} (shard shards at : ℕ) (layout : Laid) (stored : List (ℕ × List ℕ)) (tables : List (PartTable W))
@@ -150,7 +164,8 @@ module _ {W : ℕ} (shard shards at : ℕ) (layout : Laid) (stored : List (ℕ �
           (all_mapped (λ row. key ≤ row.0) (unpadded layout.bits) (drop place stored) placed.after)
 
       -- the row goes to its place
-      pub rows_with_row : map (unpadded layout.bits) (take place stored ++ (key, stored_code) ∷ drop place stored) ≡ insert_entry nat_cmp (map (unpadded layout.bits) stored) key (take layout.bits stored_code)
+      pub rows_with_row : map (unpadded layout.bits) (take place stored ++ (key, stored_code) ∷ drop place stored)
+          ≡ insert_entry nat_cmp (map (unpadded layout.bits) stored) key (take layout.bits stored_code)
       rows_with_row =
           unpadded_with layout.bits (take place stored) (drop place stored) (key, stored_code)
           ∙ sym (ap (λ (rows : List (ℕ × List ℕ)). insert_entry nat_cmp rows key code) rows_cut ∙ inserted_between front back key code front_below back_above)
@@ -166,45 +181,62 @@ module _ {W : ℕ} (shard shards at : ℕ) (layout : Laid) (stored : List (ℕ �
       pub each_takes : length stored < 1048576 → CountsAll → EachTakes layout tables key (take layout.bits stored_code)
       each_takes room all = record {
         each = λ part other below.
-            takes_row seen front back key stored_code part (get_or tables part other) stands rows_cut apart kept.sound (few room) all (kept.each part other below);
+            takes_row seen front back key stored_code part (get_or tables part other) stands rows_cut apart kept.sound
+            (few room) all (kept.each part other below);
       }
 
       new_sound : length stored < 1048576 → key % shards ≡ shard → IsVersion (next_with seen (front ++ (key, code) ∷ back))
       new_sound room own =
           let rows = map (unpadded layout.bits) stored in
-          let there : insert_entry nat_cmp rows key code ≡ front ++ (key, code) ∷ back = ap (λ (others : List (ℕ × List ℕ)). insert_entry nat_cmp others key code) rows_cut ∙ inserted_between front back key code front_below back_above in
+          let there : insert_entry nat_cmp rows key code
+          ≡ front ++ (key, code) ∷ back = ap (λ (others : List (ℕ × List ℕ)). insert_entry nat_cmp others key code) rows_cut
+          ∙ inserted_between front back key code front_below back_above in
           let long = ap (λ (others : List (ℕ × List ℕ)). length others) there in
           let more = length_inserted rows key code absent in
           let short = few room in
-          let all_own : AllByRecursion (λ row. row.0 % shards ≡ shard) (front ++ back) = subst (λ (others : List (ℕ × List ℕ)). AllByRecursion (λ row. row.0 % shards ≡ shard) others) rows_cut kept.sound.own_keys in
+          let all_own : AllByRecursion (λ row. row.0 % shards ≡ shard) (front ++ back) = subst
+          (λ (others : List (ℕ × List ℕ)). AllByRecursion (λ row. row.0 % shards ≡ shard) others) rows_cut
+          kept.sound.own_keys in
           record {
             laid = kept.sound.laid;
             own_shard = kept.sound.own_shard;
             few_shards = kept.sound.few_shards;
-            codes = subst (λ (others : List (ℕ × List ℕ)). AreCodeRows layout.bits others) there (codes_inserted layout.bits rows key code kept.sound.codes stands.is_code);
-            ascending = subst (λ (others : List (ℕ × List ℕ)). IsStrictlySortedBy nat_cmp (keys_of others)) there (ascends_inserted rows key code kept.sound.ascending);
-            own_keys = all_append (λ row. row.0 % shards ≡ shard) front ((key, code) ∷ back) (all_front (λ row. row.0 % shards ≡ shard) front back all_own) (own, all_back (λ row. row.0 % shards ≡ shard) front back all_own);
+            codes = subst (λ (others : List (ℕ × List ℕ)). AreCodeRows layout.bits others) there
+                (codes_inserted layout.bits rows key code kept.sound.codes stands.is_code);
+            ascending = subst (λ (others : List (ℕ × List ℕ)). IsStrictlySortedBy nat_cmp (keys_of others)) there
+                (ascends_inserted rows key code kept.sound.ascending);
+            own_keys = all_append (λ row. row.0 % shards ≡ shard) front ((key, code) ∷ back)
+                (all_front (λ row. row.0 % shards ≡ shard) front back all_own)
+                (own, all_back (λ row. row.0 % shards ≡ shard) front back all_own);
             few_rows = omega arith;
           }
 
       -- a version with the row in its tables and at its place is kept
-      pub kept_with_row : (new : List (PartTable W)) → length stored < 1048576 → key % shards ≡ shard → AddsValue → AreChanged (Taken layout key stored_code (take layout.bits stored_code)) tables new (length tables)
-          → AgreesWithRows (contents_of shard shards (at + 1) layout (take place stored ++ (key, stored_code) ∷ drop place stored)) (take place stored ++ (key, stored_code) ∷ drop place stored) new
+      pub kept_with_row : (new : List (PartTable W)) → length stored < 1048576 → key % shards ≡ shard → AddsValue
+          → AreChanged (Taken layout key stored_code (take layout.bits stored_code)) tables new (length tables)
+          → AgreesWithRows (contents_of shard shards (at + 1) layout (take place stored ++ (key, stored_code) ∷ drop place stored))
+          (take place stored ++ (key, stored_code) ∷ drop place stored) new
       kept_with_row new room own added changed =
-          let after : next_with seen (front ++ (key, code) ∷ back) ≡ contents_of shard shards (at + 1) layout (take place stored ++ (key, stored_code) ∷ drop place stored) =
+          let after : next_with seen (front ++ (key, code) ∷ back)
+          ≡ contents_of shard shards (at + 1) layout (take place stored ++ (key, stored_code) ∷ drop place stored) =
           ap (next_with seen) (sym (unpadded_with layout.bits (take place stored) (drop place stored) (key, stored_code))) in
-          let all : AreStored W layout.bits (take place stored ++ drop place stored) = subst (λ (others : List (ℕ × List ℕ)). AreStored W layout.bits others) (sym (take-append-drop place stored)) kept.stored_codes in
+          let all : AreStored W layout.bits (take place stored ++ drop place stored) = subst
+          (λ (others : List (ℕ × List ℕ)). AreStored W layout.bits others)
+          (sym (take-append-drop place stored)) kept.stored_codes in
           let stand : ℕ × List ℕ → Type 0 = λ row. StandsFor W layout.bits row.1 (take layout.bits row.1) in
           let number = changed.number in
           subst (λ (version : Contents). AgreesWithRows version (take place stored ++ (key, stored_code) ∷ drop place stored) new) after (record {
             sound = new_sound room own;
             few_words = kept.few_words;
             room = kept.room;
-            stored_codes = all_append stand (take place stored) ((key, stored_code) ∷ drop place stored) (all_front stand (take place stored) (drop place stored) all) (stands, all_back stand (take place stored) (drop place stored) all);
+            stored_codes = all_append stand (take place stored) ((key, stored_code) ∷ drop place stored)
+                (all_front stand (take place stored) (drop place stored) all)
+                (stands, all_back stand (take place stored) (drop place stored) all);
             number = changed.number ∙ kept.number;
             each = λ part other below. (
                 let old : part < length tables = omega (arith, number) in
-                part_with_row seen front back key stored_code part (get_or tables part other) (get_or new part other) stands rows_cut added (kept.each part other old) (changed.done part other old old));
+                part_with_row seen front back key stored_code part (get_or tables part other)
+                (get_or new part other) stands rows_cut added (kept.each part other old) (changed.done part other old old));
           })
 
     module _ (present : is_some (code_at (map (unpadded layout.bits) stored) key) ≡ true) where
@@ -222,7 +254,8 @@ module _ {W : ℕ} (shard shards at : ℕ) (layout : Laid) (stored : List (ℕ �
       -- the row there has the key
       pub place_has : (other : ℕ × List ℕ) → (get_or stored place other).0 ≡ key
       place_has other = eqb-true (get_or stored place other).0 key
-          (stands_here stored key place other (stored_ascend shard shards at layout stored tables kept) placed place_inside ∙ sym (stands_unpadded layout.bits stored key) ∙ present)
+          (stands_here stored key place other (stored_ascend shard shards at layout stored tables kept) placed place_inside
+          ∙ sym (stands_unpadded layout.bits stored key) ∙ present)
 
       -- the row there is the key's
       pub row_there : (row : ℕ × List ℕ) → row ≡ get_or stored place row → (key, row.1) ≡ get_or stored place (key, row.1)
@@ -245,12 +278,15 @@ module _ {W : ℕ} (shard shards at : ℕ) (layout : Laid) (stored : List (ℕ �
 
         past_above : AllByRecursion (λ row. key < row.0) past
         past_above =
-            let from : IsStrictlySortedBy nat_cmp (keys_of ((key, stored_code) ∷ drop (suc place) stored)) = subst (λ (rows : List (ℕ × List ℕ)). IsStrictlySortedBy nat_cmp (keys_of rows))
-            (drop_here place stored (key, stored_code) place_inside ∙ ap (λ (row : ℕ × List ℕ). row ∷ drop (suc place) stored) (sym is)) (ascend_from place stored (stored_ascend shard shards at layout stored tables kept)) in
+            let from : IsStrictlySortedBy nat_cmp (keys_of ((key, stored_code) ∷ drop (suc place) stored)) =
+            subst (λ (rows : List (ℕ × List ℕ)). IsStrictlySortedBy nat_cmp (keys_of rows))
+            (drop_here place stored (key, stored_code) place_inside ∙ ap (λ (row : ℕ × List ℕ). row ∷ drop (suc place) stored)
+            (sym is)) (ascend_from place stored (stored_ascend shard shards at layout stored tables kept)) in
             all_mapped (λ row. key < row.0) (unpadded layout.bits) (drop (suc place) stored) (above_first (key, stored_code) (drop (suc place) stored) from)
 
         apart_left : AllByRecursion (λ row. row.0 ≢ key) (front ++ past)
-        apart_left = all_append (λ row. row.0 ≢ key) front past (all_weaker (λ row. row.0 < key) (λ row. row.0 ≢ key) (λ row h e. omega arith) front front_below)
+        apart_left = all_append (λ row. row.0 ≢ key) front past
+            (all_weaker (λ row. row.0 < key) (λ row. row.0 ≢ key) (λ row h e. omega arith) front front_below)
             (all_weaker (λ row. key < row.0) (λ row. row.0 ≢ key) (λ row h e. omega arith) past past_above)
 
         all_stored : AreStored W layout.bits (take place stored ++ (key, stored_code) ∷ drop (suc place) stored)
@@ -258,11 +294,15 @@ module _ {W : ℕ} (shard shards at : ℕ) (layout : Laid) (stored : List (ℕ �
 
         -- the code of the row stands for its first bits
         pub stands_own : StandsFor W layout.bits stored_code (take layout.bits stored_code)
-        stands_own = (all_back (λ row. StandsFor W layout.bits row.1 (take layout.bits row.1)) (take place stored) ((key, stored_code) ∷ drop (suc place) stored) all_stored).0
+        stands_own = (all_back (λ row. StandsFor W layout.bits row.1 (take layout.bits row.1)) (take place stored)
+            ((key, stored_code) ∷ drop (suc place) stored) all_stored).0
 
         -- the row is taken out from its place
-        pub rows_without_row : map (unpadded layout.bits) (take place stored ++ drop (suc place) stored) ≡ remove_entry (is_at (nat_cmp key)) (map (unpadded layout.bits) stored)
-        rows_without_row = left_cut ∙ sym (ap (λ (rows : List (ℕ × List ℕ)). remove_entry (is_at (nat_cmp key)) rows) full_cut ∙ removed_between front past key own_code front_below)
+        pub rows_without_row : map (unpadded layout.bits) (take place stored ++ drop (suc place) stored)
+            ≡ remove_entry (is_at (nat_cmp key)) (map (unpadded layout.bits) stored)
+        rows_without_row = left_cut
+            ∙ sym (ap (λ (rows : List (ℕ × List ℕ)). remove_entry (is_at (nat_cmp key)) rows) full_cut
+            ∙ removed_between front past key own_code front_below)
 
         -- each part has the row
         pub each_has : CountsValue → EachHas layout tables key (take layout.bits stored_code)
@@ -278,34 +318,46 @@ module _ {W : ℕ} (shard shards at : ℕ) (layout : Laid) (stored : List (ℕ �
             let long = ap (λ (others : List (ℕ × List ℕ)). length others) there in
             let fewer = length_removed rows key present in
             let short = kept.sound.few_rows in
-            let all_own : AllByRecursion (λ row. row.0 % shards ≡ shard) (front ++ (key, own_code) ∷ past) = subst (λ (others : List (ℕ × List ℕ)). AllByRecursion (λ row. row.0 % shards ≡ shard) others) full_cut kept.sound.own_keys in
+            let all_own : AllByRecursion (λ row. row.0 % shards ≡ shard) (front ++ (key, own_code) ∷ past) = subst
+            (λ (others : List (ℕ × List ℕ)). AllByRecursion (λ row. row.0 % shards ≡ shard) others) full_cut
+            kept.sound.own_keys in
             record {
               laid = kept.sound.laid;
               own_shard = kept.sound.own_shard;
               few_shards = kept.sound.few_shards;
               codes = subst (λ (others : List (ℕ × List ℕ)). AreCodeRows layout.bits others) there (codes_removed layout.bits rows key kept.sound.codes);
-              ascending = subst (λ (others : List (ℕ × List ℕ)). IsStrictlySortedBy nat_cmp (keys_of others)) there (ascends_removed rows key kept.sound.ascending);
-              own_keys = all_append (λ row. row.0 % shards ≡ shard) front past (all_front (λ row. row.0 % shards ≡ shard) front ((key, own_code) ∷ past) all_own) (all_back (λ row. row.0 % shards ≡ shard) front ((key, own_code) ∷ past) all_own).1;
+              ascending = subst (λ (others : List (ℕ × List ℕ)). IsStrictlySortedBy nat_cmp (keys_of others)) there
+                  (ascends_removed rows key kept.sound.ascending);
+              own_keys = all_append (λ row. row.0 % shards ≡ shard) front past
+                  (all_front (λ row. row.0 % shards ≡ shard) front ((key, own_code) ∷ past) all_own)
+                  (all_back (λ row. row.0 % shards ≡ shard) front ((key, own_code) ∷ past) all_own).1;
               few_rows = omega arith;
             }
 
         -- a version with the row out of its tables and its place is kept
-        pub kept_without_row : (new : List (PartTable W)) → RemovesValue → AreChanged (Lost layout key (take layout.bits stored_code)) tables new (length tables)
-            → AgreesWithRows (contents_of shard shards (at + 1) layout (take place stored ++ drop (suc place) stored)) (take place stored ++ drop (suc place) stored) new
+        pub kept_without_row : (new : List (PartTable W)) → RemovesValue
+            → AreChanged (Lost layout key (take layout.bits stored_code)) tables new (length tables)
+            → AgreesWithRows (contents_of shard shards (at + 1) layout (take place stored ++ drop (suc place) stored))
+            (take place stored ++ drop (suc place) stored) new
         kept_without_row new removed changed =
-            let after : next_with seen (front ++ past) ≡ contents_of shard shards (at + 1) layout (take place stored ++ drop (suc place) stored) = ap (next_with seen) (sym left_cut) in
+            let after : next_with seen (front ++ past)
+            ≡ contents_of shard shards (at + 1) layout (take place stored ++ drop (suc place) stored) =
+            ap (next_with seen) (sym left_cut) in
             let stand : ℕ × List ℕ → Type 0 = λ row. StandsFor W layout.bits row.1 (take layout.bits row.1) in
             let number = changed.number in
             subst (λ (version : Contents). AgreesWithRows version (take place stored ++ drop (suc place) stored) new) after (record {
               sound = left_sound;
               few_words = kept.few_words;
               room = kept.room;
-              stored_codes = all_append stand (take place stored) (drop (suc place) stored) (all_front stand (take place stored) ((key, stored_code) ∷ drop (suc place) stored) all_stored)
+              stored_codes = all_append stand (take place stored) (drop (suc place) stored)
+                  (all_front stand (take place stored) ((key, stored_code) ∷ drop (suc place) stored) all_stored)
                   (all_back stand (take place stored) ((key, stored_code) ∷ drop (suc place) stored) all_stored).1;
               number = changed.number ∙ kept.number;
               each = λ part other below. (
                   let old : part < length tables = omega (arith, number) in
-                  part_without_row seen front past key stored_code part (get_or tables part other) (get_or new part other) stands_own full_cut apart_left removed (kept.each part other old) (changed.done part other old old));
+                  part_without_row seen front past key stored_code part (get_or tables part other)
+                  (get_or new part other) stands_own full_cut apart_left removed (kept.each part other old)
+                  (changed.done part other old old));
             })
 
 -- what the laws of count tables say of no values
@@ -319,13 +371,17 @@ none_listed (suc number) zero = refl
 none_listed (suc number) (suc value) = none_listed number value
 
 -- the tables of no rows
-empty_part : {W : ℕ} (shard shards : ℕ) (layout : Laid) (part : ℕ) → CountsNone → IsPartTable {W = W} (empty_of shard shards layout) part (no_rows (length (part_at layout part)))
+empty_part : {W : ℕ} (shard shards : ℕ) (layout : Laid) (part : ℕ) → CountsNone
+    → IsPartTable {W = W} (empty_of shard shards layout) part (no_rows (length (part_at layout part)))
 empty_part {W} shard shards layout part counts =
     let width = length (part_at layout part) in
     record {
       postings = record {
         width = refl;
-        lists = record { each = λ value below. subst (λ (list : List (ℕ × List ℕ)). HasSame (map (unpadded layout.bits) list) []) (sym (none_listed (2 ^ width) value)) (record { sums = λ f. refl }) };
+        lists = record {
+          each = λ value below. subst (λ (list : List (ℕ × List ℕ)). HasSame (map (unpadded layout.bits) list) [])
+              (sym (none_listed (2 ^ width) value)) (record { sums = λ f. refl });
+        };
         codes = λ value. subst (λ (list : List (ℕ × List ℕ)). AreStored W layout.bits list) (sym (none_listed (2 ^ width) value)) tt;
       };
       size = length-replicate (2 ^ width) [];
@@ -333,7 +389,8 @@ empty_part {W} shard shards layout part counts =
     }
 
 -- a version with no rows is kept
-pub kept_empty : {W : ℕ} (shard shards : ℕ) (layout : Laid) (tables : List (PartTable W)) → IsLaid layout → shard < shards → shards ≤ 16 → W ≤ 8 → layout.bits ≤ 64 * W → CountsNone
+pub kept_empty : {W : ℕ} (shard shards : ℕ) (layout : Laid) (tables : List (PartTable W)) → IsLaid layout → shard < shards
+    → shards ≤ 16 → W ≤ 8 → layout.bits ≤ 64 * W → CountsNone
     → AreEmpty layout tables (length layout.parts) → AgreesWithRows (empty_of shard shards layout) [] tables
 unfolding IsStrictlySortedBy
 kept_empty shard shards layout tables laid own few words room counts empty = record {
@@ -352,7 +409,8 @@ kept_empty shard shards layout tables laid own few words room counts empty = rec
   number = empty.number;
   each = λ part other below. (
       let number = empty.number in
-      subst (λ (table : PartTable _). IsPartTable (empty_of shard shards layout) part table) (sym (empty.each part other (omega arith))) (empty_part shard shards layout part counts));
+      subst (λ (table : PartTable _). IsPartTable (empty_of shard shards layout) part table)
+      (sym (empty.each part other (omega arith))) (empty_part shard shards layout part counts));
 }
 
 -- the first rows, once the zeros are left out
@@ -363,11 +421,13 @@ first_taken bits n rows first is = ap (map (unpadded bits)) is ∙ sym (take-map
 pub first_stored : (words bits number : ℕ) (rows first : List (ℕ × List ℕ)) → first ≡ take number rows → AreStored words bits rows → AreStored words bits first
 first_stored words bits number rows first is all =
     let stand : ℕ × List ℕ → Type 0 = λ row. StandsFor words bits row.1 (take bits row.1) in
-    let split : AreStored words bits (take number rows ++ drop number rows) = subst (λ (others : List (ℕ × List ℕ)). AreStored words bits others) (sym (take-append-drop number rows)) all in
+    let split : AreStored words bits (take number rows ++ drop number rows) =
+    subst (λ (others : List (ℕ × List ℕ)). AreStored words bits others) (sym (take-append-drop number rows)) all in
     subst (λ (others : List (ℕ × List ℕ)). AreStored words bits others) (sym is) (all_front stand (take number rows) (drop number rows) split)
 
 -- the posting tables that callers see have the rows
-pub kept_tables : {W : ℕ} (contents : Contents) (stored : List (ℕ × List ℕ)) (tables : List (PartTable W)) → AgreesWithRows contents stored tables → HasTables W (tabled_of contents tables)
+pub kept_tables : {W : ℕ} (contents : Contents) (stored : List (ℕ × List ℕ)) (tables : List (PartTable W))
+    → AgreesWithRows contents stored tables → HasTables W (tabled_of contents tables)
 kept_tables {W} contents stored tables kept = record {
   room = kept.room;
   each = λ part inside.

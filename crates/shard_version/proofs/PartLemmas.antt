@@ -46,7 +46,8 @@ filter_short test (x ∷ xs) = go (test x) (filter_short test xs)
     go false rest = omega arith
 
 -- the values of rows of codes at a part are below its bound
-pub values_in_width : (bits : ℕ) (rows : List (ℕ × List ℕ)) (part : List ℕ) → AreCodeRows bits rows → All (λ value. value < 2 ^ length part) (part_values rows part)
+pub values_in_width : (bits : ℕ) (rows : List (ℕ × List ℕ)) (part : List ℕ) → AreCodeRows bits rows
+    → All (λ value. value < 2 ^ length part) (part_values rows part)
 values_in_width bits rows part codes = All-from_recursion (λ value. value < 2 ^ length part) (part_values rows part) (go rows codes)
   where
     go : (rows : List (ℕ × List ℕ)) → AreCodeRows bits rows → AllByRecursion (λ value. value < 2 ^ length part) (part_values rows part)
@@ -61,15 +62,18 @@ near_counted bits units rows part query codes is_query =
     let one : ℕ → ℕ = λ value. cond (is_near (part_value query part) units value) 1 0 in
     let near : ℕ × List ℕ → ℕ = λ row. cond (nat_lt (part_distance part row.1 query) units) 1 0 in
     sum_map one pv rows ∙ sum_agrees (λ row. one (pv row)) near rows
-    (all_weaker (λ row. IsCode bits row.1) (λ row. one (pv row) ≡ near row) (λ row code. ap (λ near. cond near 1 0) (near_at_part bits units row.1 query part code is_query)) rows codes)
+    (all_weaker (λ row. IsCode bits row.1) (λ row. one (pv row) ≡ near row)
+    (λ row code. ap (λ near. cond near 1 0) (near_at_part bits units row.1 query part code is_query)) rows codes)
 
 -- what the laws of count tables say of a value more
 abbrev pub AddsValue : Type 0
-AddsValue = (width value : ℕ) (front back : List ℕ) → value < 2 ^ width → with_one (table_of width (front ++ back)) value ≡ table_of width (front ++ value ∷ back)
+AddsValue = (width value : ℕ) (front back : List ℕ) → value < 2 ^ width → with_one (table_of width (front ++ back)) value
+    ≡ table_of width (front ++ value ∷ back)
 
 -- of a value less
 abbrev pub RemovesValue : Type 0
-RemovesValue = (width value : ℕ) (front back : List ℕ) → value < 2 ^ width → without_one (table_of width (front ++ value ∷ back)) value ≡ table_of width (front ++ back)
+RemovesValue = (width value : ℕ) (front back : List ℕ) → value < 2 ^ width
+    → without_one (table_of width (front ++ value ∷ back)) value ≡ table_of width (front ++ back)
 
 -- and of a value that is there
 abbrev pub CountsValue : Type 0
@@ -94,25 +98,30 @@ module _ {W : ℕ} (version : Contents) (front back : List (ℕ × List ℕ)) (k
   value_fits = value_below version.layout.bits (take version.layout.bits stored) (part_at version.layout part) stands.is_code
 
   -- the posting list of a value, of rows with one row more
-  one_more : (v : ℕ) (f : ℕ × List ℕ → ℕ) → sum_by f (rows_with (front ++ row ∷ back) positions v) ≡ cond (value == v) (f row) 0 + sum_by f (rows_with (front ++ back) positions v)
+  one_more : (v : ℕ) (f : ℕ × List ℕ → ℕ)
+      → sum_by f (rows_with (front ++ row ∷ back) positions v)
+      ≡ cond (value == v) (f row) 0 + sum_by f (rows_with (front ++ back) positions v)
   one_more v f = sum_with f (λ other. part_value other.1 positions == v) front back row
 
   own_more : (f : ℕ × List ℕ → ℕ) → sum_by f (rows_with (front ++ row ∷ back) positions value) ≡ f row + sum_by f (rows_with (front ++ back) positions value)
   own_more f = one_more value f ∙ ap (λ same. cond same (f row) 0 + sum_by f (rows_with (front ++ back) positions value)) (eq-eqb value value refl)
 
-  other_more : (v : ℕ) → v ≢ value → (f : ℕ × List ℕ → ℕ) → sum_by f (rows_with (front ++ row ∷ back) positions v) ≡ sum_by f (rows_with (front ++ back) positions v)
+  other_more : (v : ℕ) → v ≢ value → (f : ℕ × List ℕ → ℕ)
+      → sum_by f (rows_with (front ++ row ∷ back) positions v) ≡ sum_by f (rows_with (front ++ back) positions v)
   other_more v other f =
       let none : cond (value == v) (f row) 0 ≡ 0 = ap (λ same. cond same (f row) 0) (ne_eqb value v (λ (e : value ≡ v). other (sym e))) in
       omega (arith, one_more v f, none)
 
-  module _ (table : Table) (rows_are : version.rows ≡ front ++ back) (postings : ArePostings W version part table) (size : length table.lists ≡ 2 ^ table.width) where
+  module _ (table : Table) (rows_are : version.rows ≡ front ++ back) (postings : ArePostings W version part table)
+      (size : length table.lists ≡ 2 ^ table.width) where
     in_lists : value < length table.lists
     in_lists =
         let fits = value_fits in
         let bound : 2 ^ table.width ≡ 2 ^ length positions = ap (λ n. 2 ^ n) postings.width in
         omega arith
 
-    old_sums : (v : ℕ) → v < 2 ^ length positions → (f : ℕ × List ℕ → ℕ) → sum_by f (map (unpadded bits) (posting_list table v)) ≡ sum_by f (rows_with (front ++ back) positions v)
+    old_sums : (v : ℕ) → v < 2 ^ length positions → (f : ℕ × List ℕ → ℕ)
+        → sum_by f (map (unpadded bits) (posting_list table v)) ≡ sum_by f (rows_with (front ++ back) positions v)
     old_sums v below f = (postings.lists.each v below).sums f ∙ ap (λ (rows : List (ℕ × List ℕ)). sum_by f (rows_with rows positions v)) rows_are
 
     new_lists : (v : ℕ) → v < 2 ^ length positions → (same : Bool) → (v == value) ≡ same
@@ -125,26 +134,40 @@ module _ {W : ℕ} (version : Contents) (front back : List (ℕ × List ℕ)) (k
         let own : v ≡ value = eqb-true v value e in
         let list = posting_list table value in
         let here = get_or-set_same table.lists value (list ++ (key, stored) ∷ []) [] in_lists in
-        let sums : (f : ℕ × List ℕ → ℕ) → sum_by f (map (unpadded bits) (posting_list (with_posting table value (key, stored)) value)) ≡ sum_by f (rows_with (front ++ row ∷ back) positions value) = λ f. (
-        let mapped = ap (λ (entries : List (ℕ × List ℕ)). sum_by f (map (unpadded bits) entries)) here ∙ ap (sum_by f) (map-append (unpadded bits) list ((key, stored) ∷ [])) in
+        let sums : (f : ℕ × List ℕ → ℕ)
+        → sum_by f (map (unpadded bits) (posting_list (with_posting table value (key, stored)) value))
+        ≡ sum_by f (rows_with (front ++ row ∷ back) positions value) = λ f. (
+        let mapped = ap (λ (entries : List (ℕ × List ℕ)). sum_by f (map (unpadded bits) entries)) here
+        ∙ ap (sum_by f) (map-append (unpadded bits) list ((key, stored) ∷ [])) in
         let split = sum_by-append f (map (unpadded bits) list) (row ∷ []) in
         let one = sum_by-cons f row [] in
         let before = old_sums value value_fits f in
         let after = own_more f in
         omega arith) in
-        record { sums = λ f. subst (λ (u : ℕ). sum_by f (map (unpadded bits) (posting_list (with_posting table value (key, stored)) u)) ≡ sum_by f (rows_with (front ++ row ∷ back) positions u)) (sym own) (sums f) }
+        record {
+          sums = λ f.
+              subst
+              (λ (u : ℕ). sum_by f (map (unpadded bits) (posting_list (with_posting table value (key, stored)) u))
+              ≡ sum_by f (rows_with (front ++ row ∷ back) positions u)) (sym own) (sums f);
+        }
 
     new_codes : (v : ℕ) → (same : Bool) → (v == value) ≡ same → AreStored W bits (posting_list (with_posting table value (key, stored)) v)
     new_codes v false e =
-        subst (λ (list : List (ℕ × List ℕ)). AreStored W bits list) (sym (get_or-set_other table.lists value v (posting_list table value ++ (key, stored) ∷ []) [] (eqb-false v value e))) (postings.codes v)
+        subst (λ (list : List (ℕ × List ℕ)). AreStored W bits list)
+        (sym (get_or-set_other table.lists value v (posting_list table value ++ (key, stored) ∷ []) [] (eqb-false v value e)))
+        (postings.codes v)
     new_codes v true e =
         let list = posting_list table value in
-        let more : AreStored W bits (list ++ (key, stored) ∷ []) = all_append (λ entry. StandsFor W bits entry.1 (take bits entry.1)) list ((key, stored) ∷ []) (postings.codes value) (stands, tt) in
-        let own : AreStored W bits (posting_list (with_posting table value (key, stored)) value) = subst (λ (entries : List (ℕ × List ℕ)). AreStored W bits entries) (sym (get_or-set_same table.lists value (list ++ (key, stored) ∷ []) [] in_lists)) more in
+        let more : AreStored W bits (list ++ (key, stored) ∷ []) = all_append
+        (λ entry. StandsFor W bits entry.1 (take bits entry.1)) list ((key, stored) ∷ []) (postings.codes value) (stands, tt) in
+        let own : AreStored W bits (posting_list (with_posting table value (key, stored)) value) = subst
+        (λ (entries : List (ℕ × List ℕ)). AreStored W bits entries)
+        (sym (get_or-set_same table.lists value (list ++ (key, stored) ∷ []) [] in_lists)) more in
         subst (λ (u : ℕ). AreStored W bits (posting_list (with_posting table value (key, stored)) u)) (sym (eqb-true v value e)) own
 
     -- the posting lists with the row's entry are those of the rows with the row
-    pub postings_taken : ArePostings W (next_with version (front ++ (key, take version.layout.bits stored) ∷ back)) part (with_posting table (part_value (take version.layout.bits stored) (part_at version.layout part)) (key, stored))
+    pub postings_taken : ArePostings W (next_with version (front ++ (key, take version.layout.bits stored) ∷ back)) part
+        (with_posting table (part_value (take version.layout.bits stored) (part_at version.layout part)) (key, stored))
     postings_taken = record {
       width = postings.width;
       lists = record { each = λ v below. new_lists v below (v == value) refl };
@@ -152,48 +175,61 @@ module _ {W : ℕ} (version : Contents) (front back : List (ℕ × List ℕ)) (k
     }
 
     -- a key that no row has is in no posting list
-    pub key_absent : AllByRecursion (λ other. other.0 ≢ key) (front ++ back) → has_key (posting_list table (part_value (take version.layout.bits stored) (part_at version.layout part))) key ≡ false
+    pub key_absent : AllByRecursion (λ other. other.0 ≢ key) (front ++ back)
+        → has_key (posting_list table (part_value (take version.layout.bits stored) (part_at version.layout part))) key ≡ false
     key_absent apart =
-        let none = none_of_key key (rows_with (front ++ back) positions value) (all_filter (λ other. other.0 ≢ key) (λ other. part_value other.1 positions == value) (front ++ back) apart) in
+        let none = none_of_key key (rows_with (front ++ back) positions value)
+        (all_filter (λ other. other.0 ≢ key) (λ other. part_value other.1 positions == value) (front ++ back) apart) in
         lacks_key bits key (posting_list table value) (old_sums value value_fits (of_key key) ∙ none)
 
     -- a posting list is no longer than the rows
     pub list_short : length (posting_list table (part_value (take version.layout.bits stored) (part_at version.layout part))) ≤ length version.rows
     list_short =
-        let lists = same_length (map (unpadded bits) (posting_list table value)) (rows_with version.rows positions value) (postings.lists.each value value_fits) in
+        let lists = same_length (map (unpadded bits) (posting_list table value)) (rows_with version.rows positions value)
+        (postings.lists.each value value_fits) in
         let mapped = length-map (posting_list table value) (unpadded bits) in
         let few = filter_short (λ other. part_value other.1 positions == value) version.rows in
         omega arith
 
   -- the counts with the row's value are those of the rows with the row
-  pub counts_taken : AddsValue → version.rows ≡ front ++ back → with_one (counts_of version part) (part_value (take version.layout.bits stored) (part_at version.layout part))
+  pub counts_taken : AddsValue → version.rows ≡ front ++ back
+      → with_one (counts_of version part) (part_value (take version.layout.bits stored) (part_at version.layout part))
       ≡ counts_of (next_with version (front ++ (key, take version.layout.bits stored) ∷ back)) part
   counts_taken added rows_are =
       let pv : ℕ × List ℕ → ℕ = λ other. part_value other.1 positions in
-      let old : part_values version.rows positions ≡ map pv front ++ map pv back = ap (λ (rows : List (ℕ × List ℕ)). map pv rows) rows_are ∙ map-append pv front back in
+      let old : part_values version.rows positions ≡ map pv front ++ map pv back =
+      ap (λ (rows : List (ℕ × List ℕ)). map pv rows) rows_are ∙ map-append pv front back in
       let new : part_values (front ++ row ∷ back) positions ≡ map pv front ++ value ∷ map pv back = map-append pv front (row ∷ back) in
       ap (λ (items : List ℕ). with_one (table_of (length positions) items) value) old ∙ added (length positions) value (map pv front) (map pv back) value_fits
       ∙ ap (λ (items : List ℕ). table_of (length positions) items) (sym new)
 
   -- and without it those of the rows without it
-  pub counts_lost : RemovesValue → version.rows ≡ front ++ (key, take version.layout.bits stored) ∷ back → without_one (counts_of version part) (part_value (take version.layout.bits stored) (part_at version.layout part))
+  pub counts_lost : RemovesValue → version.rows ≡ front ++ (key, take version.layout.bits stored) ∷ back
+      → without_one (counts_of version part) (part_value (take version.layout.bits stored) (part_at version.layout part))
       ≡ counts_of (next_with version (front ++ back)) part
   counts_lost removed rows_are =
       let pv : ℕ × List ℕ → ℕ = λ other. part_value other.1 positions in
-      let old : part_values version.rows positions ≡ map pv front ++ value ∷ map pv back = ap (λ (rows : List (ℕ × List ℕ)). map pv rows) rows_are ∙ map-append pv front (row ∷ back) in
+      let old : part_values version.rows positions ≡ map pv front ++ value ∷ map pv back =
+      ap (λ (rows : List (ℕ × List ℕ)). map pv rows) rows_are ∙ map-append pv front (row ∷ back) in
       let new : part_values (front ++ back) positions ≡ map pv front ++ map pv back = map-append pv front back in
-      ap (λ (items : List ℕ). without_one (table_of (length positions) items) value) old ∙ removed (length positions) value (map pv front) (map pv back) value_fits
+      ap (λ (items : List ℕ). without_one (table_of (length positions) items) value) old ∙ removed (length positions) value
+      (map pv front) (map pv back) value_fits
       ∙ ap (λ (items : List ℕ). table_of (length positions) items) (sym new)
 
   -- a row's value has a copy
-  pub counted_row : CountsValue → version.rows ≡ front ++ (key, take version.layout.bits stored) ∷ back → 0 < copies_at (counts_of version part) (part_value (take version.layout.bits stored) (part_at version.layout part))
+  pub counted_row : CountsValue → version.rows ≡ front ++ (key, take version.layout.bits stored) ∷ back
+      → 0 < copies_at (counts_of version part) (part_value (take version.layout.bits stored) (part_at version.layout part))
   counted_row present rows_are =
       let pv : ℕ × List ℕ → ℕ = λ other. part_value other.1 positions in
-      let old : part_values version.rows positions ≡ map pv front ++ value ∷ map pv back = ap (λ (rows : List (ℕ × List ℕ)). map pv rows) rows_are ∙ map-append pv front (row ∷ back) in
-      subst (λ (items : List ℕ). 0 < copies_at (table_of (length positions) items) value) (sym old) (present (length positions) value (map pv front) (map pv back) value_fits)
+      let old : part_values version.rows positions ≡ map pv front ++ value ∷ map pv back =
+      ap (λ (rows : List (ℕ × List ℕ)). map pv rows) rows_are ∙ map-append pv front (row ∷ back) in
+      subst (λ (items : List ℕ). 0 < copies_at (table_of (length positions) items) value) (sym old)
+      (present (length positions) value (map pv front) (map pv back) value_fits)
 
-  module _ (table : Table) (rows_are : version.rows ≡ front ++ (key, take version.layout.bits stored) ∷ back) (postings : ArePostings W version part table) (size : length table.lists ≡ 2 ^ table.width) where
-    full_sums : (v : ℕ) → v < 2 ^ length positions → (f : ℕ × List ℕ → ℕ) → sum_by f (map (unpadded bits) (posting_list table v)) ≡ sum_by f (rows_with (front ++ row ∷ back) positions v)
+  module _ (table : Table) (rows_are : version.rows ≡ front ++ (key, take version.layout.bits stored) ∷ back)
+      (postings : ArePostings W version part table) (size : length table.lists ≡ 2 ^ table.width) where
+    full_sums : (v : ℕ) → v < 2 ^ length positions → (f : ℕ × List ℕ → ℕ)
+        → sum_by f (map (unpadded bits) (posting_list table v)) ≡ sum_by f (rows_with (front ++ row ∷ back) positions v)
     full_sums v below f = (postings.lists.each v below).sums f ∙ ap (λ (rows : List (ℕ × List ℕ)). sum_by f (rows_with rows positions v)) rows_are
 
     -- the key of a row is in the posting list of its value
@@ -205,15 +241,18 @@ module _ {W : ℕ} (version : Contents) (front back : List (ℕ × List ℕ)) (k
 
     module _ (new : Table) (apart : AllByRecursion (λ other. other.0 ≢ key) (front ++ back))
         (loses : LosesEntry table new (part_value (take version.layout.bits stored) (part_at version.layout part)) key)
-        (others : new ≡ with_list table (part_value (take version.layout.bits stored) (part_at version.layout part)) (posting_list new (part_value (take version.layout.bits stored) (part_at version.layout part)))) where
+        (others : new ≡ with_list table (part_value (take version.layout.bits stored) (part_at version.layout part))
+        (posting_list new (part_value (take version.layout.bits stored) (part_at version.layout part)))) where
       other_list : (v : ℕ) → v ≢ value → posting_list new v ≡ posting_list table v
       other_list v other = ap (λ (t : Table). posting_list t v) others ∙ get_or-set_other table.lists value v (posting_list new value) [] other
 
       without_it : (f : ℕ × List ℕ → ℕ) → sum_by f (posting_list table value) ≡ f (key, loses.code) + sum_by f (posting_list new value)
-      without_it f = sum_by-IsPermutation f ((key, loses.code) ∷ posting_list new value) (posting_list table value) (IsPermutation-sym _ _ loses.others_stay) ∙ sum_by-cons f (key, loses.code) (posting_list new value)
+      without_it f = sum_by-IsPermutation f ((key, loses.code) ∷ posting_list new value) (posting_list table value)
+          (IsPermutation-sym _ _ loses.others_stay) ∙ sum_by-cons f (key, loses.code) (posting_list new value)
 
       own_list : HasSame (map (unpadded bits) (posting_list new value)) (rows_with (front ++ back) positions value)
-      own_list = same_without key (unpadded bits (key, loses.code)) row (map (unpadded bits) (posting_list new value)) (rows_with (front ++ back) positions value) refl refl
+      own_list = same_without key (unpadded bits (key, loses.code)) row (map (unpadded bits) (posting_list new value))
+          (rows_with (front ++ back) positions value) refl refl
           (all_filter (λ other. other.0 ≢ key) (λ other. part_value other.1 positions == value) (front ++ back) apart)
           (λ f. (
           let counted = without_it (λ entry. f (unpadded bits entry)) in
@@ -223,17 +262,24 @@ module _ {W : ℕ} (version : Contents) (front back : List (ℕ × List ℕ)) (k
           let more = own_more f in
           omega arith))
 
-      left_lists : (v : ℕ) → v < 2 ^ length positions → (same : Bool) → (v == value) ≡ same → HasSame (map (unpadded bits) (posting_list new v)) (rows_with (front ++ back) positions v)
-      left_lists v below true e = subst (λ (u : ℕ). HasSame (map (unpadded bits) (posting_list new u)) (rows_with (front ++ back) positions u)) (sym (eqb-true v value e)) own_list
+      left_lists : (v : ℕ) → v < 2 ^ length positions → (same : Bool) → (v == value) ≡ same
+          → HasSame (map (unpadded bits) (posting_list new v)) (rows_with (front ++ back) positions v)
+      left_lists v below true e = subst
+          (λ (u : ℕ). HasSame (map (unpadded bits) (posting_list new u)) (rows_with (front ++ back) positions u))
+          (sym (eqb-true v value e)) own_list
       left_lists v below false e =
           let other = eqb-false v value e in
-          record { sums = λ f. ap (λ (list : List (ℕ × List ℕ)). sum_by f (map (unpadded bits) list)) (other_list v other) ∙ full_sums v below f ∙ other_more v other f }
+          record {
+            sums = λ f. ap (λ (list : List (ℕ × List ℕ)). sum_by f (map (unpadded bits) list)) (other_list v other)
+                ∙ full_sums v below f ∙ other_more v other f;
+          }
 
       left_codes : (v : ℕ) → (same : Bool) → (v == value) ≡ same → AreStored W bits (posting_list new v)
       left_codes v false e = subst (λ (list : List (ℕ × List ℕ)). AreStored W bits list) (sym (other_list v (eqb-false v value e))) (postings.codes v)
       left_codes v true e =
           let own : AreStored W bits (posting_list new value) =
-          all_left (λ entry. StandsFor W bits entry.1 (take bits entry.1)) (posting_list table value) (posting_list new value) (key, loses.code) loses.others_stay (postings.codes value) in
+          all_left (λ entry. StandsFor W bits entry.1 (take bits entry.1)) (posting_list table value) (posting_list new value)
+          (key, loses.code) loses.others_stay (postings.codes value) in
           subst (λ (u : ℕ). AreStored W bits (posting_list new u)) (sym (eqb-true v value e)) own
 
       -- the posting lists without the row's entry are those of the rows without the row

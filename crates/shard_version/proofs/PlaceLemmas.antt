@@ -58,7 +58,8 @@ all_both P Q R both (x ∷ xs) ps qs = (both x ps.0 qs.0, all_both P Q R both xs
 -- ---- a row at its place
 
 -- a new row goes between the lesser and the greater keys
-pub inserted_between : (front back : List (ℕ × List ℕ)) (key : ℕ) (code : List ℕ) → AllByRecursion (λ row. row.0 < key) front → AllByRecursion (λ row. key < row.0) back
+pub inserted_between : (front back : List (ℕ × List ℕ)) (key : ℕ) (code : List ℕ) → AllByRecursion (λ row. row.0 < key) front
+    → AllByRecursion (λ row. key < row.0) back
     → insert_entry nat_cmp (front ++ back) key code ≡ front ++ (key, code) ∷ back
 inserted_between [] [] key code before after = refl
 inserted_between [] (row ∷ back) key code before after = rw (is_less key row.0 after.0) refl
@@ -87,9 +88,11 @@ pub apart_from_absent : (rows : List (ℕ × List ℕ)) (key : ℕ) → code_at 
 apart_from_absent rows key absent = none_passes_from_lookup (is_at (nat_cmp key)) rows absent
 
 -- where a key isn't there, keys that are not below it are above it
-pub above_absent : (back : List (ℕ × List ℕ)) (key : ℕ) → code_at back key ≡ None → AllByRecursion (λ row. key ≤ row.0) back → AllByRecursion (λ row. key < row.0) back
+pub above_absent : (back : List (ℕ × List ℕ)) (key : ℕ) → code_at back key ≡ None → AllByRecursion (λ row. key ≤ row.0) back
+    → AllByRecursion (λ row. key < row.0) back
 above_absent back key absent after =
-    all_both (λ row. key ≤ row.0) (λ row. is_eq (nat_cmp key row.0) ≡ false) (λ row. key < row.0) (λ row le apart. below_other key row.0 le apart) back after (apart_from_absent back key absent)
+    all_both (λ row. key ≤ row.0) (λ row. is_eq (nat_cmp key row.0) ≡ false) (λ row. key < row.0)
+    (λ row le apart. below_other key row.0 le apart) back after (apart_from_absent back key absent)
 
 not_less : (same : Bool) → cond same Equal Greater ≡ Less → ⊥
 not_less true e = cc
@@ -109,7 +112,8 @@ all_above key [] all = tt
 all_above key (other ∷ rows) all = (less_below key other.0 all.0, all_above key rows all.1)
 
 -- keys after the first of ascending ones are above it
-pub above_first : (row : ℕ × List ℕ) (rows : List (ℕ × List ℕ)) → IsStrictlySortedBy nat_cmp (keys_of (row ∷ rows)) → AllByRecursion (λ other. row.0 < other.0) rows
+pub above_first : (row : ℕ × List ℕ) (rows : List (ℕ × List ℕ)) → IsStrictlySortedBy nat_cmp (keys_of (row ∷ rows))
+    → AllByRecursion (λ other. row.0 < other.0) rows
 unfolding IsStrictlySortedBy
 above_first row rows up = all_above row.0 rows up.0
 
@@ -140,15 +144,18 @@ keys_rise rows up i j d le within = go (i == j) refl
         omega arith
 
 -- what is true at each of the first places is true of each of the first elements
-pub all_taken : {X : Type 0} (P : X → Type 0) (i : ℕ) (xs : List X) → ((k : ℕ) (d : X) → k < i → k < length xs → P (get_or xs k d)) → AllByRecursion P (take i xs)
+pub all_taken : {X : Type 0} (P : X → Type 0) (i : ℕ) (xs : List X) → ((k : ℕ) (d : X) → k < i → k < length xs → P (get_or xs k d))
+    → AllByRecursion P (take i xs)
 all_taken P zero xs each = tt
 all_taken P (suc i) [] each = tt
 all_taken P (suc i) (x ∷ xs) each = (each 0 x (omega arith) (omega arith), all_taken P i xs (λ k d below within. each (suc k) d (omega arith) (omega arith)))
 
 -- and so of the last
-pub all_dropped : {X : Type 0} (P : X → Type 0) (i : ℕ) (xs : List X) → ((k : ℕ) (d : X) → i ≤ k → k < length xs → P (get_or xs k d)) → AllByRecursion P (drop i xs)
+pub all_dropped : {X : Type 0} (P : X → Type 0) (i : ℕ) (xs : List X)
+    → ((k : ℕ) (d : X) → i ≤ k → k < length xs → P (get_or xs k d)) → AllByRecursion P (drop i xs)
 all_dropped P zero [] each = tt
-all_dropped P zero (x ∷ xs) each = (each 0 x (omega arith) (omega arith), all_dropped P zero xs (λ k d above within. each (suc k) d (omega arith) (omega arith)))
+all_dropped P zero (x ∷ xs) each =
+    (each 0 x (omega arith) (omega arith), all_dropped P zero xs (λ k d above within. each (suc k) d (omega arith) (omega arith)))
 all_dropped P (suc i) [] each = tt
 all_dropped P (suc i) (x ∷ xs) each = all_dropped P i xs (λ k d above within. each (suc k) d (omega arith) (omega arith))
 
@@ -172,11 +179,14 @@ pub cut_here : {X : Type 0} (place : ℕ) (xs : List X) (other : X) → place < 
 cut_here place xs other within = ap (λ back. take place xs ++ back) (sym (drop_here place xs other within)) ∙ take-append-drop place xs
 
 -- a key looked for from its place on
-pub code_split : (place : ℕ) (rows : List (ℕ × List ℕ)) (key : ℕ) → AllByRecursion (λ row. row.0 < key) (take place rows) → code_at rows key ≡ code_at (drop place rows) key
-code_split place rows key before = ap (λ (all : List (ℕ × List ℕ)). code_at all key) (sym (take-append-drop place rows)) ∙ code_behind (take place rows) (drop place rows) key before
+pub code_split : (place : ℕ) (rows : List (ℕ × List ℕ)) (key : ℕ) → AllByRecursion (λ row. row.0 < key) (take place rows)
+    → code_at rows key ≡ code_at (drop place rows) key
+code_split place rows key before = ap (λ (all : List (ℕ × List ℕ)). code_at all key) (sym (take-append-drop place rows))
+    ∙ code_behind (take place rows) (drop place rows) key before
 
 -- whether the first of ascending rows has a key that isn't above it
-first_has : (row : ℕ × List ℕ) (rows : List (ℕ × List ℕ)) (key : ℕ) → IsStrictlySortedBy nat_cmp (keys_of (row ∷ rows)) → key ≤ row.0 → (row.0 == key) ≡ is_some (code_at (row ∷ rows) key)
+first_has : (row : ℕ × List ℕ) (rows : List (ℕ × List ℕ)) (key : ℕ) → IsStrictlySortedBy nat_cmp (keys_of (row ∷ rows))
+    → key ≤ row.0 → (row.0 == key) ≡ is_some (code_at (row ∷ rows) key)
 first_has row rows key up le = go (row.0 == key) refl
   where
     go : (same : Bool) → (row.0 == key) ≡ same → same ≡ is_some (code_at (row ∷ rows) key)
@@ -188,17 +198,22 @@ first_has row rows key up le = go (row.0 == key) refl
         ap (λ found. is_some found) (sym (code_before (row ∷ rows) key (low, above)))
 
 -- a key has a row where the row at its place has the key
-pub stands_here : (rows : List (ℕ × List ℕ)) (key place : ℕ) (other : ℕ × List ℕ) → IsStrictlySortedBy nat_cmp (keys_of rows) → IsPlace rows key place → place < length rows
+pub stands_here : (rows : List (ℕ × List ℕ)) (key place : ℕ) (other : ℕ × List ℕ) → IsStrictlySortedBy nat_cmp (keys_of rows)
+    → IsPlace rows key place → place < length rows
     → ((get_or rows place other).0 == key) ≡ is_some (code_at rows key)
 stands_here rows key place other up at within =
     let here = drop_here place rows other within in
     let row = get_or rows place other in
-    let from : AllByRecursion (λ each. key ≤ each.0) (row ∷ drop (suc place) rows) = subst (λ (back : List (ℕ × List ℕ)). AllByRecursion (λ each. key ≤ each.0) back) here at.after in
-    let rise : IsStrictlySortedBy nat_cmp (keys_of (row ∷ drop (suc place) rows)) = subst (λ (back : List (ℕ × List ℕ)). IsStrictlySortedBy nat_cmp (keys_of back)) here (ascend_from place rows up) in
-    first_has row (drop (suc place) rows) key rise from.0 ∙ ap (λ (back : List (ℕ × List ℕ)). is_some (code_at back key)) (sym here) ∙ ap (λ found. is_some found) (sym (code_split place rows key at.before))
+    let from : AllByRecursion (λ each. key ≤ each.0) (row ∷ drop (suc place) rows) =
+    subst (λ (back : List (ℕ × List ℕ)). AllByRecursion (λ each. key ≤ each.0) back) here at.after in
+    let rise : IsStrictlySortedBy nat_cmp (keys_of (row ∷ drop (suc place) rows)) =
+    subst (λ (back : List (ℕ × List ℕ)). IsStrictlySortedBy nat_cmp (keys_of back)) here (ascend_from place rows up) in
+    first_has row (drop (suc place) rows) key rise from.0 ∙ ap (λ (back : List (ℕ × List ℕ)). is_some (code_at back key)) (sym here)
+    ∙ ap (λ found. is_some found) (sym (code_split place rows key at.before))
 
 -- and none where no row stands there
-pub stands_nowhere : (rows : List (ℕ × List ℕ)) (key place : ℕ) → IsPlace rows key place → length rows ≤ place → (nat_lt place (length rows)) ≡ is_some (code_at rows key)
+pub stands_nowhere : (rows : List (ℕ × List ℕ)) (key place : ℕ) → IsPlace rows key place → length rows ≤ place
+    → (nat_lt place (length rows)) ≡ is_some (code_at rows key)
 stands_nowhere rows key place at past =
     let none : drop place rows ≡ [] = drop_all place rows past in
     rw (le-ltb place (length rows) past, code_split place rows key at.before, none) refl
@@ -222,4 +237,12 @@ place_there (row ∷ rows) key up = go (nat_lt row.0 key) refl (place_there rows
     }
     go false e rest =
         let low = ltb-false row.0 key e in
-        record { in_rows = omega arith; before = tt; after = (low, all_weaker (λ other. row.0 < other.0) (λ other. key ≤ other.0) (λ other h. omega arith) rows (all_above row.0 rows up.0)) }
+        record {
+          in_rows = omega arith;
+          before = tt;
+          after = (
+            low,
+            all_weaker (λ other. row.0 < other.0) (λ other. key ≤ other.0) (λ other h. omega arith) rows
+                (all_above row.0 rows up.0),
+          );
+        }

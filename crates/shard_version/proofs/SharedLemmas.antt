@@ -22,6 +22,11 @@ pub record IsBucketOf (number : ℕ) (shared : List (Arc (List (ℕ × List ℕ)
   pub seen : rows_in (row_buckets_of shared) ≡ self
   pub stands : own ≡ get_or shared (key % 256) own
 
+pub bucket_of_key : {number key : ℕ} {shared : List (Arc (List (ℕ × List ℕ)) Global)} {self : List (ℕ × List ℕ)}
+    {own : Arc (List (ℕ × List ℕ)) Global} → AreKeyedRows number (row_buckets_of shared) → rows_in (row_buckets_of shared) ≡ self
+    → own ≡ get_or shared (key % 256) own → IsBucketOf number shared self key own
+bucket_of_key kept seen stands = record { kept = kept; seen = seen; stands = stands }
+
 module _ {number : ℕ} {shared : List (Arc (List (ℕ × List ℕ)) Global)} {self : List (ℕ × List ℕ)} {key : ℕ} {own : Arc (List (ℕ × List ℕ)) Global}
     (is : IsBucketOf number shared self key own) where
   pub in_shared : key % 256 < length shared
@@ -55,7 +60,8 @@ module _ {number : ℕ} {shared : List (Arc (List (ℕ × List ℕ)) Global)} {s
         subst (λ (buckets : List (List (ℕ × List ℕ))). AreKeyedRows number buckets) (sym all) is.kept
 
     module _ (code : List ℕ) (added : arc_value new ≡ insert_entry nat_cmp (arc_value own) key code) where
-      with_row : row_buckets_of (set shared (key % 256) new) ≡ set (row_buckets_of shared) (key % 256) (insert_entry nat_cmp (bucket_at (row_buckets_of shared) (key % 256)) key code)
+      with_row : row_buckets_of (set shared (key % 256) new)
+          ≡ set (row_buckets_of shared) (key % 256) (insert_entry nat_cmp (bucket_at (row_buckets_of shared) (key % 256)) key code)
       with_row = new_buckets ∙ ap (set (row_buckets_of shared) (key % 256))
           (added ∙ ap (λ (rows : List (ℕ × List ℕ)). insert_entry nat_cmp rows key code) (sym own_bucket))
 
@@ -76,7 +82,9 @@ module _ {number : ℕ} {shared : List (Arc (List (ℕ × List ℕ)) Global)} {s
       }
 
     module _ (removed : arc_value new ≡ remove_entry (is_at (nat_cmp key)) (arc_value own)) where
-      without_row : row_buckets_of (set shared (key % 256) new) ≡ set (row_buckets_of shared) (key % 256) (remove_entry (is_at (nat_cmp key)) (bucket_at (row_buckets_of shared) (key % 256)))
+      without_row : row_buckets_of (set shared (key % 256) new)
+          ≡ set (row_buckets_of shared) (key % 256)
+          (remove_entry (is_at (nat_cmp key)) (bucket_at (row_buckets_of shared) (key % 256)))
       without_row = new_buckets ∙ ap (set (row_buckets_of shared) (key % 256))
           (removed ∙ ap (λ (rows : List (ℕ × List ℕ)). remove_entry (is_at (nat_cmp key)) rows) (sym own_bucket))
 
@@ -137,5 +145,6 @@ pub shared_more : (xs done : List (Arc (List (ℕ × List ℕ)) Global)) (i : �
 shared_more xs done i own new below is same before =
     let long = length-map xs (λ bucket. arc_value bucket) in
     let inside : i < length (row_buckets_of xs) = omega arith in
-    let item : arc_value new ≡ get_or (row_buckets_of xs) i [] = same ∙ ap (λ bucket. arc_value bucket) is ∙ sym (get_or-map (λ bucket. arc_value bucket) xs i own [] below) in
+    let item : arc_value new ≡ get_or (row_buckets_of xs) i [] =
+    same ∙ ap (λ bucket. arc_value bucket) is ∙ sym (get_or-map (λ bucket. arc_value bucket) xs i own [] below) in
     rw (map-append (λ bucket. arc_value bucket) done (new ∷ []), before, take_more (row_buckets_of xs) i [] inside, item) refl

@@ -12,7 +12,8 @@ use Rattle.search_model.proofs.SameLemmas.{sum_kept}
 pub sum_with : {X : Type 0} (f : X → ℕ) (test : X → Bool) (front back : List X) (x : X)
     → sum_by f (filter test (front ++ x ∷ back)) ≡ cond (test x) (f x) 0 + sum_by f (filter test (front ++ back))
 sum_with f test front back x =
-    let all : sum_by f (filter test (front ++ x ∷ back)) ≡ sum_by f (filter test front ++ filter test (x ∷ back)) = ap (sum_by f) (filter-append test front (x ∷ back)) in
+    let all : sum_by f (filter test (front ++ x ∷ back)) ≡ sum_by f (filter test front ++ filter test (x ∷ back)) =
+    ap (sum_by f) (filter-append test front (x ∷ back)) in
     let less : sum_by f (filter test (front ++ back)) ≡ sum_by f (filter test front ++ filter test back) = ap (sum_by f) (filter-append test front back) in
     let both = sum_by-append f (filter test front) (filter test (x ∷ back)) in
     let few = sum_by-append f (filter test front) (filter test back) in
@@ -40,7 +41,8 @@ none_of_key key (row ∷ rows) apart =
 pub lacks_key : (bits key : ℕ) (entries : List (ℕ × List ℕ)) → sum_by (of_key key) (map (unpadded bits) entries) ≡ 0 → has_key entries key ≡ false
 lacks_key bits key [] none = refl
 lacks_key bits key (entry ∷ entries) none =
-    go (entry.0 == key) (has_key entries key) (sym (sum_by-cons (of_key key) (unpadded bits entry) (map (unpadded bits) entries)) ∙ none) (lacks_key bits key entries)
+    go (entry.0 == key) (has_key entries key) (sym (sum_by-cons (of_key key) (unpadded bits entry) (map (unpadded bits) entries))
+    ∙ none) (lacks_key bits key entries)
   where
     go : (same more : Bool) → cond same 1 0 + sum_by (of_key key) (map (unpadded bits) entries) ≡ 0
         → (sum_by (of_key key) (map (unpadded bits) entries) ≡ 0 → more ≡ false) → (same || more) ≡ false
@@ -51,7 +53,9 @@ lacks_key bits key (entry ∷ entries) none =
 pub holds_key : (bits key : ℕ) (entries : List (ℕ × List ℕ)) → 0 < sum_by (of_key key) (map (unpadded bits) entries) → has_key entries key ≡ true
 holds_key bits key [] some = absurd (omega arith)
 holds_key bits key (entry ∷ entries) some =
-    go (entry.0 == key) (has_key entries key) (omega (arith, some, sum_by-cons (of_key key) (unpadded bits entry) (map (unpadded bits) entries))) (holds_key bits key entries)
+    go (entry.0 == key) (has_key entries key)
+    (omega (arith, some, sum_by-cons (of_key key) (unpadded bits entry) (map (unpadded bits) entries)))
+    (holds_key bits key entries)
   where
     go : (same more : Bool) → 0 < cond same 1 0 + sum_by (of_key key) (map (unpadded bits) entries)
         → (0 < sum_by (of_key key) (map (unpadded bits) entries) → more ≡ true) → (same || more) ≡ true
@@ -59,7 +63,8 @@ holds_key bits key (entry ∷ entries) some =
     go false more all rest = rest (omega arith)
 
 -- where no entry is the key's, it is as well to leave the key out
-pub without_key : (key : ℕ) (f : ℕ × List ℕ → ℕ) (entries : List (ℕ × List ℕ)) → sum_by (of_key key) entries ≡ 0 → sum_by f entries ≡ sum_by (but_key key f) entries
+pub without_key : (key : ℕ) (f : ℕ × List ℕ → ℕ) (entries : List (ℕ × List ℕ)) → sum_by (of_key key) entries ≡ 0
+    → sum_by f entries ≡ sum_by (but_key key f) entries
 without_key key f [] none = refl
 without_key key f (entry ∷ entries) none =
     let rest = without_key key f entries in

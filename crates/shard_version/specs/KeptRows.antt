@@ -1,4 +1,5 @@
--- How the rows of a version are kept: in buckets, by the rest of the key. No public clause cites this module.
+-- How the rows of a version are kept: in buckets, by the rest of the key.
+-- No public clause cites this module.
 use Rattle.std.specs.Prelude.{◌≡◌, ℕ, ◌%◌, ◌^◌, ◌<◌, ◌≤◌, nat_lt, if◌then◌else◌, List, [], ◌∷◌, map, length, take, slice_index, slice_index_or}
 use Rattle.std.specs.Arc.{arc_value}
 use Rattle.std.specs.BTreeMap.{insert_entry}
@@ -32,8 +33,10 @@ row_buckets_of shared = map (λ bucket. arc_value bucket) shared
 -- each bucket has the rows whose keys have its rest, ascending by key
 pub record AreRowBuckets (buckets : List (List (ℕ × List ℕ))) : Type 0 where
   pub number : length buckets ≡ ROW_BUCKETS
-  pub ascend : (at : ℕ) → at < ROW_BUCKETS → IsStrictlySortedBy nat_cmp (keys_of (bucket_at buckets at))
-  pub own : (at : ℕ) → at < ROW_BUCKETS → AllByRecursion (λ row. row.0 % ROW_BUCKETS ≡ at) (bucket_at buckets at)
+  pub ascend : (at : ℕ) → at < ROW_BUCKETS
+      → IsStrictlySortedBy nat_cmp (keys_of (bucket_at buckets at))
+  pub own : (at : ℕ) → at < ROW_BUCKETS
+      → AllByRecursion (λ row. row.0 % ROW_BUCKETS ≡ at) (bucket_at buckets at)
 
 -- and so many rows are in all of them
 pub record AreKeyedRows (number : ℕ) (buckets : List (List (ℕ × List ℕ))) : Type 0 where
@@ -54,13 +57,16 @@ pub record AreNone (heads : List ℕ) : Type 0 where
   pub none : (at : ℕ) → slice_index heads at ≡ 0
 
 -- a bucket whose next row has the least key of the first so many
-pub record IsLeastHead (buckets : List (List (ℕ × List ℕ))) (heads : List ℕ) (count least : ℕ) : Type 0 where
+pub record IsLeastHead (buckets : List (List (ℕ × List ℕ))) (heads : List ℕ)
+    (count least : ℕ) : Type 0 where
   pub inside : least < ROW_BUCKETS
   pub below : (at : ℕ) → at < count → head_key buckets heads least ≤ head_key buckets heads at
-  pub small : (at : ℕ) → at < count → slice_index heads at < length (bucket_at buckets at) → head_key buckets heads at < 2 ^ 64
+  pub small : (at : ℕ) → at < count → slice_index heads at < length (bucket_at buckets at)
+      → head_key buckets heads at < 2 ^ 64
 
 -- the first so many rows are taken, each from its bucket
 pub record AreTaken (rows first : List (ℕ × List ℕ)) (heads : List ℕ) (count : ℕ) : Type 0 where
   pub taken : first ≡ take count rows
   pub number : length heads ≡ ROW_BUCKETS
-  pub each : (at : ℕ) → at < ROW_BUCKETS → slice_index heads at ≡ length (shard_rows at ROW_BUCKETS (take count rows))
+  pub each : (at : ℕ) → at < ROW_BUCKETS
+      → slice_index heads at ≡ length (shard_rows at ROW_BUCKETS (take count rows))

@@ -12,4 +12,10 @@ after_entries version (entry ∷ entries) = after_entries (after_entry version e
 -- the version of a whole history: all its entries taken in, and the rows of the shard
 abbrev pub prefix_of : ℕ → ℕ → Laid → List JournalEntry → Contents
 prefix_of shard shards layout history =
-    record { shard = shard; shards = shards; at = length history; layout = layout; rows = shard_rows shard shards (rows_of history) }
+    record {
+      shard = shard;
+      shards = shards;
+      at = length history;
+      layout = layout;
+      rows = shard_rows shard shards (rows_of history);
+    }

@@ -191,7 +191,8 @@ fn insert_in<const W: usize>(
 ) -> Result<(), NoMemory>
     requires ascending { IsStrictlySortedBy nat_cmp (keys_of (arc_value bucket.old)) }
     requires absent { code_at (arc_value bucket.old) key ≡ None }
-    ensures added { OnOk result (arc_value bucket.new ≡ insert_entry nat_cmp (arc_value bucket.old) key code.entry) }
+    ensures added { OnOk result (arc_value bucket.new
+        ≡ insert_entry nat_cmp (arc_value bucket.old) key code.entry) }
     ensures unchanged { OnErr result (arc_value bucket.new ≡ arc_value bucket.old) }
 {
     let Ok(own) = Arc::make_mut(bucket) else {
@@ -208,7 +209,8 @@ fn remove_from<const W: usize>(
     requires ascending { IsStrictlySortedBy nat_cmp (keys_of (arc_value bucket.old)) }
     requires present { is_some (code_at (arc_value bucket.old) key) ≡ true }
     ensures code { IfOk result (λ code. code_at (arc_value bucket.old) key ≡ Some code) }
-    ensures removed { OnOk result (arc_value bucket.new ≡ remove_entry (is_at (nat_cmp key)) (arc_value bucket.old)) }
+    ensures removed { OnOk result (arc_value bucket.new
+        ≡ remove_entry (is_at (nat_cmp key)) (arc_value bucket.old)) }
     ensures unchanged { OnErr result (arc_value bucket.new ≡ arc_value bucket.old) }
 {
     let Ok(own) = Arc::make_mut(bucket) else {

@@ -18,7 +18,8 @@ pub fn versions_follow_the_history()
     ensures step { (shard shards : ℕ) (history : List JournalEntry) (entry : JournalEntry) →
         shard_rows shard shards (rows_of (history ++ entry ∷ []))
         ≡ changed_in shard shards (shard_rows shard shards (rows_of history)) entry.operation }
-    ensures next { (shard shards : ℕ) (layout : Laid) (history : List JournalEntry) (entry : JournalEntry) →
+    ensures next { (shard shards : ℕ) (layout : Laid) (history : List JournalEntry) →
+        (entry : JournalEntry) →
         after_entry (prefix_of shard shards layout history) entry
         ≡ prefix_of shard shards layout (history ++ entry ∷ []) }
     ensures prefix { (shard shards : ℕ) (layout : Laid) (history : List JournalEntry) →

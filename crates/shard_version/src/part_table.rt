@@ -1,6 +1,7 @@
 //! The tables of one part.
 
 ghost use Rattle.std.specs.Prelude.{◌≡◌, ◌≤◌, IfOk, OnOk};
+ghost use Rattle.hamming_model.specs.declared.limits.TheConstants.{PART_WIDTH_MOST};
 ghost use Rattle.shard_version.specs.Kept.{HasRow, LosesRow, TakesRow, no_rows, with_row};
 
 use count_table::Counts;
@@ -20,7 +21,7 @@ impl<const W: usize> PartTable<W> {
     // The tables of no rows.
     pub fn empty(alloc: Global, width: u32) -> Result<PartTable<W>, NoMemory>
         requires some { 1 ≤ width }
-        requires narrow { width ≤ 12 }
+        requires narrow { width ≤ PART_WIDTH_MOST }
         ensures { IfOk result (λ table. table ≡ no_rows width) }
     {
         let postings = Postings::new(alloc, width)?;

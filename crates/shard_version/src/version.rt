@@ -68,7 +68,8 @@ impl<const W: usize> Version<W> {
         requires room { (arc_value layout).bits ≤ 64 * W }
         requires own_shard { shard < shards }
         requires few_shards { shards ≤ SHARDS_MOST }
-        ensures { IfOk result (λ version. version.contents ≡ empty_of shard shards (arc_value layout)) }
+        ensures { IfOk result (λ version.
+            version.contents ≡ empty_of shard shards (arc_value layout)) }
     {
         changes_follow_a_list();
         let parts = layout.parts();
@@ -119,10 +120,14 @@ impl<const W: usize> Version<W> {
     pub fn apply(self, entry: &Entry<W>) -> Result<Version<W>, NoMemory>
         requires few_words { W ≤ WORDS_MOST }
         requires counted { self.contents.at + 1 < 2 ^ 64 }
-        requires means { MeansEntry self.contents.layout.bits entry.now (entry_of self.contents.layout.bits entry.now) }
-        requires fits { FitsShard self.contents (entry_of self.contents.layout.bits entry.now).operation }
-        requires room { HasRoomFor self.contents (entry_of self.contents.layout.bits entry.now).operation }
-        ensures { IfOk result (λ version. version.contents ≡ after_entry self.entry.contents (entry_of self.entry.contents.layout.bits entry.now)) }
+        requires means { MeansEntry self.contents.layout.bits entry.now
+            (entry_of self.contents.layout.bits entry.now) }
+        requires fits { FitsShard self.contents
+            (entry_of self.contents.layout.bits entry.now).operation }
+        requires room { HasRoomFor self.contents
+            (entry_of self.contents.layout.bits entry.now).operation }
+        ensures { IfOk result (λ version. version.contents ≡ after_entry self.entry.contents
+            (entry_of self.entry.contents.layout.bits entry.now)) }
     {
         match entry.op {
             Op::Add { key, code } if self.owns(key) => self.with_row(key, code),
@@ -152,9 +157,11 @@ impl<const W: usize> Version<W> {
         requires counted { self.contents.at + 1 < 2 ^ 64 }
         requires room { length self.contents.rows < ENTRIES_MOST }
         requires own { key % self.contents.shards ≡ self.contents.shard }
-        requires code { StandsFor W self.contents.layout.bits code (take self.contents.layout.bits code) }
+        requires code { StandsFor W self.contents.layout.bits code
+            (take self.contents.layout.bits code) }
         requires absent { code_at self.contents.rows key ≡ None }
-        ensures { IfOk result (λ version. version.contents ≡ with_added self.entry.contents key code.entry) }
+        ensures { IfOk result (λ version.
+            version.contents ≡ with_added self.entry.contents key code.entry) }
     {
         changes_follow_a_list();
         counts_are_those_of_a_list();
@@ -253,7 +260,8 @@ impl<const W: usize> Version<W> {
     ) -> Result<Vec<(u64, Code<W>)>, NoMemory>
         ensures rows { IfOk result (λ rows. AreFirst n self.now.contents rows.items) }
         ensures codes { IfOk result (λ rows. AreStored W self.now.contents.layout.bits rows.items) }
-        ensures steps { OnOk result (steps.new ≡ steps.old + min n (length self.now.contents.rows)) }
+        ensures steps { OnOk result
+            (steps.new ≡ steps.old + min n (length self.now.contents.rows)) }
         ensures unread { OnErr result (steps.new ≡ steps.old) }
     {
         self.rows.first(n, steps)

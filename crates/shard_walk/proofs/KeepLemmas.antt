@@ -27,7 +27,8 @@ module _ (p : Planned) (code : List ℕ) (part : ℕ) (size : length p.threshold
       let ds_size = length-map (parts_of p) (λ positions. part_distance positions code (planned_query p)) in
       let here = get_or-map units_of p.thresholds part (negsuc 0) 0 (omega arith) in
       let there = get_or-map (λ positions. part_distance positions code (planned_query p)) (parts_of p) part [] 0 less in
-      first_cut us ds part (get_or us part 0) (get_or ds part 0) (drop (part + 1) us) (drop (part + 1) ds) (drop_more us part 0 (omega arith)) (drop_more ds part 0 (omega arith))
+      first_cut us ds part (get_or us part 0) (get_or ds part 0) (drop (part + 1) us) (drop (part + 1) ds)
+      (drop_more us part 0 (omega arith)) (drop_more ds part 0 (omega arith))
       ∙ ap (λ u. cond (nat_lt (get_or ds part 0) u) 0 (first_from p code (part + 1) + 1)) here
       ∙ ap (λ d. cond (nat_lt d (units_of (threshold_at p.thresholds part))) 0 (first_from p code (part + 1) + 1)) there
 
@@ -38,7 +39,8 @@ module _ (p : Planned) (code : List ℕ) (part : ℕ) (size : length p.threshold
   found_later found = first_step ∙ ap (λ b. cond b 0 (first_from p code (part + 1) + 1)) found
 
 -- after the last part there is none
-pub found_nowhere : (p : Planned) (code : List ℕ) (part : ℕ) → length p.thresholds ≡ length (parts_of p) → length (parts_of p) ≤ part → first_from p code part ≡ 0
+pub found_nowhere : (p : Planned) (code : List ℕ) (part : ℕ) → length p.thresholds ≡ length (parts_of p)
+    → length (parts_of p) ≤ part → first_from p code part ≡ 0
 found_nowhere p code part size past =
     let us : List ℕ = map units_of p.thresholds in
     let ds : List ℕ = part_distances (parts_of p) code (planned_query p) in

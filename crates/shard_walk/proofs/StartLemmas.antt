@@ -36,7 +36,8 @@ module _ (sums : (f : ℕ → ℕ) (value width units : ℕ) → sum_by f (ball 
       omega (arith, sum_by-cons (λ other. 2 ^ length other) part parts)
 
 -- the least cost is that of the thresholds
-pub least_is_cost : (words : ℕ) (p : Planned) → IsPlanned words p → p.least ≡ cost (row_counts p.version.contents.rows (parts_of p) (planned_query p)) p.thresholds
+pub least_is_cost : (words : ℕ) (p : Planned) → IsPlanned words p
+    → p.least ≡ cost (row_counts p.version.contents.rows (parts_of p) (planned_query p)) p.thresholds
 least_is_cost words p plan =
     let found = plan.least.attained in
     omega (arith, plan.least.none_cheaper p.thresholds plan.choice.vector, plan.choice.none_cheaper found.0 found.1, found.2)

@@ -45,7 +45,15 @@ module _ (p : Planned) (w : Place) (place : IsWalkPlace p w) where
         omega arith
 
   pub read_place : w.next < w.size → IsWalkPlace p (after_posting w)
-  read_place more = record { few_parts = place.few_parts; thresholds = place.thresholds; part = place.part; ball = place.ball; value = place.value; next = omega arith; size = place.size }
+  read_place more = record {
+    few_parts = place.few_parts;
+    thresholds = place.thresholds;
+    part = place.part;
+    ball = place.ball;
+    value = place.value;
+    next = omega arith;
+    size = place.size;
+  }
 
   module _ (done : w.next ≡ w.size) where
     rest_done : rest_of_list p w ≡ []
@@ -59,15 +67,25 @@ module _ (p : Planned) (w : Place) (place : IsWalkPlace p w) where
     module _ (value : ℕ) (rest : List ℕ) (first : w.ball ≡ value ∷ rest) where
       value_rows : rows_left p (value_begun p w value rest) ≡ rows_left p w
       value_rows =
-          ap (λ list. (list ++ flat_map (list_of p w.part) rest) ∷ later p w.part) (take_all (length (list_of p w.part value)) (list_of p w.part value) (omega arith))
+          ap (λ list. (list ++ flat_map (list_of p w.part) rest) ∷ later p w.part)
+          (take_all (length (list_of p w.part value)) (list_of p w.part value) (omega arith))
           ∙ ap (λ values. flat_map (list_of p w.part) values ∷ later p w.part) (sym first)
           ∙ sym rows_done
 
-      pub value_begins : value < 2 ^ length (part_of p w.part) → All (λ other. other < 2 ^ length (part_of p w.part)) rest → BeginsValue p w (value_begun p w value rest)
+      pub value_begins : value < 2 ^ length (part_of p w.part) → All (λ other. other < 2 ^ length (part_of p w.part)) rest
+          → BeginsValue p w (value_begun p w value rest)
       value_begins below all =
           let size = ap length first in
           record {
-            place = record { few_parts = place.few_parts; thresholds = place.thresholds; part = place.part; ball = all; value = below; next = omega arith; size = omega arith };
+            place = record {
+              few_parts = place.few_parts;
+              thresholds = place.thresholds;
+              part = place.part;
+              ball = all;
+              value = below;
+              next = omega arith;
+              size = omega arith;
+            };
             hits = ap (hits_of_parts (parts_of p) p.thresholds (planned_query p) p.tau w.part) value_rows;
             reads = ap number_read value_rows;
             values = omega arith;
@@ -78,7 +96,8 @@ module _ (p : Planned) (w : Place) (place : IsWalkPlace p w) where
     end_reads none last =
         ap number_read (rows_done
         ∙ ap (λ values. flat_map (list_of p w.part) values ∷ later p w.part) none
-        ∙ ap (λ layout. [] ∷ parts_read (list_of p) (w.part + 1) layout (drop (w.part + 1) p.thresholds) (planned_query p)) (drop_all (w.part + 1) (parts_of p) last))
+        ∙ ap (λ layout. [] ∷ parts_read (list_of p) (w.part + 1) layout (drop (w.part + 1) p.thresholds) (planned_query p))
+        (drop_all (w.part + 1) (parts_of p) last))
 
 module _ (p : Planned) (part : ℕ) (size : length p.thresholds ≡ length (parts_of p)) (less : part < length (parts_of p)) where
   parts_cut : drop part (parts_of p) ≡ part_of p part ∷ drop (part + 1) (parts_of p)
@@ -98,7 +117,8 @@ module _ (p : Planned) (part : ℕ) (size : length p.thresholds ≡ length (part
       sym (ap (λ layout. values_of layout (drop part p.thresholds) (planned_query p)) parts_cut
       ∙ ap (λ ts. values_of (part_of p part ∷ drop (part + 1) (parts_of p)) ts (planned_query p)) thresholds_cut)
 
-module _ (p : Planned) (w : Place) (place : IsWalkPlace p w) (done : w.next ≡ w.size) (none : w.ball ≡ []) (size : length p.thresholds ≡ length (parts_of p)) (more : w.part + 1 < length (parts_of p)) where
+module _ (p : Planned) (w : Place) (place : IsWalkPlace p w) (done : w.next ≡ w.size) (none : w.ball ≡ [])
+    (size : length p.thresholds ≡ length (parts_of p)) (more : w.part + 1 < length (parts_of p)) where
   part_rows : rows_left p w ≡ [] ∷ rows_left p (part_begun p (w.part + 1))
   part_rows =
       rows_done p w place done ∙ ap (λ values. flat_map (list_of p w.part) values ∷ later p w.part) none

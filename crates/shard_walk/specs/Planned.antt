@@ -2,6 +2,7 @@
 use Rattle.std.specs.Prelude.{◌≡◌, ℕ, ◌≤◌, nat_lt, Bool, if◌then◌else◌, ℤ, List, length, map, Option, Some, None, refl}
 use Rattle.std.specs.Coded.{Coded, code_by, coded×, coded_list, coded_ℕ, coded_ℤ}
 use Rattle.hamming_model.specs.declared.hit.Hit.{Hit}
+use Rattle.hamming_model.specs.declared.limits.TheConstants.{WORDS_MOST}
 use Rattle.hamming_model.specs.Layouts.{part_distance}
 use Rattle.hamming_model.specs.Scan.{hit_of}
 use Rattle.threshold_model.specs.Vectors.{IsChoice, IsLeast, row_counts, units_of}
@@ -23,9 +24,16 @@ pub record Planned : Type 0 where
 abbrev pub planned_code : Coded Planned
 planned_code =
     code_by (Tabled × (List ℕ × (ℕ × (List ℤ × ℕ))))
-    (coded× tabled_code (coded× (coded_list coded_ℕ) (coded× coded_ℕ (coded× (coded_list coded_ℤ) coded_ℕ))))
+    (coded× tabled_code
+    (coded× (coded_list coded_ℕ) (coded× coded_ℕ (coded× (coded_list coded_ℤ) coded_ℕ))))
     (λ plan. (plan.version, (plan.stored, (plan.tau, (plan.thresholds, plan.least)))))
-    (λ t. record { version = t.0; stored = t.1.0; tau = t.1.1.0; thresholds = t.1.1.1.0; least = t.1.1.1.1 })
+    (λ t. record {
+      version = t.0;
+      stored = t.1.0;
+      tau = t.1.1.0;
+      thresholds = t.1.1.1.0;
+      least = t.1.1.1.1;
+    })
     (λ _. refl)
 
 -- a plan by its parts
@@ -65,12 +73,14 @@ list_of plan part value = probed_list plan.version part value
 -- whether a part finds a code
 abbrev pub is_found : Planned → ℕ → List ℕ → Bool
 is_found plan part code =
-    nat_lt (part_distance (part_of plan part) code (planned_query plan)) (units_of (threshold_at plan.thresholds part))
+    nat_lt (part_distance (part_of plan part) code (planned_query plan))
+    (units_of (threshold_at plan.thresholds part))
 
 -- the first part that finds a code
 abbrev pub part_found : Planned → List ℕ → ℕ
 part_found plan code =
-    first_part (map units_of plan.thresholds) (part_distances (parts_of plan) code (planned_query plan))
+    first_part (map units_of plan.thresholds)
+    (part_distances (parts_of plan) code (planned_query plan))
 
 -- the hit of a row, if a part keeps it
 abbrev pub kept_hit : Planned → ℕ → ℕ × List ℕ → Option Hit
@@ -80,7 +90,7 @@ kept_hit plan part row =
 
 -- the thresholds are the first of the cheapest vectors, for codes of so many words
 pub record IsPlanned (words : ℕ) (plan : Planned) : Type 0 where
-  pub few_words : words ≤ 8
+  pub few_words : words ≤ WORDS_MOST
   pub version : IsVersion plan.version.contents
   pub tables : HasTables words plan.version
   pub query : IsStored words plan plan.stored

@@ -3,6 +3,8 @@
 use Rattle.std.specs.Prelude.{ℕ, ◌≤◌, List, [], map, take, slice_index_or, refl}
 use Rattle.std.specs.Coded.{Coded, code_by, coded×, coded_list, coded_ℕ}
 use Rattle.hamming_model.specs.Codes.{StandsFor}
+use Rattle.hamming_model.specs.declared.limits.TheConstants.{WORDS_MOST}
+use Rattle.threshold_model.specs.Vectors.{row_counts}
 use Rattle.posting_table.specs.Tables.{posting_list}
 use Rattle.search_model.specs.Reading.{unpadded}
 use Rattle.shard_version.specs.Contents.{IsVersion}
@@ -45,9 +47,14 @@ abbrev pub probed_list : Tabled → ℕ → ℕ → List (ℕ × List ℕ)
 probed_list version part value =
     map (unpadded version.contents.layout.bits) (posting_list (table_at version part) value)
 
+-- how many of a version's rows are nearer to a query at a part than so many units
+abbrev pub counts_round : Tabled → List ℕ → ℕ → ℕ → ℕ
+counts_round version stored =
+    row_counts version.contents.rows (parts_in version) (code_in version stored)
+
 -- a code of so many words on a version whose codes have as many
 pub record IsProbed (words : ℕ) (probe : Probed) : Type 0 where
-  pub few_words : words ≤ 8
+  pub few_words : words ≤ WORDS_MOST
   pub version : IsVersion probe.version.contents
   pub tables : HasTables words probe.version
   pub query : KeepsCode words probe.version probe.stored

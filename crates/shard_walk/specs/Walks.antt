@@ -3,6 +3,7 @@
 use Rattle.std.specs.Prelude.{◌≡◌, ℕ, ◌+◌, ◌^◌, ◌<◌, ◌≤◌, ℤ, List, [], ◌∷◌, ◌++◌, length, take, drop, All}
 use Rattle.std.specs.List.{flat_map}
 use Rattle.hamming_model.specs.declared.hit.Hit.{Hit}
+use Rattle.hamming_model.specs.declared.limits.TheConstants.{PARTS_MOST}
 use Rattle.hamming_model.specs.Layouts.{part_value}
 use Rattle.ball_walk.specs.Balls.{ball}
 use Rattle.threshold_model.specs.Vectors.{units_of}
@@ -11,8 +12,8 @@ use Rattle.search_model.specs.Reading.{parts_read, number_read}
 use Rattle.search_model.specs.Keeping.{hits_of_parts}
 use Rattle.shard_walk.specs.Planned.{Planned, parts_of, part_of, planned_query, list_of}
 
--- the part, the values of its ball that are left, and the posting list of a value: the next place in
--- it, and where it ends
+-- the part, the values of its ball that are left, and the posting list of a value: the next place
+-- in it, and where it ends
 pub record Place : Type 0 where
   pub part : ℕ
   pub ball : List ℕ
@@ -34,7 +35,12 @@ part_begun plan part =
 -- a value of the ball is next, and no posting of it was read
 abbrev pub value_begun : Planned → Place → ℕ → List ℕ → Place
 value_begun plan place value rest =
-    record place { ball = rest; value = value; next = 0; size = length (list_of plan place.part value) }
+    record place {
+      ball = rest;
+      value = value;
+      next = 0;
+      size = length (list_of plan place.part value);
+    }
 
 -- one posting more was read
 abbrev pub after_posting : Place → Place
@@ -77,7 +83,7 @@ values_left plan place =
 
 -- a place at a part of the plan, in the posting list of a value there
 pub record IsWalkPlace (plan : Planned) (place : Place) : Type 0 where
-  pub few_parts : length (parts_of plan) ≤ 64
+  pub few_parts : length (parts_of plan) ≤ PARTS_MOST
   pub thresholds : length plan.thresholds ≡ length (parts_of plan)
   pub part : place.part < length (parts_of plan)
   pub ball : All (λ value. value < 2 ^ length (part_of plan place.part)) place.ball

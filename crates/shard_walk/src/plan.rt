@@ -1,12 +1,13 @@
 //! The plan of a range query on a version.
 
 ghost use Rattle.std.specs.Prelude.{◌≡◌, ℕ, ◌+◌, ◌^◌, ◌<◌, ◌≤◌, List, All, nat_lt};
-ghost use Rattle.std.specs.Prelude.{length, take, slice_index_or, IfOk};
+ghost use Rattle.std.specs.Prelude.{length, slice_index_or, IfOk};
 ghost use Rattle.std.specs.Arc.{arc_value};
-ghost use Rattle.hamming_model.specs.Codes.{StandsFor};
+ghost use Rattle.hamming_model.specs.declared.limits.TheConstants.{WORDS_MOST};
 ghost use Rattle.threshold_model.specs.Vectors.{units_of};
 ghost use Rattle.shard_walk.specs.Planned.{IsPlanned, PlansQuery, IsStored, parts_of, part_of, code_of_plan};
 ghost use Rattle.shard_walk.specs.Planned.{list_of, is_found, part_found, kept_hit};
+ghost use Rattle.shard_walk.specs.Probed.{KeepsCode};
 ghost use Rattle.shard_walk.specs.Walks.{ball_of};
 
 use crate::probe::Probe;
@@ -58,8 +59,8 @@ impl<const W: usize> Plan<W> {
         query: Code<W>,
         tau: u32,
     ) -> Result<Plan<W>, NoMemory>
-        requires few_words { W ≤ 8 }
-        requires query { StandsFor W (arc_value version).contents.layout.bits query (take (arc_value version).contents.layout.bits query) }
+        requires few_words { W ≤ WORDS_MOST }
+        requires query { KeepsCode W (arc_value version) query }
         requires near { tau ≤ (arc_value version).contents.layout.bits }
         ensures { IfOk result (λ plan. PlansQuery (arc_value version.entry) query.entry tau plan) }
     {

@@ -4,11 +4,12 @@ ghost use Rattle.std.specs.Prelude.{◌≡◌, ℕ, ◌+◌, ◌^◌, ◌<◌, �
 ghost use Rattle.std.specs.Prelude.{List, length, slice_index, slice_index_or};
 ghost use Rattle.std.specs.Arc.{arc_value};
 ghost use Rattle.hamming_model.specs.Codes.{distance};
+ghost use Rattle.hamming_model.specs.declared.limits.TheConstants.{PARTS_MOST, WORDS_MOST};
 ghost use Rattle.hamming_model.specs.Layouts.{part_distance, part_value};
 ghost use Rattle.ball_walk.specs.Balls.{ball};
-ghost use Rattle.threshold_model.specs.Vectors.{row_counts, units_of};
+ghost use Rattle.threshold_model.specs.Vectors.{units_of};
 ghost use Rattle.shard_walk.specs.Probed.{KeepsCode, IsProbed, probed_of};
-ghost use Rattle.shard_walk.specs.Probed.{parts_in, part_in, code_in, probed_list};
+ghost use Rattle.shard_walk.specs.Probed.{parts_in, part_in, code_in, counts_round, probed_list};
 
 use crate::part_masks::masks_of;
 use crate::part_values::values_of;
@@ -58,7 +59,7 @@ impl<const W: usize> Probe<W> {
         version: Arc<Version<W>>,
         query: Code<W>,
     ) -> Result<Probe<W>, NoMemory>
-        requires few_words { W ≤ 8 }
+        requires few_words { W ≤ WORDS_MOST }
         requires query { KeepsCode W (arc_value version) query }
         ensures { IfOk result (λ probe. probe ≡ probed_of (arc_value version.entry) query.entry) }
     {
@@ -75,7 +76,7 @@ impl<const W: usize> Probe<W> {
     /// The number of parts.
     pub(crate) fn parts(&self) -> usize
         ensures parts { result ≡ length (parts_in self.now.version) }
-        ensures few { result ≤ 64 }
+        ensures few { result ≤ PARTS_MOST }
         ensures probed { IsProbed W self.now }
     {
         self.values.len()
@@ -91,10 +92,8 @@ impl<const W: usize> Probe<W> {
     /// How many rows are nearer to the query at a part than each number of units.
     pub(crate) fn levels(&self, part: usize, out: &mut [u32])
         requires { part < length (parts_in self.now.version) }
-        ensures { let version = self.now.version in
-            (units : ℕ) → units < length out.old → slice_index out.new units
-            ≡ row_counts version.contents.rows (parts_in version)
-            (code_in version self.now.stored) part units }
+        ensures { (units : ℕ) → units < length out.old →
+            slice_index out.new units ≡ counts_round self.now.version self.now.stored part units }
     {
         counts_are_of_the_rows();
         changes_follow_a_list();
@@ -110,7 +109,8 @@ impl<const W: usize> Probe<W> {
         ensures values { let positions = part_in self.now.version part in
             result ≡ ball (part_value (code_in self.now.version self.now.stored) positions)
             (length positions) (units_of radius) }
-        ensures in_width { All (λ value. value < 2 ^ length (part_in self.now.version part)) result }
+        ensures in_width { All (λ value.
+            value < 2 ^ length (part_in self.now.version part)) result }
     {
         let width = self.version.layout().width(part as u32);
         Ball::new(self.values[part], width, radius)

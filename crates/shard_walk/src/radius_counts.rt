@@ -1,9 +1,9 @@
 //! The counts of a version's rows round a query.
 
 ghost use Rattle.std.specs.Prelude.{◌≡◌, ◌+◌, ◌≤◌, length, IfOk, pos, negsuc, ◌≤ℤ◌};
-ghost use Rattle.threshold_model.specs.Vectors.{row_counts, units_of};
+ghost use Rattle.threshold_model.specs.Vectors.{units_of};
 ghost use Rattle.shard_walk.specs.Counted.{HasCounts, IsTable};
-ghost use Rattle.shard_walk.specs.Probed.{parts_in, code_in};
+ghost use Rattle.shard_walk.specs.Probed.{counts_round, parts_in};
 
 use crate::probe::Probe;
 use read_meter::NoMemory;
@@ -35,10 +35,9 @@ impl RadiusCounts {
         requires near { tau ≤ 512 }
         ensures tau { IfOk result (λ table. table.tau ≡ tau) }
         ensures parts { IfOk result (λ table. table.parts ≡ length (parts_in probe.now.version)) }
-        ensures counts { IfOk result (λ table. let version = probe.now.version in
-            HasCounts table.counts.items tau (length (parts_in version))
-            (row_counts version.contents.rows (parts_in version)
-            (code_in version probe.now.stored))) }
+        ensures counts { IfOk result (λ table. HasCounts table.counts.items tau
+            (length (parts_in probe.now.version))
+            (counts_round probe.now.version probe.now.stored)) }
     {
         counts_of_rows_are_lawful();
         let parts = probe.parts();

@@ -15,7 +15,8 @@ same_begin bits (suc p) (suc n) [] le = refl
 same_begin bits (suc p) (suc n) (entry ∷ history) le =
     ap (λ (each : List JournalEntry). cut_entry bits entry ∷ each) (same_begin bits p n history (omega arith))
 
-same_more : (bits p : ℕ) (history more : List JournalEntry) → p ≤ length history → take p (cut_history bits (history ++ more)) ≡ take p (cut_history bits history)
+same_more : (bits p : ℕ) (history more : List JournalEntry) → p ≤ length history
+    → take p (cut_history bits (history ++ more)) ≡ take p (cut_history bits history)
 same_more bits zero history more le = refl
 same_more bits (suc p) [] more le = absurd (omega arith)
 same_more bits (suc p) (entry ∷ history) more le =
@@ -45,7 +46,8 @@ module _ (from : Contents) where
   version_follows history p le = record { is = sym (ap (version_at history from) (position_is history p le)) }
 
 -- a version follows a longer history
-pub follows_longer : (history more : List JournalEntry) (version : Contents) → version.at ≤ length history → Follows history version → Follows (history ++ more) version
+pub follows_longer : (history more : List JournalEntry) (version : Contents) → version.at ≤ length history → Follows history version
+    → Follows (history ++ more) version
 follows_longer history more version le follows = record { is = follows.is ∙ sym (version_more version history more version.at le) }
 
 relaid : (version : Contents) (layout : Laid) (at : ℕ) (rows : List (ℕ × List ℕ)) → version.at ≡ at → version.rows ≡ rows

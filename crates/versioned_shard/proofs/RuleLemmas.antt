@@ -32,11 +32,15 @@ all_stay P older (version ∷ versions) all = go (has_position older version.at)
     go true rest = (all.0, rest)
     go false rest = rest
 
-all_made : (P : Contents → Type 0) (history : List JournalEntry) (from : Contents) (older : List ℕ) → AllByRecursion (λ position. P (version_at history from position)) older → AllByRecursion P (made history from older)
+all_made : (P : Contents → Type 0) (history : List JournalEntry) (from : Contents) (older : List ℕ)
+    → AllByRecursion (λ position. P (version_at history from position)) older → AllByRecursion P (made history from older)
 all_made P history from [] all = tt
 all_made P history from (position ∷ older) all = go (nat_le from.at position) (all_made P history from older all.1)
   where
-    go : (b : Bool) → AllByRecursion P (made history from older) → AllByRecursion P (map (version_at history from) (cond b (position ∷ filter (λ each. nat_le from.at each) older) (filter (λ each. nat_le from.at each) older)))
+    go : (b : Bool) → AllByRecursion P (made history from older)
+        → AllByRecursion P
+        (map (version_at history from)
+        (cond b (position ∷ filter (λ each. nat_le from.at each) older) (filter (λ each. nat_le from.at each) older)))
     go true rest = (all.0, rest)
     go false rest = rest
 
@@ -52,11 +56,13 @@ or_second : (a b : Bool) → b ≡ true → (a || b) ≡ true
 or_second true b h = refl
 or_second false b h = h
 
-has_stays : (older : List ℕ) (versions : List Contents) (position : ℕ) → has_position older position ≡ true → has_version versions position ≡ true → has_version (staying older versions) position ≡ true
+has_stays : (older : List ℕ) (versions : List Contents) (position : ℕ) → has_position older position ≡ true
+    → has_version versions position ≡ true → has_version (staying older versions) position ≡ true
 has_stays older [] position listed has = cc
 has_stays older (version ∷ versions) position listed has = go (version.at == position) refl has (has_stays older versions position listed)
   where
-    go : (b : Bool) → (version.at == position) ≡ b → (b || has_version versions position) ≡ true → (has_version versions position ≡ true → has_version (staying older versions) position ≡ true)
+    go : (b : Bool) → (version.at == position) ≡ b → (b || has_version versions position) ≡ true
+        → (has_version versions position ≡ true → has_version (staying older versions) position ≡ true)
         → has_version (cond (has_position older version.at) (version ∷ staying older versions) (staying older versions)) position ≡ true
     go true e h rest =
         let stands : has_position older version.at ≡ true = ap (has_position older) (eqb-true version.at position e) ∙ listed in
@@ -64,26 +70,42 @@ has_stays older (version ∷ versions) position listed has = go (version.at == p
         ∙ or_first (version.at == position) (has_version (staying older versions) position) e
     go false e h rest = keep (has_position older version.at) (rest h)
       where
-        keep : (b : Bool) → has_version (staying older versions) position ≡ true → has_version (cond b (version ∷ staying older versions) (staying older versions)) position ≡ true
+        keep : (b : Bool) → has_version (staying older versions) position ≡ true
+            → has_version (cond b (version ∷ staying older versions) (staying older versions)) position ≡ true
         keep true later = or_second (version.at == position) (has_version (staying older versions) position) later
         keep false later = later
 
-has_made : (history : List JournalEntry) (from : Contents) (older : List ℕ) (position : ℕ) → position ≤ length history → from.at ≤ position → has_position older position ≡ true
+has_made : (history : List JournalEntry) (from : Contents) (older : List ℕ) (position : ℕ) → position ≤ length history
+    → from.at ≤ position → has_position older position ≡ true
     → has_version (made history from older) position ≡ true
 has_made history from [] position within le listed = cc
 has_made history from (first ∷ older) position within le listed = go (first == position) refl listed (has_made history from older position within le)
   where
-    go : (b : Bool) → (first == position) ≡ b → (b || has_position older position) ≡ true → (has_position older position ≡ true → has_version (made history from older) position ≡ true)
-        → has_version (map (version_at history from) (cond (nat_le from.at first) (first ∷ filter (λ each. nat_le from.at each) older) (filter (λ each. nat_le from.at each) older))) position ≡ true
+    go : (b : Bool) → (first == position) ≡ b → (b || has_position older position) ≡ true
+        → (has_position older position ≡ true → has_version (made history from older) position ≡ true)
+        → has_version
+        (map (version_at history from)
+        (cond (nat_le from.at first) (first ∷ filter (λ each. nat_le from.at each) older)
+        (filter (λ each. nat_le from.at each) older))) position ≡ true
     go true e h rest =
         let same : first ≡ position = eqb-true first position e in
         let test : nat_le from.at first ≡ true = le-leb from.at first (omega arith) in
         let at : (version_at history from first).at ≡ position = position_is from history first (omega arith) ∙ same in
-        ap (λ (b : Bool). has_version (map (version_at history from) (cond b (first ∷ filter (λ each. nat_le from.at each) older) (filter (λ each. nat_le from.at each) older))) position) test
-        ∙ or_first ((version_at history from first).at == position) (has_version (made history from older) position) (eq-eqb (version_at history from first).at position at)
+        ap
+        (λ (b : Bool).
+        has_version
+        (map (version_at history from)
+        (cond b (first ∷ filter (λ each. nat_le from.at each) older) (filter (λ each. nat_le from.at each) older)))
+        position) test
+        ∙ or_first ((version_at history from first).at == position) (has_version (made history from older) position)
+        (eq-eqb (version_at history from first).at position at)
     go false e h rest = keep (nat_le from.at first) (rest h)
       where
-        keep : (b : Bool) → has_version (made history from older) position ≡ true → has_version (map (version_at history from) (cond b (first ∷ filter (λ each. nat_le from.at each) older) (filter (λ each. nat_le from.at each) older))) position ≡ true
+        keep : (b : Bool) → has_version (made history from older) position ≡ true
+            → has_version
+            (map (version_at history from)
+            (cond b (first ∷ filter (λ each. nat_le from.at each) older) (filter (λ each. nat_le from.at each) older))) position
+            ≡ true
         keep true later = or_second ((version_at history from first).at == position) (has_version (made history from older) position) later
         keep false later = later
 
@@ -91,7 +113,8 @@ has_joined : (xs ys : List Contents) (position : ℕ) → (has_version xs positi
 has_joined xs ys position h = list_any-append (λ version. version.at == position) xs ys ∙ h
 
 -- ---- a shard that comes to a front
-module _ (live : ℕ → Option ℕ) (history : List JournalEntry) (shard : ShardState) (front : FrontState) (rule : KeepsRule live history shard) (known : IsKnown live history front) where
+module _ (live : ℕ → Option ℕ) (history : List JournalEntry) (shard : ShardState) (front : FrontState)
+    (rule : KeepsRule live history shard) (known : IsKnown live history front) where
   abbrev from : Contents
   from = shard.current
 
@@ -122,7 +145,8 @@ module _ (live : ℕ → Option ℕ) (history : List JournalEntry) (shard : Shar
   -- and so is what is made below it
   made_kept : (position : ℕ) → position < position_of front → IsKeptVersion history reached (version_at front.entries from position)
   made_kept position lt = record {
-    follows = subst (Follows history) (sym (begins from position (omega (arith, lt)))) (version_follows from history position (omega (arith, lt, known.within)));
+    follows = subst (Follows history) (sym (begins from position (omega (arith, lt))))
+        (version_follows from history position (omega (arith, lt, known.within)));
     below = omega (arith, lt, reached_at, position_is from front.entries position (omega (arith, lt)));
     laid = rule.laid;
     shard_is = refl;
@@ -146,11 +170,14 @@ module _ (live : ℕ → Option ℕ) (history : List JournalEntry) (shard : Shar
           let lt = ltb-true position (position_of front) e in
           let listed = known.older position stands lt in
           inr (has_joined stay new position (⊎_elim
-          (λ (le : from.at ≤ position). or_second (has_version stay position) (has_version new position) (has_made front.entries from front.older position (omega (arith, lt)) le listed))
-          (λ (has : has_version shard.kept position ≡ true). or_first (has_version stay position) (has_version new position) (has_stays front.older shard.kept position listed has))
+          (λ (le : from.at ≤ position). or_second (has_version stay position) (has_version new position)
+          (has_made front.entries from front.older position (omega (arith, lt)) le listed))
+          (λ (has : has_version shard.kept position ≡ true). or_first (has_version stay position) (has_version new position)
+          (has_stays front.older shard.kept position listed has))
           (rule.fronts position stands)))
 
-  goes_further : from.at < position_of front → AllByRecursion (λ position. position < position_of front) front.older → KeepsRule live history (further front shard)
+  goes_further : from.at < position_of front → AllByRecursion (λ position. position < position_of front) front.older
+      → KeepsRule live history (further front shard)
   goes_further behind below = record {
     within = omega (arith, reached_at, known.within);
     current = subst (Follows history) (sym (begins from (position_of front) (omega arith))) (version_follows from history (position_of front) known.within);
@@ -160,7 +187,8 @@ module _ (live : ℕ → Option ℕ) (history : List JournalEntry) (shard : Shar
         (all_stay (IsKeptVersion history reached) front.older shard.kept
         (all_weaker (IsKeptVersion history from) (IsKeptVersion history reached) shard.kept (still_kept behind) rule.kept))
         (all_made (IsKeptVersion history reached) front.entries from front.older
-        (all_numbers (λ position. position < position_of front) (λ position. IsKeptVersion history reached (version_at front.entries from position)) front.older made_kept below));
+        (all_numbers (λ position. position < position_of front)
+        (λ position. IsKeptVersion history reached (version_at front.entries from position)) front.older made_kept below));
     fronts = found behind;
   }
 
@@ -173,7 +201,8 @@ module _ (live : ℕ → Option ℕ) (history : List JournalEntry) (shard : Shar
       go false e = rule
 
 -- a live front finds its version
-pub has_there : (live : ℕ → Option ℕ) (history : List JournalEntry) (shard : ShardState) (front : FrontState) → KeepsRule live history shard → StandsAt live (position_of front)
+pub has_there : (live : ℕ → Option ℕ) (history : List JournalEntry) (shard : ShardState) (front : FrontState)
+    → KeepsRule live history shard → StandsAt live (position_of front)
     → HasVersion (advanced front shard) (position_of front)
 has_there live history shard front rule stands = go (nat_lt shard.current.at (position_of front)) refl
   where
@@ -187,7 +216,8 @@ kept_among : (P : Contents → Type 0) (versions : List Contents) (version : Con
 kept_among P [] version all among = absurd (omega (arith, among.1.0))
 kept_among P (first ∷ rest) version all among = go (λ i below is. kept_among P rest version all.1 (i, (below, is))) among.0 among.1.0 among.1.1
   where
-    go : ((i : ℕ) → i < length rest → version ≡ get_or rest i version → P version) → (i : ℕ) → i < length (first ∷ rest) → version ≡ get_or (first ∷ rest) i version → P version
+    go : ((i : ℕ) → i < length rest → version ≡ get_or rest i version → P version) → (i : ℕ) → i < length (first ∷ rest)
+        → version ≡ get_or (first ∷ rest) i version → P version
     go later zero below is = subst P (sym is) all.0
     go later (suc i) below is = later i (omega (arith, below)) is
 
@@ -202,7 +232,8 @@ given_is live history shard position version rule one =
         (λ (among : IsAmong shard.kept version). (kept_among (IsKeptVersion history shard.current) shard.kept version rule.kept among).follows) one.among
 
 -- ---- a rebuild
-pub rule_swapped : (live : ℕ → Option ℕ) (history : List JournalEntry) (shard : ShardState) (version : Contents) → KeepsRule live history shard → IsLaid version.layout
+pub rule_swapped : (live : ℕ → Option ℕ) (history : List JournalEntry) (shard : ShardState) (version : Contents)
+    → KeepsRule live history shard → IsLaid version.layout
     → MayStandIn shard version → version.at ≡ shard.current.at → KeepsRule live history (with_layout shard version.layout)
 rule_swapped live history shard version rule laid may same = record {
   within = rule.within;
@@ -232,7 +263,8 @@ rule_begins live history shard shards layout laid = record {
 }
 
 -- ---- histories and fronts
-pub rule_longer : (live : ℕ → Option ℕ) (history more : List JournalEntry) (shard : ShardState) → KeepsRule live history shard → KeepsRule live (history ++ more) shard
+pub rule_longer : (live : ℕ → Option ℕ) (history more : List JournalEntry) (shard : ShardState) → KeepsRule live history shard
+    → KeepsRule live (history ++ more) shard
 rule_longer live history more shard rule = record {
   within = omega (arith, length-append history more, rule.within);
   current = follows_longer history more shard.current rule.within rule.current;
@@ -256,10 +288,12 @@ rule_fronts old new history shard came rule = record {
   current = rule.current;
   laid = rule.laid;
   kept = rule.kept;
-  fronts = λ position stands. ⊎_elim (rule.fronts position) (λ (high : length history ≤ position). inl (omega (arith, high, rule.within))) (came position stands);
+  fronts = λ position stands. ⊎_elim (rule.fronts position)
+      (λ (high : length history ≤ position). inl (omega (arith, high, rule.within))) (came position stands);
 }
 
-pub rule_decided : (live : ℕ → Option ℕ) (history : List JournalEntry) (entry : JournalEntry) (shard : ShardState) (accepted : Bool) → KeepsRule live history shard
+pub rule_decided : (live : ℕ → Option ℕ) (history : List JournalEntry) (entry : JournalEntry) (shard : ShardState) (accepted : Bool)
+    → KeepsRule live history shard
     → KeepsRule live (cond accepted (history ++ entry ∷ []) history) shard
 rule_decided live history entry shard true rule = rule_longer live history (entry ∷ []) shard rule
 rule_decided live history entry shard false rule = rule

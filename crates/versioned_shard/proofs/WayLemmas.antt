@@ -102,7 +102,8 @@ module _ {W : ℕ} (history : List JournalEntry) (from : Contents) (i : ℕ) (en
 -- ---- from a version on the way on
 module _ (history : List JournalEntry) (from : Contents) where
   -- the way is the same
-  on_the_way : (middle last : Contents) (n position : ℕ) → Reaches history from n middle → Reaches history middle position last → Reaches history from position last
+  on_the_way : (middle last : Contents) (n position : ℕ) → Reaches history from n middle → Reaches history middle position last
+      → Reaches history from position last
   on_the_way middle last n position first second = record {
     is = second.is ∙ ap (λ (each : Contents). version_at history each position) first.is;
     at = second.at;
@@ -176,7 +177,8 @@ module _ (front : FrontState) (from : Contents) (old : List (Arc Tabled Global))
     ahead = (subst (AllByRecursion (λ each. from.at ≤ each → version.at ≤ each)) tail so_far.next).0
 
     pub in_front : position < position_of front
-    in_front = subst (λ (each : ℕ). each < position_of front) (sym is) (all_at (λ each. each < position_of front) front.older index position front_is.below below)
+    in_front = subst (λ (each : ℕ). each < position_of front) (sym is)
+        (all_at (λ each. each < position_of front) front.older index position front_is.below below)
 
     -- what is made up to the position is what was made, and what is made there
     made_split : made front.entries from (take (index + 1) front.older) ≡ passed ++ made front.entries from (position ∷ [])
@@ -194,21 +196,24 @@ module _ (front : FrontState) (from : Contents) (old : List (Arc Tabled Global))
         }
 
     -- a position from it on
-    pub made_more : (after : List (Arc Tabled Global)) (shared : Arc Tabled Global) (last : Contents) → from.at ≤ position → Reaches front.entries version position last
+    pub made_more : (after : List (Arc Tabled Global)) (shared : Arc Tabled Global) (last : Contents) → from.at ≤ position
+        → Reaches front.entries version position last
         → contents_at shared ≡ last → after ≡ new ++ shared ∷ [] → MadeSoFar front from old after last (index + 1)
     made_more after shared last le reached same put =
         let whole = on_the_way front.entries from version last version.at position so_far.reaches reached in
         let at : last.at ≡ position = whole.at in
         let e : suc index ≡ index + 1 = omega arith in
         let above_there : AllByRecursion (λ each. get_or front.older index position < each) (drop (index + 1) front.older) =
-        subst (λ (n : ℕ). AllByRecursion (λ each. get_or front.older index position < each) (drop n front.older)) e (above_place front.older index position front_is.ascending below) in
+        subst (λ (n : ℕ). AllByRecursion (λ each. get_or front.older index position < each) (drop n front.older)) e
+        (above_place front.older index position front_is.ascending below) in
         let above : AllByRecursion (λ each. position < each) (drop (index + 1) front.older) =
         subst (λ (n : ℕ). AllByRecursion (λ each. n < each) (drop (index + 1) front.older)) (sym is) above_there in
         let here = made_split ∙ ap (λ (each : List Contents). passed ++ each) (made_here front.entries from position le) in
         let new_is = ap (map contents_at) put ∙ map-append contents_at new (shared ∷ []) in
         record {
           reaches = record { is = whole.is ∙ sym (ap (version_at front.entries from) at); at = refl };
-          next = all_weaker (λ each. position < each) (λ each. from.at ≤ each → last.at ≤ each) (drop (index + 1) front.older) (λ each lt low. omega (arith, at, lt)) above;
+          next = all_weaker (λ each. position < each) (λ each. from.at ≤ each → last.at ≤ each) (drop (index + 1) front.older)
+              (λ each lt low. omega (arith, at, lt)) above;
           within = omega (arith, at, in_front);
           are_made =
               new_is ∙ ap (λ (each : List Contents). each ++ contents_at shared ∷ []) so_far.are_made
@@ -229,7 +234,8 @@ module _ (versions : List (Arc Tabled Global)) (i : ℕ) (own : Arc Tabled Globa
 
   pub stay_more : (older : List ℕ) (stay : List (Arc Tabled Global)) → map contents_at stay ≡ staying older (take i (map contents_at versions))
       → (after : List (Arc Tabled Global)) (keep : Bool) → has_position older (contents_at own).at ≡ keep
-      → map contents_at after ≡ map contents_at stay ++ cond keep (contents_at own ∷ []) [] → map contents_at after ≡ staying older (take (i + 1) (map contents_at versions))
+      → map contents_at after ≡ map contents_at stay ++ cond keep (contents_at own ∷ []) []
+      → map contents_at after ≡ staying older (take (i + 1) (map contents_at versions))
   stay_more older stay before after keep test put =
       put ∙ ap (λ (each : List Contents). each ++ cond keep (contents_at own ∷ []) []) before
       ∙ sym (ap (staying older) one_more ∙ filter-append (λ version. has_position older version.at) (take i (map contents_at versions)) (contents_at own ∷ [])
@@ -240,7 +246,8 @@ module _ (versions : List (Arc Tabled Global)) (i : ℕ) (own : Arc Tabled Globa
   none_more position apart before =
       ap (λ (each : List Contents). has_version each position) one_more
       ∙ list_any-append (λ version. version.at == position) (take i (map contents_at versions)) (contents_at own ∷ [])
-      ∙ or_none (has_version (take i (map contents_at versions)) position) ((contents_at own).at == position) before (ne_eqb (contents_at own).at position apart)
+      ∙ or_none (has_version (take i (map contents_at versions)) position) ((contents_at own).at == position) before
+      (ne_eqb (contents_at own).at position apart)
     where
       or_none : (a b : Bool) → a ≡ false → b ≡ false → (a || (b || false)) ≡ false
       or_none a b p q = rw (p, q) refl

@@ -7,7 +7,8 @@ use Rattle.shard_version.specs.Prefixes.{prefix_of}
 
 -- the version of the first so many entries, in the shard and the layout of a version
 abbrev pub version_at : List JournalEntry → Contents → ℕ → Contents
-version_at history from position = prefix_of from.shard from.shards from.layout (take position (cut_history from.layout.bits history))
+version_at history from position = prefix_of from.shard from.shards from.layout
+    (take position (cut_history from.layout.bits history))
 
 -- a version has taken in the first entries of a history, and has its shard's rows of them
 pub record Follows (history : List JournalEntry) (version : Contents) : Type 0 where

@@ -9,7 +9,8 @@ use Rattle.commit_journal.specs.Journals.{JournalState}
 use Rattle.versioned_shard.specs.Along.{Follows}
 use Rattle.versioned_shard.specs.Shards.{ShardState, has_version}
 
--- a kept version stands below the current one, with its shard's rows of its own position, in a layout of the same bits
+-- a kept version stands below the current one, with its shard's rows of its own position,
+-- in a layout of the same bits
 pub record IsKeptVersion (history : List JournalEntry) (current version : Contents) : Type 0 where
   pub follows : Follows history version
   pub below : version.at < current.at
@@ -18,14 +19,17 @@ pub record IsKeptVersion (history : List JournalEntry) (current version : Conten
   pub shards_is : version.shards ≡ current.shards
   pub bits_are : version.layout.bits ≡ current.layout.bits
 
--- the current version isn't beyond the history and has the rows of its position; each kept one has those of its own; and for each
--- live front the shard isn't beyond its position or keeps a version there
-pub record KeepsRule (live : ℕ → Option ℕ) (history : List JournalEntry) (shard : ShardState) : Type 0 where
+-- the current version isn't beyond the history and has the rows of its position; each kept one
+-- has those of its own; and for each live front the shard isn't beyond its position or keeps a
+-- version there
+pub record KeepsRule (live : ℕ → Option ℕ) (history : List JournalEntry)
+    (shard : ShardState) : Type 0 where
   pub within : shard.current.at ≤ length history
   pub current : Follows history shard.current
   pub laid : IsLaid shard.current.layout
   pub kept : AllByRecursion (IsKeptVersion history shard.current) shard.kept
-  pub fronts : (position : ℕ) → StandsAt live position → (shard.current.at ≤ position) ⊎ (has_version shard.kept position ≡ true)
+  pub fronts : (position : ℕ) → StandsAt live position
+      → (shard.current.at ≤ position) ⊎ (has_version shard.kept position ≡ true)
 
 -- the rule along a journal, for its live fronts
 abbrev pub KeepsJournalRule : JournalState → ShardState → Type 0

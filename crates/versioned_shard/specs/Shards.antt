@@ -37,16 +37,19 @@ staying older versions = filter (λ version. has_position older version.at) vers
 
 -- a version at each of these positions that isn't below that of a version
 abbrev pub made : List JournalEntry → Contents → List ℕ → List Contents
-made history from older = map (version_at history from) (filter (λ position. nat_le from.at position) older)
+made history from older =
+    map (version_at history from) (filter (λ position. nat_le from.at position) older)
 
 -- a shard that is behind a front, brought to it
 abbrev pub further : FrontState → ShardState → ShardState
 further front shard =
-    shard_with (version_at front.entries shard.current (position_of front)) (staying front.older shard.kept ++ made front.entries shard.current front.older)
+    shard_with (version_at front.entries shard.current (position_of front))
+    (staying front.older shard.kept ++ made front.entries shard.current front.older)
 
 -- a shard after it advanced to a front: as before where it isn't behind
 abbrev pub advanced : FrontState → ShardState → ShardState
-advanced front shard = if nat_lt shard.current.at (position_of front) then further front shard else shard
+advanced front shard =
+    if nat_lt shard.current.at (position_of front) then further front shard else shard
 
 -- whether a version stands at a position
 abbrev pub has_version : List Contents → ℕ → Bool

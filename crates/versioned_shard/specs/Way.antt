@@ -11,13 +11,17 @@ use Rattle.versioned_shard.specs.Along.{version_at}
 use Rattle.versioned_shard.specs.Shards.{contents_at, made}
 
 -- a version stands at a position, in the shard and layout of another
-pub record Reaches (history : List JournalEntry) (from : Contents) (position : ℕ) (version : Contents) : Type 0 where
+pub record Reaches (history : List JournalEntry) (from : Contents) (position : ℕ)
+    (version : Contents) : Type 0 where
   pub is : version ≡ version_at history from position
   pub at : version.at ≡ position
 
 -- the versions of the first so many positions are made, and the last of them is at hand
-pub record MadeSoFar (front : FrontState) (from : Contents) (old new : List (Arc Tabled Global)) (version : Contents) (index : ℕ) : Type 0 where
+pub record MadeSoFar (front : FrontState) (from : Contents) (old new : List (Arc Tabled Global))
+    (version : Contents) (index : ℕ) : Type 0 where
   pub reaches : Reaches front.entries from version.at version
-  pub next : AllByRecursion (λ position. from.at ≤ position → version.at ≤ position) (drop index front.older)
+  pub next : AllByRecursion (λ position. from.at ≤ position → version.at ≤ position)
+      (drop index front.older)
   pub within : version.at ≤ position_of front
-  pub are_made : map contents_at new ≡ map contents_at old ++ made front.entries from (take index front.older)
+  pub are_made : map contents_at new ≡ map contents_at old ++ made front.entries from
+      (take index front.older)

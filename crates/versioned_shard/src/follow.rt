@@ -28,7 +28,8 @@ pub fn reached<const W: usize, M>(
     requires below { position ≤ position_of front.now }
     requires follows { Follows front.now.entries (contents_at version.now) }
     requires codes { AreStoredEntries W (contents_at version.now).layout.bits front.now.entries }
-    ensures reaches { IfOk result (λ reached. Reaches front.now.entries (contents_at version.now) position (contents_at reached)) }
+    ensures reaches { IfOk result (λ reached.
+        Reaches front.now.entries (contents_at version.now) position (contents_at reached)) }
     ensures steps { OnOk result (steps.new + (contents_at version.now).at ≡ steps.old + position) }
     ensures bound { steps.new + (contents_at version.now).at ≤ steps.old + position }
 {
@@ -43,8 +44,8 @@ pub fn reached<const W: usize, M>(
     }
     let _few = front.position();
     let mut next = version.copy()?;
-    for i in at..position {
-        let entry = front.entry(i, steps);
+    for place in at..position {
+        let entry = front.entry(place, steps);
         next = next.apply(entry)?;
     }
     let Ok(shared) = Arc::new(alloc, next) else {
@@ -66,9 +67,12 @@ pub fn follow<const W: usize, M>(
     requires behind { (contents_at current.now).at ≤ position_of front.now }
     requires follows { Follows front.now.entries (contents_at current.now) }
     requires codes { AreStoredEntries W (contents_at current.now).layout.bits front.now.entries }
-    ensures reaches { IfOk result (λ last. Reaches front.now.entries (contents_at current.now) (position_of front.now) (contents_at last)) }
-    ensures made { OnOk result (map contents_at kept.new.items ≡ map contents_at kept.old.items ++ made front.now.entries (contents_at current.now) front.now.older) }
-    ensures steps { OnOk result (steps.new + (contents_at current.now).at ≡ steps.old + position_of front.now) }
+    ensures reaches { IfOk result (λ last. Reaches front.now.entries (contents_at current.now)
+        (position_of front.now) (contents_at last)) }
+    ensures made { OnOk result (map contents_at kept.new.items ≡ map contents_at kept.old.items
+        ++ made front.now.entries (contents_at current.now) front.now.older) }
+    ensures steps { OnOk result
+        (steps.new + (contents_at current.now).at ≡ steps.old + position_of front.now) }
     ensures bound { steps.new + (contents_at current.now).at ≤ steps.old + position_of front.now }
 {
     let at = current.at();
@@ -98,7 +102,8 @@ pub fn staying<const W: usize>(
     older: &[u64],
 ) -> Result<Vec<Arc<Version<W>>>, NoMemory>
     requires { W ≤ WORDS_MOST }
-    ensures { IfOk result (λ stay. map contents_at stay.items ≡ staying older.now (map contents_at kept.now)) }
+    ensures { IfOk result (λ stay.
+        map contents_at stay.items ≡ staying older.now (map contents_at kept.now)) }
 {
     let mut stay = Vec::new(alloc);
     for version in kept {

@@ -76,11 +76,13 @@ impl<const W: usize> Shard<W> {
     ///
     /// `NoMemory` where there is none for the versions; the shard is as before, and the steps stay.
     pub fn advance<M>(&mut self, front: &Front<W>, steps: &mut Steps<M>) -> Result<(), NoMemory>
-        requires follows { self.old.current.at < position_of front.now → Follows front.now.entries self.old.current }
+        requires follows { self.old.current.at < position_of front.now →
+            Follows front.now.entries self.old.current }
         requires codes { AreStoredEntries W self.old.current.layout.bits front.now.entries }
         ensures advanced { OnOk result (self.new ≡ advanced front.now self.old) }
         ensures unchanged { OnErr result (self.new ≡ self.old) }
-        ensures steps { OnOk result (steps.new ≡ steps.old + (position_of front.now - self.old.current.at)) }
+        ensures steps { OnOk result
+            (steps.new ≡ steps.old + (position_of front.now - self.old.current.at)) }
         ensures bound { steps.new ≤ steps.old + (position_of front.now - self.old.current.at) }
     {
         let position = front.position();
@@ -101,7 +103,8 @@ impl<const W: usize> Shard<W> {
     /// `NoMemory` where the version can't be shared once more.
     pub fn version_for(&self, front: &Front<W>) -> Result<Arc<Version<W>>, NoMemory>
         requires { HasVersion self.now (position_of front.now) }
-        ensures { IfOk result (λ version. IsOneOf self.now (position_of front.now) (contents_at version)) }
+        ensures { IfOk result (λ version.
+            IsOneOf self.now (position_of front.now) (contents_at version)) }
     {
         let position = front.position();
         if self.current.at() == position {
@@ -129,9 +132,11 @@ impl<const W: usize> Shard<W> {
     pub fn swap(&mut self, prepared: Prepared<W>) -> Result<(), Moved<W>>
         requires { MayStandIn self.old (contents_at prepared.version) }
         // The positions are one.
-        ensures swapped { OnOk result (self.new ≡ with_layout self.old (contents_at prepared.entry.version).layout) }
+        ensures swapped { OnOk result
+            (self.new ≡ with_layout self.old (contents_at prepared.entry.version).layout) }
         // They differ.
-        ensures moved { IsErr result ↔ ((contents_at prepared.entry.version).at ≢ self.old.current.at) }
+        ensures moved { IsErr result
+            ↔ ((contents_at prepared.entry.version).at ≢ self.old.current.at) }
         ensures at { IfErr result (λ moved. moved.shard_at ≡ self.old.current.at) }
         ensures back { IfErr result (λ moved. moved.prepared ≡ prepared.entry) }
         ensures unchanged { OnErr result (self.new ≡ self.old) }

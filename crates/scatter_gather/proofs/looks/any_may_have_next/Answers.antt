@@ -32,10 +32,9 @@ loop-shard-preserved g c =
 
 pub returns : goal.returns
 returns g c =
-    let as_seen = source_of g.H.HitSource.asked g.H.HitSource.standing in
     let least = c.least_floor-least.ensures in
-    let all = take_all c.loop-shard.shard (map as_seen c.args.sources.now)
-    (omega (arith, c.loop-shard-test.false, length-map c.args.sources.now as_seen)) in
-    let e : list_any (may_have_next c.least_floor-least.result) (map as_seen c.args.sources.now) ≡ false =
+    let all = take_all c.loop-shard.shard (map (source_of g.H.HitSource.asked g.H.HitSource.standing) c.args.sources.now)
+    (omega (arith, c.loop-shard-test.false, length-map c.args.sources.now (source_of g.H.HitSource.asked g.H.HitSource.standing))) in
+    let e : list_any (may_have_next c.least_floor-least.result) (map (source_of g.H.HitSource.asked g.H.HitSource.standing) c.args.sources.now) ≡ false =
     ap (list_any (may_have_next c.least_floor-least.result)) (sym all) ∙ c.loop-shard.invariant in
     rw (← least) (sym e)

@@ -14,19 +14,19 @@ use Rattle.scatter_gather.proofs.looks.ready_head.Goals as goal
 
 pub loop-shard-preserved : goal.loop-shard-preserved
 loop-shard-preserved g c =
-    let as_seen = source_of g.H.HitSource.asked g.H.HitSource.standing in
     let hs = c.args.sources.now in
+    let see = source_of g.H.HitSource.asked g.H.HitSource.standing in
     let shard = c.loop-shard.shard in
-    let at = read_seen as_seen hs hs shard c.index-sources-shard.result refl (omega (arith, c.loop-shard-test.true))
+    let at = read_seen see hs hs shard c.index-sources-shard.result refl (omega (arith, c.loop-shard-test.true))
     c.index-sources-shard.is in
     let again = c.index-sources-shard-in-loop-shard in
-    let also = read_seen as_seen hs hs shard again.result refl (omega (arith, c.loop-shard-test.true)) again.is in (
+    let also = read_seen see hs hs shard again.result refl (omega (arith, c.loop-shard-test.true)) again.is in (
       rw c.better-best.ensures
-          (best_step (map as_seen hs) shard (as_seen c.index-sources-shard.result)
+          (best_step (map see hs) shard (see c.index-sources-shard.result)
           _ c.loop-shard.best at.0 at.1 c.head.ensures.head c.loop-shard.invariant.0),
       rw (c.lower_floor-floor.ensures, c.empty_floor.ensures)
-          (least_step empty_floor c.loop-shard.floor (map as_seen hs) shard
-          (as_seen again.result) _ also.0 also.1 c.loop-shard.invariant.1),
+          (least_step empty_floor c.loop-shard.floor (map see hs) shard
+          (see again.result) _ also.0 also.1 c.loop-shard.invariant.1),
     )
 
 pub returns-then-has_to_wait : goal.returns-then-has_to_wait

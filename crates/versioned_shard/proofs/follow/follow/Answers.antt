@@ -13,7 +13,8 @@ loop-older-init g c =
     let is = ap (λ (one : Tabled). one.contents) c.in-Ok.ensures.cases in
     let at = ap (λ (one : Tabled). one.contents.at) c.in-Ok.ensures.cases in
     let there = c.at-at.ensures.at ∙ ap (λ (one : Tabled). one.contents.at) c.deref.ensures in (
-      made_first c.args.front.now (contents_at c.args.current.now) c.args.kept.now.items c.args.kept.now.items (contents_at c.in-Ok.version) refl is c.requires.follows c.requires.behind,
+      made_first c.args.front.now (contents_at c.args.current.now) c.args.kept.now.items c.args.kept.now.items
+          (contents_at c.in-Ok.version) refl is c.requires.follows c.requires.behind,
       omega arith,
     )
 
@@ -31,8 +32,10 @@ loop-older-preserved g c =
     elim c.if-at-older.branch [
       | then-at-older+in_ok-next+in-Ok-clone+in-Ok-push w ↦
           let le : from.at ≤ position = omega (arith, w.if-at-older.true, there) in
-          let reached = subst (λ (one : Arc Tabled Global). Reaches front.entries (contents_at c.loop-older.version) position (contents_at one)) (sym w.version-is) w.in_ok-next.ensures.reaches in (
-            made_more front from c.args.kept.now.items c.position-position.ensures.front c.loop-older.kept.items (contents_at c.loop-older.version) index position below is c.loop-older.invariant.0
+          let reached = subst (λ (one : Arc Tabled Global). Reaches front.entries (contents_at c.loop-older.version) position
+          (contents_at one)) (sym w.version-is) w.in_ok-next.ensures.reaches in (
+            made_more front from c.args.kept.now.items c.position-position.ensures.front c.loop-older.kept.items
+                (contents_at c.loop-older.version) index position below is c.loop-older.invariant.0
                 c.if-at-older.kept.items w.in-Ok-clone.same (contents_at c.if-at-older.version) le reached
                 (ap (λ (one : Tabled). one.contents) w.in-Ok-clone.ensures.cases ∙ sym (ap contents_at w.version-is))
                 (ap (λ list. list.items) w.kept-is ∙ w.in-Ok-push.ensures.items),
@@ -40,6 +43,7 @@ loop-older-preserved g c =
           )
       | else-at-older w ↦
           let lt : position < from.at = omega (arith, w.if-at-older.false, there) in
-          let past = made_past front from c.args.kept.now.items c.position-position.ensures.front c.loop-older.kept.items (contents_at c.loop-older.version) index position below is c.loop-older.invariant.0 lt in
+          let past = made_past front from c.args.kept.now.items c.position-position.ensures.front c.loop-older.kept.items
+          (contents_at c.loop-older.version) index position below is c.loop-older.invariant.0 lt in
           rw (w.kept-is, w.version-is, w.steps-is) (past, before)
     ]

@@ -9,23 +9,27 @@ pub apply-requires : goal.apply-requires
 apply-requires g c =
     let entries = c.args.front.now.entries in
     let from = contents_at c.args.version.now in
-    let below : c.loop-i.i < position_of c.args.front.now = omega (arith, c.requires.below, c.loop-i-test.true) in
+    let below : c.loop-place.place < position_of c.args.front.now = omega (arith, c.requires.below, c.loop-place-test.true) in
     let last = c.position-few.ensures.position in
     let most = c.position-few.ensures.few in
     let legal = (c.recoded_histories_are_alike.ensures.legal (take from.layout.bits) entries).1 c.position-few.ensures.front.legal in
-    let means = means_here entries from c.loop-i.i c.entry-entry.result.now c.entry-entry.ensures.entry below c.loop-i.next.contents c.loop-i.invariant.0 c.requires.codes in
-    let fits = fits_here entries from c.loop-i.i c.entry-entry.result.now c.entry-entry.ensures.entry below c.loop-i.next.contents c.loop-i.invariant.0
+    let means = means_here entries from c.loop-place.place c.entry-entry.result.now c.entry-entry.ensures.entry below
+    c.loop-place.next.contents c.loop-place.invariant.0 c.requires.codes in
+    let fits = fits_here entries from c.loop-place.place c.entry-entry.result.now c.entry-entry.ensures.entry below
+    c.loop-place.next.contents c.loop-place.invariant.0
     c.versions_follow_the_history.ensures.fits legal in
-    let room = room_here entries from c.loop-i.i c.entry-entry.result.now c.entry-entry.ensures.entry below c.loop-i.next.contents c.loop-i.invariant.0
+    let room = room_here entries from c.loop-place.place c.entry-entry.result.now c.entry-entry.ensures.entry below
+    c.loop-place.next.contents c.loop-place.invariant.0
     c.versions_follow_the_history.ensures.few (omega (arith, below, last, most)) in
     let few = c.requires.few_words in
-    let counted : c.loop-i.next.contents.at + 1 < 2 ^ 64 = omega (arith, below, last, most, c.loop-i.invariant.0.at) in
+    let counted : c.loop-place.next.contents.at + 1 < 2 ^ 64 = omega (arith, below, last, most, c.loop-place.invariant.0.at) in
     (search rules, (search rules, (few, (counted, (means, (fits, room))))))
 
-pub loop-i-preserved : goal.loop-i-preserved
-loop-i-preserved g c =
-    let below : c.loop-i.i < position_of c.args.front.now = omega (arith, c.requires.below, c.loop-i-test.true) in (
-      reaches_more c.args.front.now.entries (contents_at c.args.version.now) c.loop-i.i c.entry-entry.result.now c.entry-entry.ensures.entry below c.loop-i.next.contents
-          c.loop-i.invariant.0 c.versions_follow_the_history.ensures.next c.in_ok-next-2.next.contents c.in_ok-next-2.ensures,
-      omega (arith, c.entry-entry.ensures.step, c.loop-i.invariant.1),
+pub loop-place-preserved : goal.loop-place-preserved
+loop-place-preserved g c =
+    let below : c.loop-place.place < position_of c.args.front.now = omega (arith, c.requires.below, c.loop-place-test.true) in (
+      reaches_more c.args.front.now.entries (contents_at c.args.version.now) c.loop-place.place c.entry-entry.result.now
+          c.entry-entry.ensures.entry below c.loop-place.next.contents
+          c.loop-place.invariant.0 c.versions_follow_the_history.ensures.next c.in_ok-next-2.next.contents c.in_ok-next-2.ensures,
+      omega (arith, c.entry-entry.ensures.step, c.loop-place.invariant.1),
     )

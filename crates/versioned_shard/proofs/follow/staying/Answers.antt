@@ -15,12 +15,15 @@ loop-version-preserved g c =
     let test : has_position c.args.older.now (contents_at own).at ≡ c.stands_in.result = sym (c.stands_in.ensures ∙ ap (has_position c.args.older.now) there) in
     elim c.if-stands_in.branch [
       | then-stands_in+in-Ok+in-Ok-push w ↦
-          stay_more c.args.kept.now c.loop-version.version-index own c.loop-version-test.true c.version-item.is c.args.older.now c.loop-version.stay.items c.loop-version.invariant
+          stay_more c.args.kept.now c.loop-version.version-index own c.loop-version-test.true c.version-item.is c.args.older.now
+          c.loop-version.stay.items c.loop-version.invariant
           c.if-stands_in.stay.items true (test ∙ w.if-stands_in.true)
-          (ap (map contents_at) (ap (λ list. list.items) w.stay-is ∙ w.in-Ok-push.ensures.items) ∙ map-append contents_at c.loop-version.stay.items (w.in-Ok.same ∷ [])
+          (ap (map contents_at) (ap (λ list. list.items) w.stay-is ∙ w.in-Ok-push.ensures.items)
+          ∙ map-append contents_at c.loop-version.stay.items (w.in-Ok.same ∷ [])
           ∙ ap (λ (each : Contents). map contents_at c.loop-version.stay.items ++ each ∷ []) (ap (λ (one : Tabled). one.contents) w.in-Ok.ensures.cases))
       | else-stands_in w ↦
-          stay_more c.args.kept.now c.loop-version.version-index own c.loop-version-test.true c.version-item.is c.args.older.now c.loop-version.stay.items c.loop-version.invariant
+          stay_more c.args.kept.now c.loop-version.version-index own c.loop-version-test.true c.version-item.is c.args.older.now
+          c.loop-version.stay.items c.loop-version.invariant
           c.if-stands_in.stay.items false (test ∙ w.if-stands_in.false)
           (ap (map contents_at) (ap (λ list. list.items) w.stay-is) ∙ sym (append-nil (map contents_at c.loop-version.stay.items)))
     ]

@@ -19,7 +19,8 @@ returns-clause-opens c = λ old new session front shard rule opens.
     let live = map.insert old.live front.id (session, length old.history) in
     subst (λ (state : JournalState). KeepsJournalRule state shard) (sym opens.after)
     (rule_fronts (positions_of old.live) (positions_of live) old.history shard
-    (λ position stands. ⊎_elim (λ (here : length old.history ≡ position). inr (omega (arith, here))) (λ (before : StandsAt (positions_of old.live) position). inl before)
+    (λ position stands. ⊎_elim (λ (here : length old.history ≡ position). inr (omega (arith, here)))
+    (λ (before : StandsAt (positions_of old.live) position). inl before)
     (c.live_fronts_come_and_go.ensures.comes old.live front.id session (length old.history) position stands)) rule)
 
 pub returns-clause-closes : goal.returns-clause-closes

@@ -8,11 +8,16 @@ use Rattle.scatter_gather.specs.Due.{has_head}
 use Rattle.scatter_gather.proofs.NextLemmas.{waited_again, loop_todo}
 use Rattle.scatter_gather.proofs.ReadyLemmas.{all_lawful}
 use Rattle.scatter_gather.proofs.MoreLemmas.{more_rows, seen_waits, none_due_more, waited_more, waited_open}
+use Rattle.hit_source.specs.Sources.{IsLawful}
+use Rattle.scatter_gather.proofs.gather.Gather.more.Given.{Over}
 use Rattle.scatter_gather.proofs.gather.Gather.more.Goals as goal
+
+-- the sources keep their laws
+lawful : (g : Over) (source : g.row.H.Denot) → IsLawful (g.H.HitSource.asked source) (g.H.HitSource.standing source)
+lawful g = (g.met.H.HitSource g.world.𝓛 g.world.𝓜 g.world.𝓡 ((λ s x. x), (λ x. x), (λ x. x), λ x. x)).lawful
 
 pub returns-then-self-rows_of-clause-more : goal.returns-then-self-rows_of-clause-more
 returns-then-self-rows_of-clause-more g c =
-    let laws = g.met.H.HitSource g.world.𝓛 g.world.𝓜 g.world.𝓡 ((λ s x. x), (λ x. x), (λ x. x), λ x. x) in
     let all = sources_of g.H.HitSource.asked g.H.HitSource.standing c.self.inside.sources.items in
     let near : list_all (λ (s : Source). s.asked.near) all ≡ true =
     rw (← c.deref.ensures.value) (sym c.all_near.ensures ∙ c.if-all_near.true) in
@@ -24,19 +29,18 @@ returns-then-self-rows_of-clause-more g c =
     c.self.view_is
     (sym (more_rows (seen g.H.HitSource.asked g.H.HitSource.standing
     (gathered c.self.inside.sources.items c.self.inside.limit c.self.inside.given c.self.inside.last))
-    c.self.invariant (all_lawful g.H.HitSource.asked g.H.HitSource.standing laws.lawful
+    c.self.invariant (all_lawful g.H.HitSource.asked g.H.HitSource.standing (lawful g)
     c.self.inside.sources.items) c.if-self.false (and_from _ _ near enough)))
 
 pub returns-then-any_waits-clause-more : goal.returns-then-any_waits-clause-more
 returns-then-any_waits-clause-more g c =
-    let laws = g.met.H.HitSource g.world.𝓛 g.world.𝓜 g.world.𝓡 ((λ s x. x), (λ x. x), (λ x. x), λ x. x) in
     let open_still = subst (λ x. x.given ≡ x.limit → ⊥) c.self.view_is c.if-self.false in
     let here : list_any has_head
     (sources_of g.H.HitSource.asked g.H.HitSource.standing c.self-in-loop-self.inside.sources.items) ≡ true =
     rw (← c.deref-in-loop-self.ensures.value) (sym c.any_waits.ensures ∙ c.if-any_waits.true) in
     let waits = subst (λ x. list_any has_head (sources_of g.H.HitSource.asked g.H.HitSource.standing x.sources) ≡ true)
     c.self-in-loop-self.view_is here in
-    sym (seen_waits g.H.HitSource.asked g.H.HitSource.standing c.loop-self.self laws.lawful c.loop-self.invariant.1
+    sym (seen_waits g.H.HitSource.asked g.H.HitSource.standing c.loop-self.self (lawful g) c.loop-self.invariant.1
     (waited_open g.H.HitSource.asked g.H.HitSource.standing c.args.self.now c.loop-self.self _ _
     c.loop-self.invariant.0 open_still) waits)
     ∙ waited_more g.H.HitSource.asked g.H.HitSource.standing c.args.self.now c.loop-self.self _ _
@@ -44,14 +48,13 @@ returns-then-any_waits-clause-more g c =
 
 pub returns-in_default-clause-more : goal.returns-in_default-clause-more
 returns-in_default-clause-more g c =
-    let laws = g.met.H.HitSource g.world.𝓛 g.world.𝓜 g.world.𝓡 ((λ s x. x), (λ x. x), (λ x. x), λ x. x) in
     let open_still = subst (λ x. x.given ≡ x.limit → ⊥) c.self.view_is c.if-self.false in
     let here : list_any has_head
     (sources_of g.H.HitSource.asked g.H.HitSource.standing c.self-in-loop-self.inside.sources.items) ≡ false =
     rw (← c.deref-in-loop-self.ensures.value) (sym c.any_waits.ensures ∙ c.if-any_waits.false) in
     let none = subst (λ x. list_any has_head (sources_of g.H.HitSource.asked g.H.HitSource.standing x.sources) ≡ false)
     c.self-in-loop-self.view_is here in
-    sym (none_due_more g.H.HitSource.asked g.H.HitSource.standing c.loop-self.self laws.lawful c.loop-self.invariant.1
+    sym (none_due_more g.H.HitSource.asked g.H.HitSource.standing c.loop-self.self (lawful g) c.loop-self.invariant.1
     (waited_open g.H.HitSource.asked g.H.HitSource.standing c.args.self.now c.loop-self.self _ _
     c.loop-self.invariant.0 open_still) (sym c.poll_some.ensures.due ∙ ap is_some c.in_default.is) none)
     ∙ waited_more g.H.HitSource.asked g.H.HitSource.standing c.args.self.now c.loop-self.self _ _
@@ -59,10 +62,9 @@ returns-in_default-clause-more g c =
 
 pub loop-self-smaller : goal.loop-self-smaller
 loop-self-smaller g c =
-    let laws = g.met.H.HitSource g.world.𝓛 g.world.𝓜 g.world.𝓡 ((λ s x. x), (λ x. x), (λ x. x), λ x. x) in
     let polls = c.poll_some.ensures.polled (ap is_some c.in-Some.is) in
     loop_todo g.H.HitSource.asked g.H.HitSource.standing polls.budget c.loop-self.self c.loop-self.self
-    c.poll_some.new.self _ _ laws.lawful refl (sym c.poll_some.ensures.due ∙ ap is_some c.in-Some.is) polls.polls
+    c.poll_some.new.self _ _ (lawful g) refl (sym c.poll_some.ensures.due ∙ ap is_some c.in-Some.is) polls.polls
 
 pub loop-self-preserved : goal.loop-self-preserved
 loop-self-preserved g c =

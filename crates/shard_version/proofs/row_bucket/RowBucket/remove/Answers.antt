@@ -4,7 +4,8 @@ use Rattle.shard_version.proofs.row_bucket.RowBucket.remove.Goals as goal
 
 pub remove-requires : goal.remove-requires
 remove-requires g c =
-    let inside = inside_in_place c.self.inside.rows.items c.args.self.now c.self.view_is c.args.key c.place_of-place.result _ c.deref.ensures.value c.place_of-place.ensures
+    let inside = inside_in_place c.self.inside.rows.items c.args.self.now c.self.view_is c.args.key c.place_of-place.result
+    _ c.deref.ensures.value c.place_of-place.ensures
     c.requires.ascending c.requires.present in
     search rules
 
@@ -16,6 +17,7 @@ returns-clause-code g c =
 
 pub returns-clause-removed : goal.returns-clause-removed
 returns-clause-removed g c =
-    c.remove.ensures.items ∙ removed_in_place c.self.inside.rows.items c.args.self.now c.self.view_is c.args.key c.place_of-place.result _ c.deref.ensures.value c.place_of-place.ensures
+    c.remove.ensures.items ∙ removed_in_place c.self.inside.rows.items c.args.self.now c.self.view_is c.args.key
+    c.place_of-place.result _ c.deref.ensures.value c.place_of-place.ensures
     c.requires.ascending c.requires.present
     c.remove.result c.remove.ensures.value

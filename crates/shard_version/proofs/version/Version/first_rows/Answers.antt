@@ -20,6 +20,7 @@ pub returns-clause-codes : goal.returns-clause-codes
 returns-clause-codes g c =
     let stored = c.self.inside.rows in
     IfOk-weaker c.first.result (λ first. first.items ≡ take c.args.n stored) (λ rows. AreStored g.row.W c.args.self.now.contents.layout.bits rows.items)
-    (λ first is. subst (λ (contents : Contents). AreStored g.row.W contents.layout.bits first.items) (ap (λ (version : Tabled). version.contents) c.self.view_is)
+    (λ first is. subst (λ (contents : Contents). AreStored g.row.W contents.layout.bits first.items)
+    (ap (λ (version : Tabled). version.contents) c.self.view_is)
     (first_stored g.row.W (arc_value c.self.inside.layout).bits c.args.n stored first.items is c.self.invariant.stored_codes))
     c.first.ensures.rows

@@ -18,7 +18,8 @@ remove_from_each-requires g c =
       (
         search rules,
         asks_to_delete _ _ _ _ c.self.inside.rows c.self.inside.tables.items c.self.invariant c.args.self.contents
-            (ap (λ (version : Tabled). version.contents) c.self.view_is) c.args.key c.requires.present c.in_ok-code.code c.in_ok-code.ensures.code _ c.deref.ensures
+            (ap (λ (version : Tabled). version.contents) c.self.view_is) c.args.key c.requires.present c.in_ok-code.code
+            c.in_ok-code.ensures.code _ c.deref.ensures
             c.changes_follow_a_list.ensures.present,
       ),
     )

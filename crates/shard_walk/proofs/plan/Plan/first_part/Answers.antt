@@ -8,7 +8,8 @@ returns-then-is_found g c =
     let plan = subst (IsPlanned g.row.W) c.self.view_is c.self.invariant in
     let size = plan.choice.vector.size in
     let number = c.parts-parts.ensures.parts ∙ ap (λ p. length (parts_of p)) c.self.view_is in
-    let here = found_here c.args.self.now (code_of_plan c.args.self.now c.args.code.now) c.loop-part.part size (omega arith) (sym c.is_found.ensures ∙ c.if-is_found.true) in
+    let here = found_here c.args.self.now (code_of_plan c.args.self.now c.args.code.now) c.loop-part.part size (omega arith)
+    (sym c.is_found.ensures ∙ c.if-is_found.true) in
     let before = c.loop-part.invariant in
     omega arith
 
@@ -17,6 +18,7 @@ loop-part-preserved g c =
     let plan = subst (IsPlanned g.row.W) c.self.view_is c.self.invariant in
     let size = plan.choice.vector.size in
     let number = c.parts-parts.ensures.parts ∙ ap (λ p. length (parts_of p)) c.self.view_is in
-    let later = found_later c.args.self.now (code_of_plan c.args.self.now c.args.code.now) c.loop-part.part size (omega arith) (sym c.is_found.ensures ∙ c.if-is_found.false) in
+    let later = found_later c.args.self.now (code_of_plan c.args.self.now c.args.code.now) c.loop-part.part size (omega arith)
+    (sym c.is_found.ensures ∙ c.if-is_found.false) in
     let before = c.loop-part.invariant in
     omega arith

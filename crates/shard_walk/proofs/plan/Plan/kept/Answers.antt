@@ -13,8 +13,8 @@ returns-then-distance-self g c =
 
 pub returns-then-first_part-part : goal.returns-then-first_part-part
 returns-then-first_part-part g c =
-    let at = c.distance-distance.ensures ∙ ap (λ p. distance (code_of_plan p c.args.code.now) (planned_query p)) c.self.view_is in
-    kept_later c.args.self.now c.args.part c.args.key c.distance-distance.result (code_of_plan c.args.self.now c.args.code.now) at
+    kept_later c.args.self.now c.args.part c.args.key c.distance-distance.result (code_of_plan c.args.self.now c.args.code.now)
+    (c.distance-distance.ensures ∙ ap (λ p. distance (code_of_plan p c.args.code.now) (planned_query p)) c.self.view_is)
     (λ e. c.if-first_part-part.true (c.first_part.ensures ∙ e))
 
 pub returns : goal.returns

@@ -16,5 +16,12 @@ returns-clause-begun g c = λ _.
     let same : value_begun c.args.plan.now c.args.self.now c.in-Some.value c.next.new.self
     ≡ record { part = c.self.inside.part; ball = c.next.new.self; value = c.in-Some.value; next = 0; size = c.list_len-self-inside.result } =
     ap (λ w. value_begun c.args.plan.now w c.in-Some.value c.next.new.self) (sym c.self.view_is)
-    ∙ ap (λ size. (let w : Place = record { part = c.self.inside.part; ball = c.next.new.self; value = c.in-Some.value; next = 0; size = size } in w)) (sym c.list_len-self-inside.ensures) in
+    ∙ ap
+    (λ size. (let w : Place = record {
+      part = c.self.inside.part;
+      ball = c.next.new.self;
+      value = c.in-Some.value;
+      next = 0;
+      size = size;
+    } in w)) (sym c.list_len-self-inside.ensures) in
     subst (BeginsValue c.args.plan.now c.args.self.now) same begins

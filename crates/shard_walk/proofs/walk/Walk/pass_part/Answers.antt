@@ -20,5 +20,8 @@ pub returns : goal.returns
 returns g c =
     let more = more_parts c.args.plan.now c.args.self.now c.requires.place c.requires.list_done c.requires.ball_done c.requires.some_left in
     let is = c.self-2.view_is ∙ c.at_part.ensures.part ∙ ap (λ (w : Place). part_begun c.args.plan.now (w.part + 1)) c.self.view_is in
-    let place = subst (IsWalkPlace c.args.plan.now) (c.at_part.ensures.part ∙ ap (λ (w : Place). part_begun c.args.plan.now (w.part + 1)) c.self.view_is) c.at_part.ensures.place in
-    subst (PassesPart c.args.plan.now c.args.self.now) (sym is) (passes c.args.plan.now c.args.self.now c.requires.place c.requires.list_done c.requires.ball_done more place)
+    let place = subst (IsWalkPlace c.args.plan.now)
+    (c.at_part.ensures.part ∙ ap (λ (w : Place). part_begun c.args.plan.now (w.part + 1)) c.self.view_is)
+    c.at_part.ensures.place in
+    subst (PassesPart c.args.plan.now c.args.self.now) (sym is)
+    (passes c.args.plan.now c.args.self.now c.requires.place c.requires.list_done c.requires.ball_done more place)

@@ -17,7 +17,8 @@ returns-clause-hits g c =
     plan.version.codes plan.query.is_code plan.choice.vector.size (λ part less. (plan.tables.each part less).lists) in
     ap (λ w. in_order (hits_left p w)) c.at_part.ensures.part
     ∙ ap (λ rows. in_order (hits_of_parts (parts_of p) p.thresholds (planned_query p) p.tau 0 rows)) (begun_rows p 0 plan.choice.vector.size lay.some_part)
-    ∙ c.near_rows_are_kept_once.ensures p.version.contents.layout.bits p.tau p.version.contents.rows (parts_of p) p.thresholds (planned_query p) (parts_read (list_of p) 0 (parts_of p) p.thresholds (planned_query p))
+    ∙ c.near_rows_are_kept_once.ensures p.version.contents.layout.bits p.tau p.version.contents.rows (parts_of p) p.thresholds
+    (planned_query p) (parts_read (list_of p) 0 (parts_of p) p.thresholds (planned_query p))
     lay plan.version.codes plan.query.is_code plan.choice.vector reading
 
 pub returns-clause-reads : goal.returns-clause-reads
@@ -29,13 +30,14 @@ returns-clause-reads g c =
     plan.version.codes plan.query.is_code plan.choice.vector.size (λ part less. (plan.tables.each part less).lists) in
     ap (reads_left p) c.at_part.ensures.part
     ∙ ap number_read (begun_rows p 0 plan.choice.vector.size lay.some_part)
-    ∙ c.rows_read_are_the_cost.ensures p.version.contents.rows (parts_of p) p.thresholds (planned_query p) (parts_read (list_of p) 0 (parts_of p) p.thresholds (planned_query p)) plan.choice.vector.size reading
+    ∙ c.rows_read_are_the_cost.ensures p.version.contents.rows (parts_of p) p.thresholds (planned_query p)
+    (parts_read (list_of p) 0 (parts_of p) p.thresholds (planned_query p)) plan.choice.vector.size reading
     ∙ sym (least_is_cost g.row.W p plan)
 
 pub returns-clause-values : goal.returns-clause-values
 returns-clause-values g c =
-    let p = c.args.plan.now in
-    let plan = c.parts.ensures.plan in
-    let begun = ap (values_left p) c.at_part.ensures.part ∙ begun_values p 0 plan.choice.vector.size plan.version.laid.layout.some_part in
-    let few = values_few c.ball_sums_add_up.ensures (parts_of p) p.thresholds (planned_query p) in
+    let begun = ap (values_left c.args.plan.now) c.at_part.ensures.part
+    ∙ begun_values c.args.plan.now 0 c.parts.ensures.plan.choice.vector.size
+    c.parts.ensures.plan.version.laid.layout.some_part in
+    let few = values_few c.ball_sums_add_up.ensures (parts_of c.args.plan.now) c.args.plan.now.thresholds (planned_query c.args.plan.now) in
     omega (arith, begun)
