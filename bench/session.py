@@ -1,4 +1,4 @@
-"""What the scripts of this folder share: one session of the built program over codes of 64 bits, asked over pipes."""
+"""What the scripts of this folder share: one session of the built program over codes of 64 bits in one shard, asked over pipes."""
 
 import os
 import subprocess
@@ -9,7 +9,7 @@ import time
 HERE = os.path.dirname(os.path.dirname(os.path.realpath(__file__)))
 PROGRAM = f"{HERE}/crates/gph_server/out/gph_server"
 BITS = 64
-WORDS = ["run", "--bits", str(BITS)]
+WORDS = ["run", "--bits", str(BITS), "--shards", "1"]
 # the queries that a session may open
 OPEN = 16
 

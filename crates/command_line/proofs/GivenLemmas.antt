@@ -74,7 +74,8 @@ pub kept_with : (before : List Written) (one : Written) (option : CommandOption)
 kept_with before one option value old new entry named same absent stands good is made =
     let IsAbsent : Given → Type 0 = λ (values : Given). is_some (entry_at option values) ≡ false in
     let Done : Given → Result Given ℕ = λ (values : Given). Ok values in
-    let number_of : Option (List ℕ) → GivenNumber = λ (value : Option (List ℕ)). record { number = option_and_then (number option) value; place = one.value_place } in
+    let number_of : Option (List ℕ) → GivenNumber =
+    λ (value : Option (List ℕ)). record { number = option_and_then (number option) value; place = one.value_place } in
     let entry_is : entry ≡ given_option option one = is ∙ sym (ap number_of stands) in
     let put_is : put option entry old ≡ put option (given_option option one) (options_kept before) =
     ap (λ (e : GivenNumber). put option e old) entry_is ∙ ap (λ (values : Given). put option (given_option option one) values) same in
@@ -98,7 +99,8 @@ pub written_one : (place : ℕ) (word : List ℕ) (texts : List (List ℕ)) (par
 written_one place word [] parts has =
     ap (λ (found : Option (List ℕ × List ℕ)). first_written place word None found ∷ []) has
 written_one place word (next ∷ texts) parts has =
-    ap (λ (found : Option (List ℕ × List ℕ)). first_written place word (Some next) found ∷ others_written found (written_options (place + 1) (next ∷ texts)) (written_options (place + 2) texts)) has
+    ap (λ (found : Option (List ℕ × List ℕ)). first_written place word (Some next) found
+    ∷ others_written found (written_options (place + 1) (next ∷ texts)) (written_options (place + 2) texts)) has
 
 -- the first option that words write, where its name is a word
 pub written_two : (place : ℕ) (word : List ℕ) (texts : List (List ℕ)) → parted word ≡ None
@@ -106,7 +108,8 @@ pub written_two : (place : ℕ) (word : List ℕ) (texts : List (List ℕ)) → 
 written_two place word [] has =
     ap (λ (found : Option (List ℕ × List ℕ)). first_written place word None found ∷ []) has
 written_two place word (next ∷ texts) has =
-    ap (λ (found : Option (List ℕ × List ℕ)). first_written place word (Some next) found ∷ others_written found (written_options (place + 1) (next ∷ texts)) (written_options (place + 2) texts)) has
+    ap (λ (found : Option (List ℕ × List ℕ)). first_written place word (Some next) found
+    ∷ others_written found (written_options (place + 1) (next ∷ texts)) (written_options (place + 2) texts)) has
 
 -- the fault of the next option is the first one
 pub step_fault : (before : List Written) (one : Written) (others : List Written) (place : ℕ) → Err place ≡ kept_after before one
@@ -169,7 +172,8 @@ size_few given =
     )
 
 -- a new option counts for one
-pub size_more : (option : CommandOption) (entry : GivenNumber) (given : Given) → is_some (entry_at option given) ≡ false → size (put option entry given) ≡ size given + 1
+pub size_more : (option : CommandOption) (entry : GivenNumber) (given : Given) → is_some (entry_at option given) ≡ false
+    → size (put option entry given) ≡ size given + 1
 size_more Bits entry given absent = omega (arith, absent_none given.bits absent)
 size_more Parts entry given absent = omega (arith, absent_none given.parts absent)
 size_more Shards entry given absent = omega (arith, absent_none given.shards absent)
@@ -207,9 +211,11 @@ fault_one before fault place word texts parts whole first has is same =
 -- an option in two words before the others
 two_split : (before : List Written) (place : ℕ) (word : List ℕ) (texts rest later : List (List ℕ)) (value : Option (List ℕ))
     → rest ≡ after_next texts → value ≡ next_in rest → later ≡ after_next rest → parted word ≡ None
-    → asked_after before (written_options place (word ∷ after_next texts)) ≡ asked_after before (in_two_words place word value ∷ written_options (place + 2) later)
+    → asked_after before (written_options place (word ∷ after_next texts))
+    ≡ asked_after before (in_two_words place word value ∷ written_options (place + 2) later)
 two_split before place word texts rest later value left next last has =
-    let Others : List (List ℕ) → List Written = λ (rest : List (List ℕ)). in_two_words place word (next_in rest) ∷ written_options (place + 2) (after_next rest) in
+    let Others : List (List ℕ) → List Written =
+    λ (rest : List (List ℕ)). in_two_words place word (next_in rest) ∷ written_options (place + 2) (after_next rest) in
     let split : written_options place (word ∷ after_next texts) ≡ Others rest = written_two place word (after_next texts) has ∙ sym (ap Others left) in
     let named : Others rest ≡ in_two_words place word value ∷ written_options (place + 2) later =
     ap (λ (found : Option (List ℕ)). in_two_words place word found ∷ written_options (place + 2) (after_next rest)) (sym next)
@@ -220,7 +226,8 @@ two_split before place word texts rest later value left next last has =
 pub after_two : (before : List Written) (given : Given) (place : ℕ) (word : List ℕ) (texts rest later : List (List ℕ)) (value : Option (List ℕ))
     (whole : Result Config ℕ) → Some word ≡ next_in texts → rest ≡ after_next texts → value ≡ next_in rest → later ≡ after_next rest
     → parted word ≡ None → Ok given ≡ kept_after before (in_two_words place word value) → asked_after before (written_options place texts) ≡ whole
-    → (given ≡ options_kept (in_two_words place word value ∷ before)) × (asked_after (in_two_words place word value ∷ before) (written_options (place + 2) later) ≡ whole)
+    → (given ≡ options_kept (in_two_words place word value ∷ before))
+    × (asked_after (in_two_words place word value ∷ before) (written_options (place + 2) later) ≡ whole)
 after_two before values place word texts rest later value whole first left next last has is same =
     let one = in_two_words place word value in
     let on = step_on before one (written_options (place + 2) later) values is in
@@ -230,7 +237,8 @@ after_two before values place word texts rest later value whole first left next 
 -- the fault of an option in two words
 pub fault_two : (before : List Written) (fault place : ℕ) (word : List ℕ) (texts rest : List (List ℕ)) (value : Option (List ℕ))
     (whole : Result Config ℕ) → Some word ≡ next_in texts → rest ≡ after_next texts → value ≡ next_in rest
-    → parted word ≡ None → Err fault ≡ kept_after before (in_two_words place word value) → asked_after before (written_options place texts) ≡ whole → Err fault ≡ whole
+    → parted word ≡ None → Err fault ≡ kept_after before (in_two_words place word value)
+    → asked_after before (written_options place texts) ≡ whole → Err fault ≡ whole
 fault_two before fault place word texts rest value whole first left next has is same =
     let known = opened before place word texts whole first same in
     sym (step_fault before (in_two_words place word value) (written_options (place + 2) (after_next rest)) fault is)

@@ -133,7 +133,8 @@ stood None result = refl
 stood (Some place) result = refl
 
 -- the number of what is found
-number_bare : (option : CommandOption) (found : Option Written) → option_and_then (number_given option) found ≡ option_and_then (number_in option) (value_of found)
+number_bare : (option : CommandOption) (found : Option Written)
+    → option_and_then (number_given option) found ≡ option_and_then (number_in option) (value_of found)
 number_bare option None = refl
 number_bare option (Some one) = refl
 
@@ -222,11 +223,13 @@ asked_same : (before other settings : List Bare) → GivesSame before other → 
 asked_same before other [] same =
     ap (λ (found : Option (Option (List ℕ))). bare_config (bare_number Bits 64 found) before (bare_given Parts before)) (same Bits)
     ∙ ap (bare_config (bare_number Bits 64 (bare_given Bits other)) before) (same Parts)
-    ∙ config_same (bare_number Bits 64 (bare_given Bits other)) before other (bare_parts (bare_number Bits 64 (bare_given Bits other)) (bare_given Parts other)) same
+    ∙ config_same (bare_number Bits 64 (bare_given Bits other)) before other
+    (bare_parts (bare_number Bits 64 (bare_given Bits other)) (bare_given Parts other)) same
 asked_same before other (one ∷ others) same =
     ap (λ (passed : Bool). cond passed (bare_asked (one ∷ before) others) None) (passes_same before other one (option_named one.0) same)
     ∙ ap (λ (asked : Option Config). cond (passes other one) asked None)
-    (asked_same (one ∷ before) (one ∷ other) others (λ option. ap (λ (found : Option (Option (List ℕ))). cond (bytes_eq one.0 (name_of option)) (Some one.1) found) (same option)))
+    (asked_same (one ∷ before) (one ∷ other) others
+    (λ option. ap (λ (found : Option (Option (List ℕ))). cond (bytes_eq one.0 (name_of option)) (Some one.1) found) (same option)))
 
 -- a name is not another option's
 not_named : (name : List ℕ) (option : CommandOption) → name ≢ name_of option → bytes_eq name (name_of option) ≡ false
@@ -266,8 +269,10 @@ gives_swap before one other differ = λ option.
 bare_swap : (before settings : List Bare) (one other : Bare) → one.0 ≢ other.0
     → bare_asked before (one ∷ other ∷ settings) ≡ bare_asked before (other ∷ one ∷ settings)
 bare_swap before settings one other differ =
-    ap (λ (test : Bool). cond (passes before one) (cond test (bare_asked (other ∷ one ∷ before) settings) None) None) (passes_after before one other (option_named other.0) refl differ)
-    ∙ ap (λ (asked : Option Config). cond (passes before one) (cond (passes before other) asked None) None) (asked_same (other ∷ one ∷ before) (one ∷ other ∷ before) settings (gives_swap before one other differ))
+    ap (λ (test : Bool). cond (passes before one) (cond test (bare_asked (other ∷ one ∷ before) settings) None) None)
+    (passes_after before one other (option_named other.0) refl differ)
+    ∙ ap (λ (asked : Option Config). cond (passes before one) (cond (passes before other) asked None) None)
+    (asked_same (other ∷ one ∷ before) (one ∷ other ∷ before) settings (gives_swap before one other differ))
     ∙ tests_swap (passes before one) (passes before other) (bare_asked (one ∷ other ∷ before) settings)
     ∙ ap (λ (test : Bool). cond (passes before other) (cond test (bare_asked (one ∷ other ∷ before) settings) None) None)
     (sym (passes_after before other one (option_named one.0) refl (λ same. differ (sym same))))
@@ -276,7 +281,8 @@ bare_swap before settings one other differ =
 pub order_free : (before later : List Written) (one other : Written) → one.name ≢ other.name
     → result_ok (asked_after before (one ∷ other ∷ later)) ≡ result_ok (asked_after before (other ∷ one ∷ later))
 order_free before later one other differ =
-    asked_bare before (one ∷ other ∷ later) ∙ bare_swap (map bare before) (map bare later) (bare one) (bare other) differ ∙ sym (asked_bare before (other ∷ one ∷ later))
+    asked_bare before (one ∷ other ∷ later) ∙ bare_swap (map bare before) (map bare later) (bare one) (bare other) differ
+    ∙ sym (asked_bare before (other ∷ one ∷ later))
 
 -- a name ends at the first `=`
 name_ends : (name rest : List ℕ) → has_no_equals name ≡ true → prefix_len (λ byte. not (byte == 61)) (name ++ 61 ∷ rest) ≡ length name
@@ -339,9 +345,11 @@ bare_written : (texts : List (List ℕ)) (place other : ℕ) → map bare (writt
 bare_written [] place other = refl
 bare_written (word ∷ []) place other = ap (λ (one : Bare). one ∷ []) (bare_first place other word None (parted word))
 bare_written (word ∷ next ∷ texts) place other =
-    let rest = bare_others (parted word) (written_options (place + 1) (next ∷ texts)) (written_options (place + 2) texts) (written_options (other + 1) (next ∷ texts)) (written_options (other + 2) texts)
+    let rest = bare_others (parted word) (written_options (place + 1) (next ∷ texts)) (written_options (place + 2) texts)
+    (written_options (other + 1) (next ∷ texts)) (written_options (other + 2) texts)
     (bare_written (next ∷ texts) (place + 1) (other + 1)) (bare_written texts (place + 2) (other + 2)) in
-    ap (λ (one : Bare). one ∷ map bare (others_written (parted word) (written_options (place + 1) (next ∷ texts)) (written_options (place + 2) texts))) (bare_first place other word (Some next) (parted word))
+    ap (λ (one : Bare). one ∷ map bare (others_written (parted word) (written_options (place + 1) (next ∷ texts)) (written_options (place + 2) texts)))
+    (bare_first place other word (Some next) (parted word))
     ∙ ap (λ (others : List Bare). bare (first_written other word (Some next) (parted word)) ∷ others) rest
 
 -- an option in either form

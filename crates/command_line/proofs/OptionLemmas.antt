@@ -31,9 +31,11 @@ named_name name option named =
     (bytes_eq-Decides name (name_of option)).0 passed
 
 -- a number that passes the tests of its range lies in it
-in_range : (digits : Bool) (least value greatest : ℕ) → IfSome (cond (digits && nat_le least value && nat_le value greatest) (Some value) None) (λ number. (least ≤ number) × (number ≤ greatest))
+in_range : (digits : Bool) (least value greatest : ℕ)
+    → IfSome (cond (digits && nat_le least value && nat_le value greatest) (Some value) None) (λ number. (least ≤ number) × (number ≤ greatest))
 in_range digits least value greatest =
-    elim (digits && nat_le least value && nat_le value greatest) as (λ b. (b ≡ true → (least ≤ value) × (value ≤ greatest)) → IfSome (cond b (Some value) None) (λ number. (least ≤ number) × (number ≤ greatest)))
+    elim (digits && nat_le least value && nat_le value greatest) as
+    (λ b. (b ≡ true → (least ≤ value) × (value ≤ greatest)) → IfSome (cond b (Some value) None) (λ number. (least ≤ number) × (number ≤ greatest)))
     [ true ↦ λ held. held refl | false ↦ λ held. tt ]
     (λ passed.
     let both = and_parts (digits && nat_le least value) (nat_le value greatest) passed in
@@ -41,7 +43,8 @@ in_range digits least value greatest =
     (leb-true least value low.1, leb-true value greatest both.1))
 
 -- a number of so many digits lies in its range
-pub number_of_range : (digits least greatest : ℕ) (word : List ℕ) → IfSome (number_of digits least greatest word) (λ number. (least ≤ number) × (number ≤ greatest))
+pub number_of_range : (digits least greatest : ℕ) (word : List ℕ)
+    → IfSome (number_of digits least greatest word) (λ number. (least ≤ number) × (number ≤ greatest))
 number_of_range digits least greatest word = in_range (is_decimal digits word) least (digits_value 10 word) greatest
 
 -- a number of bits that is kept

@@ -1,5 +1,6 @@
 -- The options of the command `run`: their names and the numbers that they may be given.
-use Rattle.std.specs.Prelude.{ℕ, ◌%◌, ◌==◌, Bool, if◌then◌else◌, List, codes, Option, Some, None, is_some}
+use Rattle.std.specs.Prelude.{ℕ, ◌%◌, ◌==◌, Bool, if◌then◌else◌, List, codes}
+use Rattle.std.specs.Prelude.{Option, Some, None, is_some}
 use Rattle.std.specs.Option.{option_and_then}
 use Rattle.std.specs.Str.{bytes_eq}
 use Rattle.hamming_model.specs.declared.limits.TheConstants.{BITS_MOST, PARTS_MOST, SHARDS_MOST}
@@ -7,7 +8,9 @@ use Rattle.hamming_model.specs.declared.limits.TheConstants.{ROOM_MOST, ENTRIES_
 use Rattle.part_layout.specs.declared.config.TheConstants.{INPUT_MOST}
 use Rattle.line_forms.specs.Forms.{is_decimal, number_of}
 use Rattle.command_line.specs.declared.command_option.CommandOption.{CommandOption}
-use Rattle.command_line.specs.declared.command_option.CommandOption.TheVariants.{Bits, Parts, Shards, Room, Entries, Input}
+use Rattle.command_line.specs.declared.command_option.CommandOption.TheVariants.{Bits, Parts}
+use Rattle.command_line.specs.declared.command_option.CommandOption.TheVariants.{Shards, Room}
+use Rattle.command_line.specs.declared.command_option.CommandOption.TheVariants.{Entries, Input}
 
 -- the name of an option
 abbrev pub name_of : CommandOption → List ℕ
@@ -55,7 +58,7 @@ abbrev pub number : CommandOption → List ℕ → Option ℕ
 number Bits value = option_and_then multiple_of_8 (number_of 20 (least Bits) (greatest Bits) value)
 number option value = number_of 20 (least option) (greatest option) value
 
--- whether a value may stand after an option: that of the parts is judged for its digits alone, since the bits may come after it
+-- whether a value may stand after an option: that of the parts is judged for its digits alone
 abbrev pub is_value : CommandOption → List ℕ → Bool
 is_value Parts value = is_decimal 20 value
 is_value option value = is_some (number option value)

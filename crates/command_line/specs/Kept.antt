@@ -1,5 +1,6 @@
 -- How the reader keeps what the options were given. No public clause cites this module.
-use Rattle.std.specs.Prelude.{◌≡◌, ℕ, ◌+◌, ◌/◌, ◌%◌, ◌≤◌, if◌then◌else◌, List, [], ◌∷◌, Option, Some, None, IfSome, unwrap_or, Result, Ok, Err}
+use Rattle.std.specs.Prelude.{◌≡◌, ℕ, ◌+◌, ◌/◌, ◌%◌, ◌≤◌, if◌then◌else◌, List, [], ◌∷◌}
+use Rattle.std.specs.Prelude.{Option, Some, None, IfSome, unwrap_or, Result, Ok, Err}
 use Rattle.std.specs.Option.{option_map, option_and_then}
 use Rattle.hamming_model.specs.declared.limits.TheConstants.{BITS_MOST}
 use Rattle.part_layout.specs.Contiguous.{can_be_cut}
@@ -7,7 +8,9 @@ use Rattle.command_line.specs.CommandOptions.{least, greatest}
 use Rattle.command_line.specs.CommandWords.{number_given, or_fault}
 use Rattle.command_line.specs.WrittenOptions.{Written, given, fault_of_option}
 use Rattle.command_line.specs.declared.command_option.CommandOption.{CommandOption}
-use Rattle.command_line.specs.declared.command_option.CommandOption.TheVariants.{Bits, Parts, Shards, Room, Entries, Input}
+use Rattle.command_line.specs.declared.command_option.CommandOption.TheVariants.{Bits, Parts}
+use Rattle.command_line.specs.declared.command_option.CommandOption.TheVariants.{Shards, Room}
+use Rattle.command_line.specs.declared.command_option.CommandOption.TheVariants.{Entries, Input}
 use Rattle.command_line.specs.declared.given.GivenNumber.{GivenNumber}
 use Rattle.command_line.specs.declared.given.Given.{Given}
 
@@ -39,13 +42,17 @@ put Input entry given = record given { input = Some entry }
 
 -- the number of an entry, or else a default
 abbrev pub entry_number_or : ℕ → Option GivenNumber → ℕ
-entry_number_or default entry = unwrap_or (option_and_then (λ options_kept. options_kept.number) entry) default
+entry_number_or default entry =
+    unwrap_or (option_and_then (λ options_kept. options_kept.number) entry) default
 
 -- the parts of an entry, judged against the bits, and eight bits each where there is none
 abbrev pub entry_parts_or : ℕ → Option GivenNumber → Result ℕ ℕ
 entry_parts_or bits None = Ok (bits / 8)
 entry_parts_or bits (Some entry) =
-    elim entry.number [ None ↦ Err entry.place | Some parts ↦ if can_be_cut bits parts then Ok parts else Err entry.place ]
+    elim entry.number [
+      | None ↦ Err entry.place
+      | Some parts ↦ if can_be_cut bits parts then Ok parts else Err entry.place
+    ]
 
 -- one for an option that was given
 abbrev pub present : Option GivenNumber → ℕ
@@ -80,7 +87,8 @@ IsNumberOf option number = (least option ≤ number) × (number ≤ greatest opt
 
 -- the number of an entry, if there is one, is such a number
 abbrev pub IsEntryOf : CommandOption → Option GivenNumber → Type 0
-IsEntryOf option entry = IfSome entry (λ options_kept. IfSome options_kept.number (IsNumberOf option))
+IsEntryOf option entry =
+    IfSome entry (λ options_kept. IfSome options_kept.number (IsNumberOf option))
 
 -- each entry is one of its option
 pub record AreEntries (given : Given) : Type 0 where

@@ -1,12 +1,13 @@
 -- The options that words write, each with its place, and where one of them is at fault.
-use Rattle.std.specs.Prelude.{◌≡◌, ℕ, ◌+◌, ◌==◌, not, if◌then◌else◌, Bool, List, [], ◌∷◌, take, drop, position, Option, Some, None, is_some}
+use Rattle.std.specs.Prelude.{◌≡◌, ℕ, ◌+◌, ◌==◌, not, if◌then◌else◌, Bool, List, [], ◌∷◌}
+use Rattle.std.specs.Prelude.{take, drop, position, Option, Some, None, is_some}
 use Rattle.std.specs.List.{list_all}
 use Rattle.std.specs.Option.{option_map}
 use Rattle.std.specs.Str.{bytes_eq}
 use Rattle.command_line.specs.CommandOptions.{name_of, option_named, is_value}
 use Rattle.command_line.specs.declared.command_option.CommandOption.{CommandOption}
 
--- an option as it is written: its name and its place, and its value, if the words don't end before it, with the place of that
+-- an option as it is written: its name with its place, and its value with its own, if there is one
 pub record Written : Type 0 where
   pub name : List ℕ
   pub place : ℕ
@@ -15,11 +16,14 @@ pub record Written : Type 0 where
 
 -- an option so written
 abbrev pub setting : List ℕ → ℕ → Option (List ℕ) → ℕ → Written
-setting name place value value_place = record { name = name; place = place; value = value; value_place = value_place }
+setting name place value value_place =
+    record { name = name; place = place; value = value; value_place = value_place }
 
 -- the name and the value that a word has before and after its first `=`
 abbrev pub parted : List ℕ → Option (List ℕ × List ℕ)
-parted word = option_map (λ equals. (take equals word, drop (equals + 1) word)) (position (λ byte. byte == 61) word)
+parted word =
+    option_map (λ equals. (take equals word, drop (equals + 1) word))
+    (position (λ byte. byte == 61) word)
 
 -- no byte is a `=`
 abbrev pub has_no_equals : List ℕ → Bool
@@ -48,12 +52,15 @@ abbrev pub written_options : ℕ → List (List ℕ) → List Written
 written_options place [] = []
 written_options place (word ∷ []) = first_written place word None (parted word) ∷ []
 written_options place (word ∷ next ∷ words) =
-    first_written place word (Some next) (parted word) ∷ others_written (parted word) (written_options (place + 1) (next ∷ words)) (written_options (place + 2) words)
+    first_written place word (Some next) (parted word)
+    ∷ others_written (parted word) (written_options (place + 1) (next ∷ words))
+    (written_options (place + 2) words)
 
 -- where an option is among those written
 abbrev pub given : CommandOption → List Written → Option Written
 given option [] = None
-given option (one ∷ others) = if bytes_eq one.name (name_of option) then Some one else given option others
+given option (one ∷ others) =
+    if bytes_eq one.name (name_of option) then Some one else given option others
 
 -- the fault of a value at a place
 abbrev pub value_fault : CommandOption → ℕ → Option (List ℕ) → Option ℕ
@@ -64,9 +71,10 @@ value_fault option place (Some value) = if is_value option value then None else 
 abbrev pub option_fault : List Written → Written → Option CommandOption → Option ℕ
 option_fault before one None = Some one.place
 option_fault before one (Some option) =
-    if is_some (given option before) then Some one.place else value_fault option one.value_place one.value
+    if is_some (given option before) then Some one.place
+    else value_fault option one.value_place one.value
 
--- the fault of an option after others, by its place: it is unknown or was given before, or its value is bad or missing
+-- the fault of an option after others: it is unknown or given before, or its value bad or missing
 abbrev pub fault_of_option : List Written → Written → Option ℕ
 fault_of_option before one = option_fault before one (option_named one.name)
 
@@ -78,7 +86,8 @@ fault_or None later = later
 -- the place of the first option at fault, of those written after others
 abbrev pub first_fault : List Written → List Written → Option ℕ
 first_fault before [] = None
-first_fault before (one ∷ others) = fault_or (fault_of_option before one) (first_fault (one ∷ before) others)
+first_fault before (one ∷ others) =
+    fault_or (fault_of_option before one) (first_fault (one ∷ before) others)
 
 -- the place at which words after the command, read from left to right, are first at fault
 abbrev pub fault_in : List (List ℕ) → Option ℕ

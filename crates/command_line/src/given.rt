@@ -43,7 +43,8 @@ impl Given {
         value_place: usize,
     ) -> Result<Given, usize>
         ensures value { (before : List Written) → self ≡ options_kept before →
-            result ≡ kept_after before (setting name.now place (option_copied value.entry) value_place) }
+            result ≡ kept_after before
+            (setting name.now place (option_copied value.entry) value_place) }
         ensures more { IfOk result (λ given. size given ≡ size self + 1) }
         ensures few { IfOk result (λ given. size given ≤ 6) }
     {
@@ -120,7 +121,8 @@ impl Given {
     // What the options ask for, where none has a fault of its own.
     pub(crate) fn config(self) -> Result<Config, usize>
         requires { AreEntries self }
-        ensures value { (settings : List Written) → self ≡ options_kept settings → result ≡ config_of settings }
+        ensures value { (settings : List Written) → self ≡ options_kept settings →
+            result ≡ config_of settings }
         ensures within { IfOk result IsConfig }
     {
         let bits = self.number_or(CommandOption::Bits, BITS);

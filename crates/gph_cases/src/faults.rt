@@ -1,13 +1,17 @@
 //! Sessions whose source or sink fails.
 
-use crate::trial::{Ends, Postings, compare, list_of};
+ghost use Rattle.std.specs.Thread.{IsSync};
+
+use crate::trial::{Ends, Postings, Upkeep, compare, list_of};
 use gph_session::{Outcome, run};
 use line_io::{SteadySink, SteadySource};
-use read_meter::Meters;
+use read_meter::{Meters, Steps, upkeep};
+use scatter_gather::NoGate;
 use std::alloc::Global;
 use std::env::Env;
 use std::process::Abort;
 use std::test::Fail;
+use std::thread::Threads;
 
 // The lines of a session of 59 bytes, each with its replies.
 static LINES: [(&[u8], &[u8]); 6] = [
@@ -83,7 +87,7 @@ static REPLIES: [&[u8]; 8] = [
 ];
 
 // Compares that session where its write of a number fails.
-fn fail_write<R: Abort + Env>(
+fn fail_write<R: Abort + Env + Threads + Sync>(
     rt: &R,
     alloc: Global,
     input: &[u8],
@@ -91,7 +95,9 @@ fn fail_write<R: Abort + Env>(
     write: u64,
     output: &[u8],
     outcome: Outcome,
-) -> Result<(), Fail> {
+) -> Result<(), Fail>
+    requires sync { IsSync R.row }
+{
     let ends = Ends {
         piece,
         read: 0,
@@ -235,11 +241,15 @@ fn a_session_over_steady_ends_is_done(rt: HostRuntime) -> Result<(), Fail> {
     let (input, _) = whole_lines(rt.alloc(), 59)?;
     let mut source = SteadySource::new(input, 7);
     let mut meters: Meters<Postings> = Meters::new(&rt, rt.alloc())?;
+    let mut kept: Steps<Upkeep> = upkeep(&rt);
     let outcome = run(
         rt.alloc(),
+        &rt,
         words.as_slice(),
         &mut source,
         &mut SteadySink::new(),
+        &NoGate,
+        &mut kept,
         &mut meters,
     );
     assert_eq!(rt; outcome, Outcome::Done);

@@ -1,16 +1,20 @@
 //! Lines as requests, and replies as lines.
 
 ghost use Rattle.std.specs.Prelude.{◌≡◌, ◌≤◌, length};
+ghost use Rattle.gph_codes.specs.Allowed.{IsAllowed};
 
+use gph_codes::Code;
 use hamming_model::ENTRIES_MOST;
 use line_io::LineBuf;
 use part_layout::{Config, INPUT_MOST, LayoutText};
-use query_protocol::{Bad, Reply, Request, Tag, read_line, write_hit, write_layout, write_plan};
+use query_protocol::{
+    Bad, Reply, Request, Tag, read_line, write_code, write_hit, write_layout, write_plan,
+};
 use std::test::Fail;
 
 // A line, and what it is read as where codes have 8 bits and there is one shard: the word of the request, its tag, its number
 // and its code. A line without words is nothing.
-static REQUESTS: [(&[u8], &[u8], &[u8], u64, u64); 20] = [
+static REQUESTS: [(&[u8], &[u8], &[u8], u64, u64); 26] = [
     (b"", b"", b"", 0, 0),
     (b"   ", b"", b"", 0, 0),
     (b"add 1 00", b"add", b"", 1, 0x00),
@@ -18,6 +22,10 @@ static REQUESTS: [(&[u8], &[u8], &[u8], u64, u64); 20] = [
     (b"add 0 a5", b"add", b"", 0, 0xa5),
     (b"add 18446744073709551615 0F", b"add", b"", u64::MAX, 0x0f),
     (b"add 00000000000000000001 10", b"add", b"", 1, 0x10),
+    (b"del 1", b"del", b"", 1, 0),
+    (b"del 18446744073709551615", b"del", b"", u64::MAX, 0),
+    (b"get 0", b"get", b"", 0, 0),
+    (b"  get  007 ", b"get", b"", 7, 0),
     (b"range a 0 80", b"range", b"a", 0, 0x80),
     (b"range Zz09 008 01", b"range", b"Zz09", 8, 0x01),
     (
@@ -33,6 +41,8 @@ static REQUESTS: [(&[u8], &[u8], &[u8], u64, u64); 20] = [
     (b"cost a", b"cost", b"a", 0, 0),
     (b"plan a 0", b"plan", b"a", 0, 0),
     (b" plan  Zz09  00", b"plan", b"Zz09", 0, 0),
+    (b"cancel a", b"cancel", b"a", 0, 0),
+    (b" cancel  Zz09 ", b"cancel", b"Zz09", 0, 0),
     (b"layout 0", b"layout", b"", 0, 0),
     (b" layout  00 ", b"layout", b"", 0, 0),
     (b"quit", b"quit", b"", 0, 0),
@@ -40,7 +50,7 @@ static REQUESTS: [(&[u8], &[u8], &[u8], u64, u64); 20] = [
 ];
 
 // A line that is no request there, the number of its first fault, and the place of the word at fault.
-static FAULTS: [(&[u8], u8, u8); 43] = [
+static FAULTS: [(&[u8], u8, u8); 55] = [
     (b"add\t1 00", 2, 0),
     (b"\x1f", 2, 0),
     (b"jump \x7f", 2, 0),
@@ -50,10 +60,18 @@ static FAULTS: [(&[u8], u8, u8); 43] = [
     (b"jump", 3, 0),
     (b"QUIT", 3, 0),
     (b"quits", 3, 0),
+    (b"Del 1", 3, 0),
+    (b"delete 1", 3, 0),
     (b"1 add 00", 3, 0),
     (b"add", 4, 0),
     (b"add x", 4, 0),
     (b"add 1 00 00", 4, 0),
+    (b"del", 4, 0),
+    (b"del x 1", 4, 0),
+    (b"get", 4, 0),
+    (b"get 1 00", 4, 0),
+    (b"cancel", 4, 0),
+    (b"cancel a b", 4, 0),
     (b"range a 1", 4, 0),
     (b"range a 1 00 00", 4, 0),
     (b"next a", 4, 0),
@@ -69,6 +87,10 @@ static FAULTS: [(&[u8], u8, u8); 43] = [
     (b"add 000000000000000000001 0g", 5, 2),
     (b"add 1 000", 5, 3),
     (b"add 1 0g", 5, 3),
+    (b"del -1", 5, 2),
+    (b"del 18446744073709551616", 5, 2),
+    (b"get 000000000000000000001", 5, 2),
+    (b"cancel abcdefghijklmnopq", 5, 2),
     (b"range abcdefghijklmnopq 9 00", 5, 2),
     (b"range a_b 1 00", 5, 2),
     (b"range a 9 0g", 5, 3),
@@ -91,12 +113,15 @@ fn told(read: &Option<Request<1>>) -> (&[u8], &[u8], u64, u64) {
     match read {
         None => (b"", b"", 0, 0),
         Some(Request::Add { key, code }) => (b"add", b"", *key, code.words()[0]),
+        Some(Request::Del { key }) => (b"del", b"", *key, 0),
+        Some(Request::Get { key }) => (b"get", b"", *key, 0),
         Some(Request::Range { tag, tau, code }) => {
             (b"range", tag.bytes(), u64::from(*tau), code.words()[0])
         }
         Some(Request::Next { tag, n }) => (b"next", tag.bytes(), u64::from(*n), 0),
         Some(Request::Cost { tag }) => (b"cost", tag.bytes(), 0, 0),
         Some(Request::Plan { tag, shard }) => (b"plan", tag.bytes(), u64::from(*shard), 0),
+        Some(Request::Cancel { tag }) => (b"cancel", tag.bytes(), 0, 0),
         Some(Request::Layout { shard }) => (b"layout", b"", u64::from(*shard), 0),
         Some(Request::Quit) => (b"quit", b"", 0, 0),
     }
@@ -153,6 +178,8 @@ fn a_line_is_a_request_or_has_its_first_fault(rt: HostRuntime) {
     // The last shard of sixteen, and none.
     assert!(rt; is_request(b"layout 15", 16, b"layout", b"", 15, 0));
     assert!(rt; is_fault(b"layout 16", 16, 6, 0));
+    assert!(rt; is_request(b"plan a 15", 16, b"plan", b"a", 15, 0));
+    assert!(rt; is_fault(b"plan a 16", 16, 6, 0));
 }
 
 // Words, and whether they are tags.
@@ -199,18 +226,22 @@ fn is_line(reply: Reply, line: &mut LineBuf, text: &[u8]) -> bool {
 }
 
 #[test]
-fn each_reply_is_its_line(rt: HostRuntime) -> Result<(), Fail> {
-    let tag = Tag::of(b"q16").ok_or("no tag")?;
+fn each_reply_on_a_key_is_its_line(rt: HostRuntime) -> Result<(), Fail> {
     let mut line = LineBuf::new(rt.alloc())?;
+    let last = u64::MAX;
     assert!(rt; is_line(Reply::Added { key: 1, at: 2 }, &mut line, b"added 1 at 2\n"));
     assert!(rt;
         is_line(
-            Reply::Added {
-                key: u64::MAX,
-                at: 1
-            },
+            Reply::Added { key: last, at: 1 },
             &mut line,
             b"added 18446744073709551615 at 1\n"
+        )
+    );
+    assert!(rt;
+        is_line(
+            Reply::Deleted { key: 9, at: 3 },
+            &mut line,
+            b"deleted 9 at 3\n"
         )
     );
     assert!(rt;
@@ -220,63 +251,99 @@ fn each_reply_is_its_line(rt: HostRuntime) -> Result<(), Fail> {
             b"taken 0 at 10\n"
         )
     );
-    assert!(rt; is_line(Reply::Full { at: 1048576 }, &mut line, b"full at 1048576\n"));
     assert!(rt;
         is_line(
-            Reply::Cost {
-                tag,
-                reads: 3,
-                bound: 20
-            },
+            Reply::Absent { key: 7, at: 0 },
             &mut line,
-            b"cost q16 reads 3 bound 20\n"
+            b"absent 7 at 0\n"
         )
     );
+    assert!(rt; is_line(Reply::Full { at: 1048576 }, &mut line, b"full at 1048576\n"));
+    Ok(())
+}
+
+#[test]
+fn each_reply_is_its_line(rt: HostRuntime) -> Result<(), Fail> {
+    let tag = Tag::of(b"q16").ok_or("no tag")?;
+    let mut line = LineBuf::new(rt.alloc())?;
     assert!(rt; is_line(Reply::Open { tag, at: 0 }, &mut line, b"open q16 at 0\n"));
     assert!(rt; is_line(Reply::More { tag }, &mut line, b"more q16\n"));
     assert!(rt; is_line(Reply::Done { tag, count: 2 }, &mut line, b"done q16 2\n"));
     assert!(rt;
         is_line(
-            Reply::Bad(Bad { number: 1, word: 0 }),
+            Reply::Cancelled { tag, count: 0 },
             &mut line,
-            b"bad 1\n"
+            b"cancelled q16 0\n"
         )
     );
     assert!(rt;
         is_line(
-            Reply::Bad(Bad { number: 5, word: 4 }),
+            Reply::Closed { tag, count: 12 },
             &mut line,
-            b"bad 5 4\n"
+            b"closed q16 12\n"
         )
     );
-    assert!(rt;
-        is_line(
-            Reply::Bad(Bad { number: 9, word: 0 }),
-            &mut line,
-            b"bad 9\n"
-        )
-    );
-    assert!(rt;
-        is_line(
-            Reply::Bad(Bad {
-                number: 10,
-                word: 0
-            }),
-            &mut line,
-            b"bad 10\n"
-        )
-    );
-    assert!(rt;
-        is_line(
-            Reply::Bad(Bad {
-                number: 11,
-                word: 0
-            }),
-            &mut line,
-            b"bad 11\n"
-        )
-    );
+    let cost = Reply::Cost {
+        tag,
+        reads: 3,
+        bound: 20,
+    };
+    assert!(rt; is_line(cost, &mut line, b"cost q16 reads 3 bound 20\n"));
+    Ok(())
+}
+
+#[test]
+fn each_refusal_is_its_line(rt: HostRuntime) -> Result<(), Fail> {
+    let mut line = LineBuf::new(rt.alloc())?;
+    for (number, word, text) in [
+        (1, 0, b"bad 1\n".as_slice()),
+        (5, 4, b"bad 5 4\n".as_slice()),
+        (9, 0, b"bad 9\n".as_slice()),
+        (10, 0, b"bad 10\n".as_slice()),
+        (11, 0, b"bad 11\n".as_slice()),
+    ] {
+        let refusal = Reply::Bad(Bad { number, word });
+        assert!(rt; is_line(refusal, &mut line, text), "{text:?}");
+    }
     assert!(rt; is_line(Reply::NoMemory, &mut line, b"nomem\n"));
+    Ok(())
+}
+
+// Codes of up to 256 bits in either case, and their digits in the line.
+static CODES: [(u32, &[u8], &[u8]); 4] = [
+    (8, b"A5", b"code 7 a5 at 9\n"),
+    (64, b"0123456789abcdef", b"code 7 0123456789abcdef at 9\n"),
+    (
+        72,
+        b"FFD8C0A0804020FF01",
+        b"code 7 ffd8c0a0804020ff01 at 9\n",
+    ),
+    (
+        256,
+        b"8000000000000000000000000000000000000000000000000000000000000001",
+        b"code 7 8000000000000000000000000000000000000000000000000000000000000001 at 9\n",
+    ),
+];
+
+// Whether a code is written as a line.
+fn is_code_line(bits: u32, digits: &[u8], line: &mut LineBuf, text: &[u8]) -> bool
+    requires { IsAllowed 4 bits }
+{
+    let Ok(code) = Code::<4>::from_hex(bits, digits) else {
+        return false;
+    };
+    line.clear();
+    write_code(7, bits, &code, 9, line);
+    line.bytes() == text
+}
+
+#[test]
+fn a_code_is_a_line(rt: HostRuntime) -> Result<(), Fail> {
+    let mut line = LineBuf::new(rt.alloc())?;
+    for &(bits, digits, text) in &CODES {
+        assert!(rt; bits % 8 == 0 && 8 <= bits && bits <= 256);
+        assert!(rt; is_code_line(bits, digits, &mut line, text), "{text:?}");
+    }
     Ok(())
 }
 

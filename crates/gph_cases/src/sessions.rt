@@ -5,7 +5,7 @@ use gph_session::Outcome;
 use std::test::Fail;
 
 // What a session is about, its words, its input and its output. Rows 1 to 4 of most are at 0, 4, 8 and 1 bits from 00.
-static SESSIONS: [(&str, &str, &[u8], &[u8]); 43] = [
+static SESSIONS: [(&str, &str, &[u8], &[u8]); 48] = [
     ("an empty input gives nothing", "run --bits 8", b"", b""),
     (
         "a taken key",
@@ -251,50 +251,88 @@ static SESSIONS: [(&str, &str, &[u8], &[u8]); 43] = [
     ),
     (
         "the layout of a shard that is none",
-        "run --bits 16 --parts 3",
+        "run --bits 16 --parts 3 --shards 1",
         b"layout 0\nlayout 1\nlayout 00\nlayout 99\nlayout 100\nlayout x\nlayout\nlayout 1 x\n",
         b"layout 0 0,1,2,3,4,5/6,7,8,9,10/11,12,13,14,15\nbad 6\n\
           layout 0 0,1,2,3,4,5/6,7,8,9,10/11,12,13,14,15\nbad 6\nbad 5 2\nbad 5 2\nbad 4\nbad 4\n",
     ),
     (
         "of two faults of a line the first is told",
-        "run --bits 8",
+        "run --bits 8 --shards 1",
         b"jump 1\x7f\nlayout 1\x7f\njump 1 0g\nlayout x x\nadd x\nadd x 0g\nrange - 9 0\nrange a 9 0\n\
           next - 0\nlayout 100\nlayout 1\n",
         b"bad 2\nbad 2\nbad 3\nbad 4\nbad 4\nbad 5 2\nbad 5 2\nbad 5 3\nbad 5 2\nbad 5 2\nbad 6\n",
     ),
     (
         "the plan and the cost of a query of radius one",
-        "run --bits 8 --parts 2",
+        "run --bits 8 --parts 2 --shards 1",
         b"add 1 00\nadd 2 0f\nadd 3 ff\nadd 4 01\nrange a 1 00\nnext a 10\nplan a 0\ncost a\n",
         b"added 1 at 1\nadded 2 at 2\nadded 3 at 3\nadded 4 at 4\nopen a at 4\nhit a 0 1\n\
           hit a 1 4\ndone a 2\nplan a 0 cost 2 -1 1\ncost a reads 2 bound 2\n",
     ),
     (
         "more parts than a radius of none allows distances",
-        "run --bits 8 --parts 2",
+        "run --bits 8 --parts 2 --shards 1",
         b"add 1 00\nadd 2 0f\nadd 3 ff\nadd 4 01\nrange a 0 00\nnext a 5\nplan a 0\n",
         b"added 1 at 1\nadded 2 at 2\nadded 3 at 3\nadded 4 at 4\nopen a at 4\nhit a 0 1\n\
           done a 1\nplan a 0 cost 1 -1 0\n",
     ),
     (
         "a threshold over the width of its part",
-        "run --bits 8 --parts 2",
+        "run --bits 8 --parts 2 --shards 1",
         b"add 1 00\nadd 2 0f\nadd 3 ff\nadd 4 01\nrange a 8 00\nnext a 9\nplan a 0\n",
         b"added 1 at 1\nadded 2 at 2\nadded 3 at 3\nadded 4 at 4\nopen a at 4\nhit a 0 1\n\
           hit a 1 4\nhit a 4 2\nhit a 8 3\ndone a 4\nplan a 0 cost 4 -1 8\n",
     ),
     (
         "all vectors tie over no rows",
-        "run --bits 8 --parts 2",
+        "run --bits 8 --parts 2 --shards 1",
         b"range a 8 00\nnext a 1\nplan a 0\ncost a\n",
         b"open a at 0\ndone a 0\nplan a 0 cost 0 -1 8\ncost a reads 0 bound 0\n",
     ),
     (
         "refusals of cost and plan",
-        "run --bits 8 --parts 2",
+        "run --bits 8 --parts 2 --shards 1",
         b"cost\ncost a b\ncost a_\ncost a\nplan a\nplan a_ 0\nplan a 100\nplan a 1\nplan b 0\n",
         b"bad 4\nbad 4\nbad 5 2\nbad 8\nbad 4\nbad 5 2\nbad 5 3\nbad 6\nbad 8\n",
+    ),
+    (
+        "a row that is deleted stays in the queries before",
+        "run --bits 8",
+        b"add 1 00\nadd 2 0f\nadd 3 ff\nadd 4 01\nrange a 1 00\ndel 4\nnext a 9\nrange b 1 00\n\
+          next b 9\nget 4\nget 2\n",
+        b"added 1 at 1\nadded 2 at 2\nadded 3 at 3\nadded 4 at 4\nopen a at 4\ndeleted 4 at 5\n\
+          hit a 0 1\nhit a 1 4\ndone a 2\nopen b at 5\nhit b 0 1\ndone b 1\nabsent 4 at 5\n\
+          code 2 0f at 5\n",
+    ),
+    (
+        "a cancelled query frees its tag, and a closed one too",
+        "run --bits 8",
+        b"add 1 00\nadd 4 01\nrange a 8 00\nnext a 1\ncancel a\nnext a 1\nrange a 0 00\nnext a 1\n\
+          cancel a\ncancel a\n",
+        b"added 1 at 1\nadded 4 at 2\nopen a at 2\nhit a 0 1\nmore a\ncancelled a 1\nbad 8\n\
+          open a at 2\nhit a 0 1\ndone a 1\nclosed a 1\nbad 8\n",
+    ),
+    (
+        "the hits of three shards, each with a room of one",
+        "run --bits 8 --shards 3 --room 1",
+        b"add 0 00\nadd 3 03\nadd 6 00\nadd 1 01\nadd 2 ff\nrange a 8 00\nnext a 2\nnext a 2\nnext a 2\n",
+        b"added 0 at 1\nadded 3 at 2\nadded 6 at 3\nadded 1 at 4\nadded 2 at 5\nopen a at 5\n\
+          hit a 0 0\nhit a 0 6\nmore a\nhit a 1 1\nhit a 2 3\nmore a\nhit a 8 2\ndone a 5\n",
+    ),
+    (
+        "a history of two entries is full for all but what is refused before",
+        "run --bits 8 --entries 2",
+        b"add 1 00\nadd 2 00\nadd 3 00\nadd 1 00\ndel 9\ndel 1\nget 1\n",
+        b"added 1 at 1\nadded 2 at 2\nfull at 2\ntaken 1 at 2\nabsent 9 at 2\nfull at 2\n\
+          code 1 00 at 2\n",
+    ),
+    (
+        "codes of 72 bits are asked back in lower case",
+        "run --bits 72",
+        b"add 1 FFD8C0A0804020FF01\nadd 1 000000000000000000\nget 1\nget 2\ndel 1\nget 1\n",
+        b"added 1 at 1\ntaken 1 at 1\ncode 1 ffd8c0a0804020ff01 at 1\nabsent 2 at 1\n\
+          deleted 1 at 2\nabsent 1 at 2\n",
     ),
 ];
 

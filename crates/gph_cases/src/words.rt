@@ -12,7 +12,7 @@ const WHOLE: Ends = Ends {
 };
 
 // Words, and how a call with them ends on the five bytes of the line `jump`.
-static WORDS: [(&str, Outcome); 41] = [
+static WORDS: [(&str, Outcome); 57] = [
     ("", Outcome::Usage { word: 1 }),
     ("jump", Outcome::Usage { word: 1 }),
     ("Run --bits 8", Outcome::Usage { word: 1 }),
@@ -21,7 +21,7 @@ static WORDS: [(&str, Outcome); 41] = [
     ("run run", Outcome::Usage { word: 2 }),
     ("run --", Outcome::Usage { word: 2 }),
     ("run --bit 8", Outcome::Usage { word: 2 }),
-    ("run --shards 1", Outcome::Usage { word: 2 }),
+    ("run --number 1", Outcome::Usage { word: 2 }),
     ("run --bits", Outcome::Usage { word: 3 }),
     ("run --bits 8 8", Outcome::Usage { word: 4 }),
     ("run --bits 8 --bits 8", Outcome::Usage { word: 4 }),
@@ -56,6 +56,25 @@ static WORDS: [(&str, Outcome); 41] = [
         Outcome::Usage { word: 5 },
     ),
     ("run --parts x --bits 12", Outcome::Usage { word: 3 }),
+    ("run --shards 0", Outcome::Usage { word: 3 }),
+    ("run --shards 1", Outcome::Done),
+    ("run --shards=16", Outcome::Done),
+    ("run --shards=17", Outcome::Usage { word: 2 }),
+    ("run --shards=2 --shards 2", Outcome::Usage { word: 3 }),
+    (
+        "run --shards 1 --parts 9 --bits 8",
+        Outcome::Usage { word: 5 },
+    ),
+    ("run --room 0", Outcome::Usage { word: 3 }),
+    ("run --room 1", Outcome::Done),
+    ("run --room 256", Outcome::Done),
+    ("run --room=257", Outcome::Usage { word: 2 }),
+    ("run --room --entries 1", Outcome::Usage { word: 3 }),
+    ("run --entries 0", Outcome::Usage { word: 3 }),
+    ("run --entries=1", Outcome::Done),
+    ("run --entries 1048576", Outcome::Done),
+    ("run --entries 1048577", Outcome::Usage { word: 3 }),
+    ("run --shards 4 --entries", Outcome::Usage { word: 5 }),
     ("run --input 0", Outcome::Usage { word: 3 }),
     ("run --input 1", Outcome::InputLimit),
     ("run --input 4294967296", Outcome::Done),
@@ -126,7 +145,7 @@ static LIMITS: [(&str, &[u8], &[u8], Outcome); 6] = [
     (
         "run --bits 8 --input 15",
         b"add 1 00\nget 1\n",
-        b"added 1 at 1\nbad 3\n",
+        b"added 1 at 1\ncode 1 00 at 1\n",
         Outcome::Done,
     ),
     (

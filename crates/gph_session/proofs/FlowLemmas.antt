@@ -69,7 +69,7 @@ module _ {W : ℕ} (config : Config) (start : Start) (now : Moment W) (exchanges
   rises_here = record {
     number = ran.reads.number;
     each = λ ledger lt. omega (arith, ran.reads.each ledger lt);
-    steps = omega (arith, ran.spent.rises);
+    steps = omega arith;
   }
 
   pub is_served : IsServed start.desk now.desk now.requests now.position config exchanges
@@ -99,7 +99,7 @@ module _ {W : ℕ} (config : Config) (start : Start) (now : Moment W) (exchanges
           upkeep =
               let most = state.position in
               let pins = pins_of start.desk in
-              omega (arith, ran.spent.rises, ran.spent.within most (omega (arith, seen_all)));
+              omega (arith, ran.spent.within most (omega (arith, seen_all)));
         };
         seen = sym ran.means.history_is;
         keeps = ran.keeps;

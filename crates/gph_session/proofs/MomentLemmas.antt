@@ -28,13 +28,12 @@ reads_then a b c one two three first second = record {
 
 pub spends_still : (desk : DeskState) (steps vain : ℕ) → Spends desk desk steps steps vain
 spends_still desk steps vain =
-    record { rises = omega arith; longer = omega arith; within = λ most le. omega arith }
+    record { longer = omega arith; within = λ most le. omega arith }
 
 -- more entries were seen, and nothing was spent
 pub spends_seen : (old new : DeskState) (steps vain : ℕ) → length old.seen ≤ length new.seen
     → pins_of new ≡ pins_of old → Spends old new steps steps vain
 spends_seen old new steps vain longer same = record {
-  rises = omega arith;
   longer = longer;
   within = λ most le.
       omega (arith, ap (λ l. entries_beyond l most) same);
@@ -43,7 +42,6 @@ spends_seen old new steps vain longer same = record {
 pub spends_then : (a b c : DeskState) (from at to first second : ℕ) → Spends a b from at first
     → Spends b c at to second → Spends a c from to (first + second)
 spends_then a b c from at to first second one two = record {
-  rises = omega (arith, one.rises, two.rises);
   longer = omega (arith, one.longer, two.longer);
   within = λ most le.
       omega (arith, one.within most (omega (arith, two.longer, le)), two.within most le);

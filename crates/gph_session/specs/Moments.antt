@@ -27,7 +27,6 @@ pub record ReadsTo (from to : List ℕ) (before after : List Query) : Type 0 whe
 -- upkeep rose by no more than the entries by which the shards were pinned further, whichever
 -- position they are counted to, and the steps that were taken in vain
 pub record Spends (old new : DeskState) (from to vain : ℕ) : Type 0 where
-  pub rises : from ≤ to
   pub longer : length old.seen ≤ length new.seen
   pub within : (most : ℕ) → length new.seen ≤ most →
       to + entries_beyond (pins_of new) most ≤ from + entries_beyond (pins_of old) most + vain

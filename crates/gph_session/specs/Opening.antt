@@ -31,7 +31,6 @@ pub record OpensAll {S : Type 0} (asks : S → Asked) (stands : S → Standing) 
   pub seen : new.seen ≡ old.seen
   pub keeps : KeepsDesk old new
   pub pins : pins_of new ≡ replicate old.config.shards position
-  pub rises : from ≤ to
   pub steps : to ≤ from + entries_beyond (pins_of old) position
   pub number : length sources ≡ old.config.shards
   pub each : (shard : ℕ) (d : S) → shard < old.config.shards → OpensShard new shard code tau room
@@ -43,7 +42,6 @@ pub record OpensNone (old new : DeskState) (from to : ℕ) : Type 0 where
   pub keeps : KeepsDesk old new
   pub pins : (most : ℕ) → length new.seen ≤ most →
       entries_beyond (pins_of new) most ≤ entries_beyond (pins_of old) most
-  pub rises : from ≤ to
   pub steps : to ≤ from + old.config.shards * length new.seen
 
 -- a gathering of ranges that has given nothing, and gives all hits

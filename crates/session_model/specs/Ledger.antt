@@ -97,9 +97,9 @@ abbrev pub ledgers : List ℕ → ℕ → Ledgers
 ledgers reads upkeep = record { reads = reads; upkeep = upkeep }
 
 -- each ledger of the queries rises by the column of its shard, and those beyond the shards don't;
--- that of upkeep rises by its steps
+-- that of upkeep rises by its steps at most
 pub record RisesBy (old new : Ledgers) (rise : Rise) : Type 0 where
   pub number : length new.reads ≡ length old.reads
   pub each : (ledger : ℕ) → ledger < length old.reads → slice_index new.reads ledger
       ≡ slice_index old.reads ledger + column ledger rise.readings
-  pub steps : new.upkeep ≡ old.upkeep + rise.upkeep
+  pub steps : new.upkeep ≤ old.upkeep + rise.upkeep

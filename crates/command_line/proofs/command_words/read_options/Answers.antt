@@ -10,7 +10,8 @@ loop-word-preserved-in-Some c =
     let first = rw c.in-Some-default.is-0 at c.next_word.ensures.next in
     let parts : List ℕ × List ℕ = (c.in-Some.name.now, c.in-Some.value.now) in
     let step = after_one held.0 c.in_ok-given.given c.loop-word.place c.in-Some-default.word.now (map string_bytes c.loop-word.rest.now)
-    (map string_bytes c.next_word.result.1.now) parts _ first c.next_word.ensures.after (sym c.in-Some.ensures) (c.in_ok-given.ensures.value held.0 held.1) held.2 in
+    (map string_bytes c.next_word.result.1.now) parts _ first c.next_word.ensures.after
+    (sym c.in-Some.ensures) (c.in_ok-given.ensures.value held.0 held.1) held.2 in
     (in_one_word c.loop-word.place parts ∷ held.0, step.0, step.1, omega (arith, held.3, c.in_ok-given.ensures.more), c.in_ok-given.ensures.few)
 
 pub loop-word-preserved : goal.loop-word-preserved
@@ -21,8 +22,13 @@ loop-word-preserved c =
     let value = option_copied c.next_word-in-Some-default.result.0 in
     let step = after_two held.0 c.in_ok-given-2.given c.loop-word.place c.in-Some-default.word.now (map string_bytes c.loop-word.rest.now)
     (map string_bytes c.next_word.result.1.now) (map string_bytes c.next_word-in-Some-default.result.1.now) value _ first c.next_word.ensures.after
-    c.next_word-in-Some-default.ensures.next c.next_word-in-Some-default.ensures.after (sym none) (c.in_ok-given-2.ensures.value held.0 held.1) held.2 in
-    (in_two_words c.loop-word.place c.in-Some-default.word.now value ∷ held.0, step.0, step.1, omega (arith, held.3, c.in_ok-given-2.ensures.more), c.in_ok-given-2.ensures.few)
+    c.next_word-in-Some-default.ensures.next c.next_word-in-Some-default.ensures.after (sym none) (c.in_ok-given-2.ensures.value held.0 held.1) held.2 in (
+      in_two_words c.loop-word.place c.in-Some-default.word.now value ∷ held.0,
+      step.0,
+      step.1,
+      omega (arith, held.3, c.in_ok-given-2.ensures.more),
+      c.in_ok-given-2.ensures.few,
+    )
 
 pub returns-in_err-given-clause-value : goal.returns-in_err-given-clause-value
 returns-in_err-given-clause-value c =

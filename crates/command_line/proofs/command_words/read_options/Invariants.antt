@@ -6,7 +6,10 @@ use Rattle.command_line.proofs.command_words.read_options.Given as goal
 
 abbrev pub invariant-loop-word : goal.invariant-loop-word
 invariant-loop-word l =
-    (before : List Written) × (l.given ≡ options_kept before) × (asked_after before (written_options l.place (map string_bytes l.rest)) ≡ asked_after [] (written_options 2 (map string_bytes l.options))) × (l.place ≤ 2 + 2 * size l.given) × (size l.given ≤ 6)
+    (before : List Written) × (l.given ≡ options_kept before)
+    × (asked_after before (written_options l.place (map string_bytes l.rest))
+    ≡ asked_after [] (written_options 2 (map string_bytes l.options)))
+    × (l.place ≤ 2 + 2 * size l.given) × (size l.given ≤ 6)
 
 abbrev pub decreases-loop-word : goal.decreases-loop-word
 decreases-loop-word l = length l.rest
