@@ -6,7 +6,7 @@ use Rattle.std.proofs.Common.{Option, Some, None, refl, sym, ap, ◌∙◌, subs
 use Rattle.std.specs.List.{AllByRecursion, flat_map, sum_by}
 use Rattle.std.specs.Ordering.{is_gt}
 use Rattle.std.proofs.lemmas.List.{take-append-le, take_all, length-map, get_or-map}
-use Rattle.std.proofs.lemmas.List.Sums.{sum-map}
+use Rattle.std.proofs.lemmas.List.Sums.{sum-map, sum_by-cons}
 use Rattle.hamming_model.specs.declared.limits.TheConstants.{ENTRIES_MOST, PARTS_MOST, SHARDS_MOST}
 use Rattle.hamming_model.specs.declared.hit.Hit.{Hit}
 use Rattle.hamming_model.specs.History.{JournalEntry, rows_of, shard_rows}
@@ -122,7 +122,7 @@ sum_few (number ∷ numbers) most each =
 
 pub sum_is_of : (numbers : List ℕ) → sum numbers ≡ sum_of numbers
 sum_is_of [] = refl
-sum_is_of (number ∷ numbers) = ap (λ n. number + n) (sum_is_of numbers)
+sum_is_of (number ∷ numbers) = sum_by-cons (λ x. x) number numbers ∙ ap (λ n. number + n) (sum_is_of numbers)
 
 flat_of_map : {S : Type 0} (f : S → List Hit) (xs : List S)
     → flat_map (λ hits. hits) (map f xs) ≡ flat_map f xs

@@ -127,7 +127,7 @@ requests_more : (config : Config) (exchanges : List Exchange) (e : Exchange) (li
 requests_more config exchanges e line same =
     let Counts = λ (x : Exchange). cond (is_answered (reading config x.line)) 1 0 in
     let both = sum_by-append Counts exchanges (e ∷ []) in
-    omega (arith, both, ap (λ l. cond (is_answered (reading config l)) 1 0) same)
+    omega (arith, both, ap {B = ℕ} (λ l. cond (is_answered (reading config l)) 1 0) same)
 
 counted_once : (asked : Bool) (number : ℕ)
     → (cond asked (min (min number 18446744073709551615 + 1) 18446744073709551615) (min number 18446744073709551615))

@@ -188,3 +188,18 @@ quiet p after result new asked replies is none desk ledgers position keep answer
     (subst (KeepsDesk p.old.desk) (sym desk) (desk_keeps p.old.desk))
     (on_ok result (AllKeep p.config p.history new.cursors (open_queries s.queries)) keep)
     (position ∙ p.stands.position)
+
+-- ---- the line as a call has it
+
+-- a session that meets a line
+abbrev pub here_of : {W : ℕ} (config : Config) (old : Moment W) (before : Option (List ℕ)) (line : List ℕ)
+    (history : List JournalEntry) (s : State) → Stands config old history s → Here W
+here_of {W} config old before line history s stands = record {
+  config = config;
+  history = history;
+  s = s;
+  old = old;
+  stands = stands;
+  before = before;
+  line = line;
+}

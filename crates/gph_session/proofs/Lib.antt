@@ -9,3 +9,4 @@ pub mod NextLemmas
 pub mod AskLemmas
 pub mod CommitLemmas
 pub mod LookLemmas
+pub mod RangeLemmas

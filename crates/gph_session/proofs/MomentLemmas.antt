@@ -49,7 +49,7 @@ spends_then a b c from at to first second one two = record {
 
 -- the steps of one more exchange
 pub sum_append : (a b : List ℕ) → sum_of (a ++ b) ≡ sum_of a + sum_of b
-sum_append [] b = refl
+sum_append [] b = omega arith
 sum_append (n ∷ a) b = omega (arith, sum_append a b)
 
 pub vain_more : (shards : ℕ) (exchanges : List Exchange) (e : Exchange)

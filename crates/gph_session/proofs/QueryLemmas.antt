@@ -6,7 +6,7 @@ use Rattle.std.proofs.Common.{refl, sym, ap, ◌∙◌, subst, arith, length-app
 use Rattle.std.specs.List.{AllByRecursion}
 use Rattle.std.specs.Str.{bytes_eq}
 use Rattle.std.proofs.lemmas.Slice.Eq.{bytes_eq-Decides}
-use Rattle.std.proofs.lemmas.List.{take-append-le, length-map}
+use Rattle.std.proofs.lemmas.List.{take-append-le, length-map, take-append-drop, drop_more}
 use Rattle.std.proofs.Math.ListN.{get_or-map}
 use Rattle.std.proofs.lemmas.List.Elements.{filter-append}
 use Rattle.hamming_model.specs.History.{JournalEntry, rows_of, shard_rows}
@@ -16,9 +16,14 @@ use Rattle.session_model.specs.State.{Query, is_open, has_tag, query_of, replace
 use Rattle.session_model.specs.Ledger.{column, readings_of, layout_at, rows_at}
 use Rattle.hit_source.specs.Sources.{Standing}
 use Rattle.open_queries.specs.Queries.{IsFree, IsUsed, IsSame, Changes, Removes}
-use Rattle.open_queries.proofs.PlaceLemmas.{parted_at}
 use Rattle.gph_session.specs.Cursors.{Cursor, asks, stands}
 use Rattle.gph_session.specs.Meaning.{AsksOn, Keeps, AllKeep}
+
+-- a list, parted at a place
+parted_at : {S : Type 0} (xs : List S) (place : ℕ) (other : S) → place < length xs
+    → xs ≡ take place xs ++ slice_index_or xs place other ∷ drop (place + 1) xs
+parted_at xs place other within = sym (take-append-drop place xs)
+    ∙ ap (λ l. take place xs ++ l) (drop_more xs place other within)
 
 -- ---- the open queries of all
 

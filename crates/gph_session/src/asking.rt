@@ -4,8 +4,7 @@ ghost use Rattle.std.specs.Prelude.{◌≡◌, ◌<◌, ℕ, List, true};
 ghost use Rattle.std.specs.Thread.{IsSync};
 ghost use Rattle.query_protocol.specs.Requests.{Next, Cost, Plan, Cancel, Layout};
 ghost use Rattle.open_queries.specs.Writing.{IsCaused};
-ghost use Rattle.open_queries.specs.Queries.{HaveShard};
-ghost use Rattle.gph_session.specs.Meaning.{IsReady};
+ghost use Rattle.gph_session.specs.Meaning.{IsReady, HaveShards};
 ghost use Rattle.session_desk.specs.Desks.{DeskState};
 ghost use Rattle.gph_session.specs.Flow.{AnswersRequest};
 ghost use Rattle.gph_session.specs.Moments.{moment_of};
@@ -33,12 +32,14 @@ pub(crate) fn next<const W: usize, K: Sink, R: Threads + Sync, G: Gate, L: Send>
 ) -> Result<(), Failed>
     requires ready { IsReady W config.now }
     requires sync { IsSync R.row }
+    requires shards { HaveShards config.now.shards session.old.queries }
     ensures answers { (desk : DeskState) (upkeep : ℕ) → desk.alone ≡ true →
         AnswersRequest (Next tag.now n) result config.now (K.held sink.old) (K.held sink.new)
         (moment_of desk session.old meters.old upkeep)
         (moment_of desk session.new meters.new upkeep) }
     ensures cutter { session.new.cutter ≡ session.old.cutter }
     ensures requests { session.new.requests ≡ session.old.requests }
+    ensures shards { HaveShards config.now.shards session.new.queries }
     ensures cause { IsCaused (K.faults sink.old) (K.faults sink.new) result }
 {
     // Each time the call says how many ledgers there are.
@@ -58,11 +59,13 @@ pub(crate) fn cost<const W: usize, K: Sink>(
     sink: &mut K,
 ) -> Result<(), Failed>
     requires ready { IsReady W config.now }
+    requires shards { HaveShards config.now.shards session.old.queries }
     ensures answers { (desk : DeskState) (reads : List ℕ) (upkeep : ℕ) → desk.alone ≡ true →
         AnswersRequest (Cost tag.now) result config.now (K.held sink.old) (K.held sink.new)
         (moment_of desk session.old reads upkeep) (moment_of desk session.new reads upkeep) }
     ensures cutter { session.new.cutter ≡ session.old.cutter }
     ensures requests { session.new.requests ≡ session.old.requests }
+    ensures shards { HaveShards config.now.shards session.new.queries }
     ensures cause { IsCaused (K.faults sink.old) (K.faults sink.new) result }
 {
     let reply = session.queries.cost(tag);
@@ -78,12 +81,14 @@ pub(crate) fn plan<const W: usize, K: Sink>(
     sink: &mut K,
 ) -> Result<(), Failed>
     requires ready { IsReady W config.now }
-    requires shards { HaveShard session.old.queries shard }
+    requires shard { shard < config.now.shards }
+    requires shards { HaveShards config.now.shards session.old.queries }
     ensures answers { (desk : DeskState) (reads : List ℕ) (upkeep : ℕ) → desk.alone ≡ true →
         AnswersRequest (Plan tag.now shard) result config.now (K.held sink.old) (K.held sink.new)
         (moment_of desk session.old reads upkeep) (moment_of desk session.new reads upkeep) }
     ensures cutter { session.new.cutter ≡ session.old.cutter }
     ensures requests { session.new.requests ≡ session.old.requests }
+    ensures shards { HaveShards config.now.shards session.new.queries }
     ensures cause { IsCaused (K.faults sink.old) (K.faults sink.new) result }
 {
     session.queries.plan(tag, shard, &mut session.out);
@@ -98,11 +103,13 @@ pub(crate) fn cancel<const W: usize, K: Sink>(
     sink: &mut K,
 ) -> Result<(), Failed>
     requires ready { IsReady W config.now }
+    requires shards { HaveShards config.now.shards session.old.queries }
     ensures answers { (desk : DeskState) (reads : List ℕ) (upkeep : ℕ) → desk.alone ≡ true →
         AnswersRequest (Cancel tag.now) result config.now (K.held sink.old) (K.held sink.new)
         (moment_of desk session.old reads upkeep) (moment_of desk session.new reads upkeep) }
     ensures cutter { session.new.cutter ≡ session.old.cutter }
     ensures requests { session.new.requests ≡ session.old.requests }
+    ensures shards { HaveShards config.now.shards session.new.queries }
     ensures cause { IsCaused (K.faults sink.old) (K.faults sink.new) result }
 {
     let reply = session.queries.cancel(tag);
@@ -126,6 +133,9 @@ pub(crate) fn layout<const W: usize, D: Desk<W>, K: Sink>(
         (moment_of (D.desk desk.new) session.new reads upkeep) }
     ensures cutter { session.new.cutter ≡ session.old.cutter }
     ensures requests { session.new.requests ≡ session.old.requests }
+    ensures queries { session.new.queries ≡ session.old.queries }
+    ensures alone { (D.desk desk.new).alone ≡ true }
+    ensures config { (D.desk desk.new).config ≡ config.now }
     ensures cause { IsCaused (K.faults sink.old) (K.faults sink.new) result }
 {
     let text = desk.layout_of(shard);

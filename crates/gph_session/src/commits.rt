@@ -41,6 +41,9 @@ pub(crate) fn add<const W: usize, D: Desk<W>, K: Sink>(
         (moment_of (D.desk desk.new) session.new reads upkeep) }
     ensures cutter { session.new.cutter ≡ session.old.cutter }
     ensures requests { session.new.requests ≡ session.old.requests }
+    ensures queries { session.new.queries ≡ session.old.queries }
+    ensures alone { (D.desk desk.new).alone ≡ true }
+    ensures config { (D.desk desk.new).config ≡ config.now }
     ensures cause { IsCaused (K.faults sink.old) (K.faults sink.new) result }
 {
     let reply = commit(session, desk, key, Op::Add { key, code });
@@ -63,6 +66,9 @@ pub(crate) fn delete<const W: usize, D: Desk<W>, K: Sink>(
         (moment_of (D.desk desk.new) session.new reads upkeep) }
     ensures cutter { session.new.cutter ≡ session.old.cutter }
     ensures requests { session.new.requests ≡ session.old.requests }
+    ensures queries { session.new.queries ≡ session.old.queries }
+    ensures alone { (D.desk desk.new).alone ≡ true }
+    ensures config { (D.desk desk.new).config ≡ config.now }
     ensures cause { IsCaused (K.faults sink.old) (K.faults sink.new) result }
 {
     let reply = commit(session, desk, key, Op::Delete { key });
@@ -87,6 +93,9 @@ pub(crate) fn get<const W: usize, D: Desk<W>, K: Sink>(
         (moment_of (D.desk desk.new) session.new reads upkeep) }
     ensures cutter { session.new.cutter ≡ session.old.cutter }
     ensures requests { session.new.requests ≡ session.old.requests }
+    ensures queries { session.new.queries ≡ session.old.queries }
+    ensures alone { (D.desk desk.new).alone ≡ true }
+    ensures config { (D.desk desk.new).config ≡ config.now }
     ensures cause { IsCaused (K.faults sink.old) (K.faults sink.new) result }
 {
     let (code, at) = desk.code_of(key);

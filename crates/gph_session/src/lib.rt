@@ -12,8 +12,10 @@ mod report;
 mod serve;
 mod open_session;
 mod session_call;
+mod top;
 mod turn;
 
 pub use report::{Report, Status};
 pub use session_call::session;
 pub use session_model::Outcome;
+pub use top::run;

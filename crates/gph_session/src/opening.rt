@@ -4,12 +4,13 @@ ghost use Rattle.std.specs.Prelude.{◌≡◌, ◌≤◌, ℕ, List, true, take,
 ghost use Rattle.hamming_model.specs.Codes.{StandsFor};
 ghost use Rattle.hamming_model.specs.declared.limits.TheConstants.{ROOM_MOST};
 ghost use Rattle.query_protocol.specs.Requests.{Range};
+ghost use Rattle.query_protocol.specs.Replies.{line_of};
 ghost use Rattle.open_queries.specs.Writing.{IsCaused};
 ghost use Rattle.gph_session.specs.Cursors.{asks, stands};
 ghost use Rattle.gph_session.specs.Meaning.{IsReady, HaveShards};
 ghost use Rattle.gph_session.specs.Flow.{AnswersRequest};
 ghost use Rattle.gph_session.specs.Moments.{moment_of};
-ghost use Rattle.gph_session.specs.Opening.{OpensAll, OpensNone, IsGathered};
+ghost use Rattle.gph_session.specs.Opening.{OpensAll, OpensNone, OpensAs, IsGathered};
 
 use crate::open_session::Session;
 use gph_codes::Code;
@@ -49,23 +50,49 @@ pub(crate) fn range<const W: usize, D: Desk<W>, K: Sink, M>(
     ensures cutter { session.new.cutter ≡ session.old.cutter }
     ensures requests { session.new.requests ≡ session.old.requests }
     ensures shards { HaveShards config.now.shards session.new.queries }
+    ensures alone { (D.desk desk.new).alone ≡ true }
+    ensures config { (D.desk desk.new).config ≡ config.now }
     ensures cause { IsCaused (K.faults sink.old) (K.faults sink.new) result }
 {
-    let reply = if session.queries.is_used(&tag) {
-        Reply::Bad(Bad::tag_in_use())
-    } else if session.queries.is_full() {
-        Reply::Bad(Bad::too_many_queries())
-    } else {
-        match open_all(alloc, config.room, desk, tau, code, upkeep) {
-            Ok((gather, at)) => {
-                session.position = at;
-                session.queries.open(tag, gather);
-                Reply::Open { tag, at }
-            }
-            Err(NoMemory) => Reply::NoMemory,
-        }
-    };
+    let reply = open(alloc, config, session, desk, tag, tau, code, upkeep);
     say(&mut session.out, sink, &reply)
+}
+
+// Opens a query, and tells the reply.
+fn open<const W: usize, D: Desk<W>, M>(
+    alloc: Global,
+    config: &Config,
+    session: &mut Session<W>,
+    desk: &mut D,
+    tag: Tag,
+    tau: u32,
+    code: Code<W>,
+    upkeep: &mut Steps<M>,
+) -> Reply
+    requires ready { IsReady W config.now }
+    requires alone { (D.desk desk.old).alone ≡ true }
+    requires config { (D.desk desk.old).config ≡ config.now }
+    requires code { StandsFor W config.now.bits code (take config.now.bits code) }
+    requires near { tau ≤ config.now.bits }
+    ensures opens { (reads : List ℕ) →
+        OpensAs (moment_of (D.desk desk.old) session.old reads upkeep.old)
+        (moment_of (D.desk desk.new) session.new reads upkeep.new) tag tau
+        (take config.now.bits code.entry) config.now.room (line_of result) }
+    ensures cutter { session.new.cutter ≡ session.old.cutter }
+    ensures requests { session.new.requests ≡ session.old.requests }
+{
+    if session.queries.is_used(&tag) {
+        return Reply::Bad(Bad::tag_in_use());
+    }
+    if session.queries.is_full() {
+        return Reply::Bad(Bad::too_many_queries());
+    }
+    let Ok((gather, at)) = open_all(alloc, config.room, desk, tau, code, upkeep) else {
+        return Reply::NoMemory;
+    };
+    session.position = at;
+    session.queries.open(tag, gather);
+    Reply::Open { tag, at }
 }
 
 // Pins every shard at the present length, and gathers a source on each version.

@@ -1,0 +1,17 @@
+-- The call is a step of a session that is alone.
+use Rattle.std.proofs.Common.{◌≡◌, refl, sym, ap, ◌∙◌, subst, arith, rules, Some, Ok, take}
+use Rattle.query_protocol.specs.Replies.{line_of, reply_line}
+use Rattle.open_queries.specs.Writing.{Writes}
+use Rattle.gph_session.specs.Moments.{moment_of}
+use Rattle.gph_session.proofs.Here.{here_of}
+use Rattle.gph_session.proofs.NextLemmas.{next_step}
+use Rattle.gph_session.proofs.asking.next.Goals as goal
+
+pub returns-clause-answers : goal.returns-clause-answers
+returns-clause-answers g c = λ desk upkeep alone line asked history s stands.
+    let ready = c.requires.ready.is_config in
+    let held = g.K.Sink.held in
+    let p = here_of c.args.config.now (moment_of desk c.args.session.now c.args.meters.now upkeep)
+    (held c.args.sink.now) line history s stands in
+    next_step p (held c.next-said.new.sink) c.next-said.result _ c.args.tag.now c.args.n asked ready.some_shards
+    ready.few_shards refl refl refl (search rules) c.next-said.ensures.gives

@@ -1,0 +1,24 @@
+-- The commit is a step of a session that is alone.
+use Rattle.std.proofs.Common.{◌≡◌, refl, sym, ap, ◌∙◌, subst, arith, rules, Some, Ok, take}
+use Rattle.query_protocol.specs.Replies.{line_of, reply_line}
+use Rattle.open_queries.specs.Writing.{Writes}
+use Rattle.gph_session.specs.Moments.{moment_of}
+use Rattle.gph_session.proofs.Here.{here_of}
+use Rattle.hamming_model.specs.Codes.{StandsFor}
+use Rattle.part_layout.specs.declared.config.Config.{Config}
+use Rattle.gph_session.proofs.CommitLemmas.{add_step}
+use Rattle.gph_session.proofs.commits.add.Goals as goal
+
+pub commit-reply-requires : goal.commit-reply-requires
+commit-reply-requires g c =
+    subst (λ (config : Config). StandsFor g.row.W config.bits c.args.code (take config.bits c.args.code))
+    (sym c.requires.config) c.requires.code
+
+pub returns-clause-answers : goal.returns-clause-answers
+returns-clause-answers g c = λ reads upkeep line asked history s stands.
+    let held = g.K.Sink.held in
+    let p = here_of c.args.config.now (moment_of (g.D.Desk.desk c.args.desk.now) c.args.session.now reads upkeep)
+    (held c.args.sink.now) line history s stands in
+    add_step p (held c.say.new.sink) c.say.result _ c.args.key (line_of c.commit-reply.result)
+    c.commit-reply.ensures.queries refl c.say.ensures.written (take c.args.config.now.bits c.args.code) c.args.code
+    asked refl c.commit-reply.ensures.commits
