@@ -10,3 +10,6 @@ pub mod AskLemmas
 pub mod CommitLemmas
 pub mod LookLemmas
 pub mod RangeLemmas
+pub mod FrameLemmas
+pub mod TurnLemmas
+pub mod TopLemmas

@@ -200,3 +200,8 @@ start_at now = record { desk = now.desk; ledgers = now.ledgers }
 -- a session that has read nothing goes on
 abbrev pub HasBegun : {W : ℕ} → Config → Moment W → Option (List ℕ) → Type 0
 HasBegun config now begun = GoesOn config (start_at now) now [] [] begun
+
+-- how a session goes on after a reply
+abbrev pub turned : Result (Unit {0}) Failed → Result Turn Failed
+turned (Ok unit) = Ok Goes
+turned (Err failed) = Err failed

@@ -8,7 +8,7 @@ ghost use Rattle.query_protocol.specs.Lines.{reading};
 ghost use Rattle.query_protocol.specs.Stored.{unstored, IsFit, IsFitReading, NamesShard, ReadsAs};
 ghost use Rattle.open_queries.specs.Writing.{IsCaused};
 ghost use Rattle.gph_session.specs.Meaning.{IsReady, HaveShards, IsAnswered};
-ghost use Rattle.gph_session.specs.Flow.{AnswersAs, AnswersRequest};
+ghost use Rattle.gph_session.specs.Flow.{AnswersAs, AnswersRequest, turned};
 ghost use Rattle.gph_session.specs.Moments.{moment_of};
 
 use crate::asking::{cancel, cost, layout, next, plan};
@@ -54,15 +54,28 @@ pub(crate) fn answer<const W: usize, D: Desk<W>, K: Sink, R: Threads + Sync, G: 
     ensures shards { HaveShards config.now.shards session.new.queries }
     ensures cause { IsCaused (K.faults sink.old) (K.faults sink.new) result }
 {
-    let answered = match read_cut(config, &session.cutter, cut) {
-        Ok(None) => return Ok(Turn::Goes),
-        Ok(Some(Request::Quit)) => return Ok(Turn::Quits),
-        Ok(Some(request)) => meet(
-            alloc, rt, config, session, desk, request, sink, gate, upkeep, meters,
-        ),
-        Err(fault) => say(&mut session.out, sink, &Reply::Bad(fault)),
-    };
-    session.requests = session.requests.saturating_add(1);
+    match read_cut(config, &session.cutter, cut) {
+        Ok(None) => Ok(Turn::Goes),
+        Ok(Some(Request::Quit)) => Ok(Turn::Quits),
+        Ok(Some(request)) => {
+            let answered = meet(
+                alloc, rt, config, session, desk, request, sink, gate, upkeep, meters,
+            );
+            session.requests = session.requests.saturating_add(1);
+            goes_on(answered)
+        }
+        Err(fault) => {
+            let answered = say(&mut session.out, sink, &Reply::Bad(fault));
+            session.requests = session.requests.saturating_add(1);
+            goes_on(answered)
+        }
+    }
+}
+
+// How a session goes on after a reply.
+fn goes_on(answered: Result<(), Failed>) -> Result<Turn, Failed>
+    ensures { result ≡ turned answered }
+{
     match answered {
         Ok(()) => Ok(Turn::Goes),
         Err(Failed) => Err(Failed),

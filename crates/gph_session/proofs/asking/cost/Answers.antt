@@ -5,6 +5,7 @@ use Rattle.open_queries.specs.Writing.{Writes}
 use Rattle.gph_session.specs.Moments.{moment_of}
 use Rattle.gph_session.proofs.Here.{here_of}
 use Rattle.gph_session.proofs.AskLemmas.{cost_step}
+use Rattle.gph_session.proofs.FrameLemmas.{told_shards}
 use Rattle.gph_session.proofs.asking.cost.Goals as goal
 
 pub returns-clause-answers : goal.returns-clause-answers
@@ -15,3 +16,8 @@ returns-clause-answers g c = λ desk reads upkeep alone line asked history s sta
     history s stands in
     cost_step p (held c.say.new.sink) c.say.result _ ready.some_shards ready.few_shards refl refl refl c.args.tag.now
     (line_of c.cost-reply.result) asked c.cost-reply.ensures c.say.ensures.written
+
+pub returns-clause-shards : goal.returns-clause-shards
+returns-clause-shards g c =
+    told_shards c.args.config.now.shards c.args.session.now.queries c.cost-reply.new.self c.requires.shards c.args.tag.now
+    _ (line_of c.cost-reply.result) c.cost-reply.ensures

@@ -5,6 +5,7 @@ use Rattle.open_queries.specs.Writing.{Writes}
 use Rattle.gph_session.specs.Moments.{moment_of}
 use Rattle.gph_session.proofs.Here.{here_of}
 use Rattle.gph_session.proofs.NextLemmas.{next_step}
+use Rattle.gph_session.proofs.FrameLemmas.{given_shards}
 use Rattle.gph_session.proofs.asking.next.Goals as goal
 
 pub returns-clause-answers : goal.returns-clause-answers
@@ -15,3 +16,10 @@ returns-clause-answers g c = λ desk upkeep alone line asked history s stands.
     (held c.args.sink.now) line history s stands in
     next_step p (held c.next-said.new.sink) c.next-said.result _ c.args.tag.now c.args.n asked ready.some_shards
     ready.few_shards refl refl refl (search rules) c.next-said.ensures.gives
+
+pub returns-clause-shards : goal.returns-clause-shards
+returns-clause-shards g c =
+    let held = g.K.Sink.held in
+    given_shards c.args.config.now.shards c.args.session.now.queries c.next-said.new.self c.requires.shards
+    c.args.tag.now c.args.n (held c.args.sink.now) (held c.next-said.new.sink) _ _ c.next-said.result
+    c.next-said.ensures.gives

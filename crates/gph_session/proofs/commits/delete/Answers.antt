@@ -5,6 +5,8 @@ use Rattle.open_queries.specs.Writing.{Writes}
 use Rattle.gph_session.specs.Moments.{moment_of}
 use Rattle.gph_session.proofs.Here.{here_of}
 use Rattle.gph_session.proofs.CommitLemmas.{delete_step}
+use Rattle.hamming_model.specs.History as journal
+use Rattle.gph_session.proofs.FrameLemmas.{here_commits}
 use Rattle.gph_session.proofs.commits.delete.Goals as goal
 
 pub commit-reply-requires : goal.commit-reply-requires
@@ -17,3 +19,13 @@ returns-clause-answers g c = λ reads upkeep line asked history s stands.
     (held c.args.sink.now) line history s stands in
     delete_step p (held c.say.new.sink) c.say.result _ c.args.key (line_of c.commit-reply.result)
     c.commit-reply.ensures.queries refl c.say.ensures.written asked c.commit-reply.ensures.commits
+
+pub returns-clause-alone : goal.returns-clause-alone
+returns-clause-alone g c = (here_commits c.args.config.now (g.D.Desk.desk c.args.desk.now) (g.D.Desk.desk c.commit-reply.new.desk)
+    c.args.session.now.position c.commit-reply.new.session.position c.args.key (journal.Delete c.args.key) (line_of c.commit-reply.result)
+    c.commit-reply.ensures.commits c.requires.alone c.requires.config).0
+
+pub returns-clause-config : goal.returns-clause-config
+returns-clause-config g c = (here_commits c.args.config.now (g.D.Desk.desk c.args.desk.now) (g.D.Desk.desk c.commit-reply.new.desk)
+    c.args.session.now.position c.commit-reply.new.session.position c.args.key (journal.Delete c.args.key) (line_of c.commit-reply.result)
+    c.commit-reply.ensures.commits c.requires.alone c.requires.config).1
