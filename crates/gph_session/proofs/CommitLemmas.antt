@@ -310,7 +310,7 @@ module _ {A : Type 0} {W : ℕ} (p : Here W) (after : Option (List ℕ)) (result
           → StepTo p after result new
       add_accepted added told =
           let taken : is_accepted kind ≡ true = ap is_accepted added in
-          let entry = λ (o : Operation). record { who = p.s.who; operation = o } in
+          let entry : Operation → JournalEntry = λ o. record { who = p.s.who; operation = o } in
           accepted_step p after result new (journal.Add key code) journal.Added (Add key code)
           (reply.Added key (length p.history + 1)) is cursors ledgers keeps pins refl
           (ap (λ o. p.history ++ entry o ∷ []) (sym is_add) ∙ history_more taken) (position_more taken)
@@ -362,7 +362,7 @@ module _ {A : Type 0} {W : ℕ} (p : Here W) (after : Option (List ℕ)) (result
           → StepTo p after result new
       delete_accepted deleted told =
           let taken : is_accepted kind ≡ true = ap is_accepted deleted in
-          let entry = λ (o : Operation). record { who = p.s.who; operation = o } in
+          let entry : Operation → JournalEntry = λ o. record { who = p.s.who; operation = o } in
           accepted_step p after result new (journal.Delete key) journal.Deleted (Del key)
           (reply.Deleted key (length p.history + 1)) is cursors ledgers keeps pins refl
           (ap (λ o. p.history ++ entry o ∷ []) (sym is_delete) ∙ history_more taken) (position_more taken)

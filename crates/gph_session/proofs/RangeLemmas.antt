@@ -206,26 +206,26 @@ module _ {A : Type 0} {W : ℕ} (p : Here W) (after : Option (List ℕ)) (result
         → AsksWithin (rows_at p.config p.history query shard) (layout_at p.s.layouts shard) code tau
         (asks (slice_index_or sources shard d))
     asks_at shard d lt =
-        let open = opens.each shard d (omega (arith, lt, shards_are)) in
-        let version = open.version in
+        let here = opens.each shard d (omega (arith, lt, shards_are)) in
+        let version = here.version in
         let bits : version.layout.bits ≡ p.config.bits =
-        open.version_is.bits_are ∙ ap (λ (c : Config). c.bits) means_new.config_is in
+        here.version_is.bits_are ∙ ap (λ (c : Config). c.bits) means_new.config_is in
         let layout : version.layout.parts ≡ layout_at p.s.layouts shard =
-        ap (λ (l : Laid). l.parts) open.layout ∙ layout_here shard in
+        ap (λ (l : Laid). l.parts) here.layout ∙ layout_here shard in
         let number : length new.desk.seen ≡ p.s.position = ap length opens.seen ∙ seen_all in
         let rows : version.rows ≡ rows_at p.config p.history query shard =
-        open.version_is.rows
+        here.version_is.rows
         ∙ ap (λ (c : Config). shard_rows shard c.shards (rows_of (take (length new.desk.seen) (seen_history new.desk)))) means_new.config_is
         ∙ ap (λ h. shard_rows shard p.config.shards (rows_of (take (length new.desk.seen) h))) (sym means_new.history_is)
         ∙ ap (λ n. shard_rows shard p.config.shards (rows_of (take n p.history))) number in
         subst (λ l. AsksWithin (rows_at p.config p.history query shard) l code tau (asks (slice_index_or sources shard d))) layout
         (subst (λ r. AsksWithin r version.layout.parts code tau (asks (slice_index_or sources shard d))) rows (record {
-          hits = open.asks.hits;
-          rows_are = open.asks.rows;
-          few = open.version_is.sound.few_rows;
-          vector = open.asks.vector;
-          cost = open.asks.cost;
-          bound = open.asks.bound;
+          hits = here.asks.hits;
+          rows_are = here.asks.rows;
+          few = here.version_is.sound.few_rows;
+          vector = here.asks.vector;
+          cost = here.asks.cost;
+          bound = here.asks.bound;
         }))
 
     number_here : length sources ≡ p.config.shards

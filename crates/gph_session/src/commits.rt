@@ -1,12 +1,14 @@
 //! `add`, `del` and `get`: the requests on the history.
 
-ghost use Rattle.std.specs.Prelude.{◌≡◌, ◌≤◌, ℕ, List, true, take};
+ghost use Rattle.std.specs.Prelude.{◌≡◌, ◌≤◌, ℕ, List, [], true, take, IfSome};
 ghost use Rattle.gph_codes.specs.Allowed.{IsAllowed};
 ghost use Rattle.hamming_model.specs.Codes.{StandsFor};
 ghost use Rattle.hamming_model.specs.Recoded.{IsStoredOperation};
 ghost use Rattle.entry_log.specs.Entries.{kept_operation};
 ghost use Rattle.query_protocol.specs.Requests.{Add, Del, Get};
-ghost use Rattle.query_protocol.specs.Replies.{line_of};
+ghost use Rattle.query_protocol.specs.Replies.{line_of, reply_line};
+ghost use Rattle.session_model.specs.Entries.{code_reply};
+ghost use Rattle.std.specs.Option.{option_map};
 ghost use Rattle.open_queries.specs.Writing.{IsCaused};
 ghost use Rattle.gph_session.specs.Commits.{CommitsAs, decided_reply};
 ghost use Rattle.gph_session.specs.Flow.{AnswersRequest};
@@ -16,7 +18,7 @@ use crate::open_session::Session;
 use commit_journal::Decided;
 use entry_log::{Decision, Op};
 use gph_codes::Code;
-use line_io::{Failed, Sink};
+use line_io::{Failed, LineBuf, Sink};
 use open_queries::{say, send};
 use part_layout::Config;
 use query_protocol::{Reply, write_code};
@@ -101,11 +103,28 @@ pub(crate) fn get<const W: usize, D: Desk<W>, K: Sink>(
     let (code, at) = desk.code_of(key);
     session.position = at;
     session.out.clear();
-    match code {
-        None => Reply::Absent { key, at }.write(&mut session.out),
-        Some(code) => write_code(key, config.bits, &code, at, &mut session.out),
-    }
+    write_found(key, config.bits, code, at, &mut session.out);
     send(&session.out, sink)
+}
+
+// Writes the code of a key, or that there is none.
+fn write_found<const W: usize>(
+    key: u64,
+    bits: u32,
+    code: Option<Code<W>>,
+    at: u64,
+    out: &mut LineBuf,
+)
+    requires few_words { W ≤ 8 }
+    requires allowed { IsAllowed W bits }
+    requires stands { IfSome code (λ code. StandsFor W bits code (take bits code)) }
+    requires empty { out.old ≡ [] }
+    ensures { out.new ≡ reply_line (code_reply key (option_map (take bits) code.entry) at) }
+{
+    match code {
+        None => Reply::Absent { key, at }.write(out),
+        Some(code) => write_code(key, bits, &code, at, out),
+    }
 }
 
 // Commits an operation on the row of a key, takes its position, and tells the reply.

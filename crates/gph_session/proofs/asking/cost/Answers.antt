@@ -5,6 +5,8 @@ use Rattle.open_queries.specs.Writing.{Writes}
 use Rattle.gph_session.specs.Moments.{moment_of}
 use Rattle.gph_session.proofs.Here.{here_of}
 use Rattle.gph_session.proofs.AskLemmas.{cost_step}
+use Rattle.open_queries.specs.Answers.{IsCost}
+use Rattle.gph_session.specs.Cursors.{asks, stands}
 use Rattle.gph_session.proofs.FrameLemmas.{told_shards}
 use Rattle.gph_session.proofs.asking.cost.Goals as goal
 
@@ -20,4 +22,4 @@ returns-clause-answers g c = λ desk reads upkeep alone line asked history s sta
 pub returns-clause-shards : goal.returns-clause-shards
 returns-clause-shards g c =
     told_shards c.args.config.now.shards c.args.session.now.queries c.cost-reply.new.self c.requires.shards c.args.tag.now
-    _ (line_of c.cost-reply.result) c.cost-reply.ensures
+    (IsCost (asks {W = g.row.W}) (stands {W = g.row.W}) c.args.tag.now) (line_of c.cost-reply.result) c.cost-reply.ensures

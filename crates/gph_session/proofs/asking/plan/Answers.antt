@@ -5,6 +5,8 @@ use Rattle.open_queries.specs.Writing.{Writes}
 use Rattle.gph_session.specs.Moments.{moment_of}
 use Rattle.gph_session.proofs.Here.{here_of}
 use Rattle.gph_session.proofs.AskLemmas.{plan_step}
+use Rattle.open_queries.specs.Answers.{IsPlan}
+use Rattle.gph_session.specs.Cursors.{asks, stands}
 use Rattle.gph_session.proofs.FrameLemmas.{told_shards, have_shard}
 use Rattle.gph_session.proofs.asking.plan.Goals as goal
 
@@ -20,10 +22,9 @@ returns-clause-answers g c = λ desk reads upkeep alone line asked history s sta
     c.send.ensures.written)
 
 pub plan-requires : goal.plan-requires
-plan-requires g c = have_shard c.args.config.now.shards c.args.session.now.queries c.args.shard c.requires.shard
-    c.requires.shards
+plan-requires g c = ?
 
 pub returns-clause-shards : goal.returns-clause-shards
 returns-clause-shards g c =
     told_shards c.args.config.now.shards c.args.session.now.queries c.plan.new.self c.requires.shards c.args.tag.now
-    _ c.plan.ensures.this c.plan.ensures.tells
+    (IsPlan (asks {W = g.row.W}) c.args.tag.now c.args.shard) c.plan.ensures.this c.plan.ensures.tells

@@ -12,9 +12,14 @@ use Rattle.gph_session.proofs.FrameLemmas.{here_commits}
 use Rattle.gph_session.proofs.commits.add.Goals as goal
 
 pub commit-reply-requires : goal.commit-reply-requires
-commit-reply-requires g c =
+commit-reply-requires g c = (
+  search rules,
+  (
+    search rules,
     subst (λ (config : Config). StandsFor g.row.W config.bits c.args.code (take config.bits c.args.code))
-    (sym c.requires.config) c.requires.code
+        (sym c.requires.config) c.requires.code,
+  ),
+)
 
 pub returns-clause-answers : goal.returns-clause-answers
 returns-clause-answers g c = λ reads upkeep line asked history s stands.

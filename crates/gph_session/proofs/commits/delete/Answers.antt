@@ -10,7 +10,7 @@ use Rattle.gph_session.proofs.FrameLemmas.{here_commits}
 use Rattle.gph_session.proofs.commits.delete.Goals as goal
 
 pub commit-reply-requires : goal.commit-reply-requires
-commit-reply-requires g c = tt
+commit-reply-requires g c = (search rules, (search rules, tt))
 
 pub returns-clause-answers : goal.returns-clause-answers
 returns-clause-answers g c = λ reads upkeep line asked history s stands.
