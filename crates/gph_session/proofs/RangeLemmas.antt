@@ -5,6 +5,7 @@ use Rattle.std.proofs.Common.{Option, Some, None, Result, Ok, refl, sym, ap, ◌
 use Rattle.std.proofs.Common.{length-append}
 use Rattle.std.specs.List.{AllByRecursion}
 use Rattle.std.proofs.Math.ListN.{get_or-map, get_or-eq_default}
+use Rattle.std.proofs.Math.Nat.{add-mul}
 use Rattle.std.proofs.lemmas.List.{get_or-replicate, length-replicate, take_all}
 use Rattle.std.proofs.lemmas.Bool.{ltb-true, ltb-false}
 use Rattle.line_io.specs.declared.source.Failed.{Failed}
@@ -47,13 +48,13 @@ use Rattle.gph_session.proofs.Here.{means_to, writes_one}
 -- ---- upkeep
 
 beyond_same : (number position most : ℕ) → entries_beyond (replicate number position) most ≡ number * (most - position)
-beyond_same zero position most = refl
+beyond_same zero position most = omega arith
 beyond_same (suc number) position most = omega (arith, beyond_same number position most)
 
 -- what the shards are behind a position and then a later one
 beyond_then : (pins : List ℕ) (position most : ℕ) → AllByRecursion (λ pin. pin ≤ position) pins → position ≤ most
     → entries_beyond pins position + length pins * (most - position) ≡ entries_beyond pins most
-beyond_then [] position most all le = refl
+beyond_then [] position most all le = omega arith
 beyond_then (pin ∷ pins) position most all le =
     omega (arith, beyond_then pins position most all.1 le, all.0, le)
 
@@ -69,7 +70,7 @@ none_read (source ∷ sources) fresh =
 zero_by : (number i : ℕ) (here : Bool) → nat_lt i number ≡ here → slice_index (replicate number 0) i ≡ 0
 zero_by number i true is = get_or-replicate number i 0 0 (ltb-true i number is)
 zero_by number i false is =
-    get_or-eq_default (replicate number 0) 0 (omega (arith, length-replicate number 0, ltb-false i number is))
+    get_or-eq_default (replicate number 0) 0 (omega (arith, length-replicate {A = ℕ} number 0, ltb-false i number is))
 
 all_zero : (number i : ℕ) → slice_index (replicate number 0) i ≡ 0
 all_zero number i = zero_by number i (nat_lt i number) refl
@@ -147,7 +148,7 @@ module _ {A : Type 0} {W : ℕ} (p : Here W) (after : Option (List ℕ)) (result
             let cost : new.ledgers.upkeep ≤ p.old.ledgers.upkeep + p.config.shards * s.position =
             subst (λ n. new.ledgers.upkeep ≤ p.old.ledgers.upkeep + n * s.position) shards
             (subst (λ n. new.ledgers.upkeep ≤ p.old.ledgers.upkeep + p.old.desk.config.shards * n) seen opens.steps) in
-            let all : (p.config.shards + 2) * s.position ≡ p.config.shards * s.position + 2 * s.position = mul-add-right p.config.shards 2 s.position in
+            let all : (p.config.shards + 2) * s.position ≡ p.config.shards * s.position + 2 * s.position = add-mul p.config.shards 2 s.position in
             omega (arith, cost, opens.pins most le, all);
       })
       p.stands.settled
@@ -256,7 +257,7 @@ module _ {A : Type 0} {W : ℕ} (p : Here W) (after : Option (List ℕ)) (result
     settled_new = record {
       within = omega (arith, p.stands.means.position);
       bounded = record {
-        number = length-replicate (length p.s.layouts) 0 ∙ size_here;
+        number = length-replicate {A = ℕ} (length p.s.layouts) 0 ∙ size_here;
         within = λ shard lt.
             let last = last_distance (answer_to p.config p.history query) in
             record {

@@ -28,9 +28,10 @@ use Rattle.session_model.specs.Outcomes.{Ends, EndsWith, ends, Untouched, IsWith
 use Rattle.session_model.specs.Outcomes.{IsDone, IsReadFault, IsWriteFault, IsInputLimit, ForConfig, IsComplete}
 use Rattle.gph_session.specs.Sessions.{IsServed, KeepsDesk, layouts_of, pins_of, state_of}
 use Rattle.gph_session.specs.Moments.{Moment}
-use Rattle.gph_session.specs.Meaning.{AllKeep, Means}
+use Rattle.gph_session.specs.Meaning.{AllKeep, IsReady, Means}
 use Rattle.gph_session.specs.Flow.{GoesOn, HasBegun, start_at}
-use Rattle.gph_session.specs.Serving.{ServedAs}
+use Rattle.gph_session.specs.declared.report.Status.{Status}
+use Rattle.gph_session.specs.Serving.{EndsAs, ServedAs}
 use Rattle.gph_session.proofs.MomentLemmas.{reads_still, spends_still, as_long}
 use Rattle.gph_session.proofs.Here.{desk_keeps}
 
@@ -89,6 +90,23 @@ begun_session {W} words config now begun is alone same none requests position no
       output_is = refl;
       begun_is = nothing;
     }
+
+pub is_ready : (words : ℕ) (config : Config) (desk : DeskState) → IsDesk words desk → desk.config ≡ config
+    → IsReady words config
+is_ready words config desk is same = subst (IsReady words) same (record {
+  few_words = is.few_words;
+  allowed = record { whole = is.config.whole_bytes; some = is.config.least_bits; room = is.room };
+  is_config = is.config;
+})
+
+-- the ending by the status, over the desk as it was
+pub ended_as : (status expected : Status) → status ≡ expected → (config : Config) (desk before desk' : DeskState)
+    (requests position : ℕ) (source source' sink sink' : Ends) (old new : Ledgers) → desk ≡ before
+    → EndsAs status config desk desk' requests position source source' sink sink' old new
+    → EndsAs expected config before desk' requests position source source' sink sink' old new
+ended_as status expected is config desk before desk' requests position source source' sink sink' old new same ends =
+    subst (λ d. EndsAs expected config d desk' requests position source source' sink sink' old new) same
+    (subst (λ s. EndsAs s config desk desk' requests position source source' sink sink' old new) is ends)
 
 -- ---- a session over a new desk is a first session
 

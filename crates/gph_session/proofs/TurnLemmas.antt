@@ -9,7 +9,7 @@ use Rattle.query_protocol.specs.Replies as reply
 use Rattle.query_protocol.specs.declared.bad.Bad.{Bad}
 use Rattle.session_model.specs.Run.{is_answered}
 use Rattle.session_model.specs.State.{open_queries}
-use Rattle.open_queries.specs.Writing.{Writes}
+use Rattle.open_queries.specs.Writing.{Writes, IsCaused}
 use Rattle.gph_session.specs.declared.turn.Turn.{Turn}
 use Rattle.gph_session.specs.declared.turn.Turn.TheVariants.{Goes}
 use Rattle.gph_session.specs.Moments.{Moment}
@@ -111,3 +111,9 @@ nothing_turn p after is wrote = record {
       (λ later. record { said_is = refl; position = refl; same = refl }) wrote;
   requests = sym (ap (λ asked. counted asked p.old.requests) is);
 }
+
+-- the cause of a failure stays
+pub caused_turn : (before after : ℕ) (result : Result (Unit {0}) Failed) → IsCaused before after result
+    → IsCaused before after (turned result)
+caused_turn before after (Ok unit) cause = cause
+caused_turn before after (Err failed) cause = cause

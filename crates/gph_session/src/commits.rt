@@ -33,6 +33,7 @@ pub(crate) fn add<const W: usize, D: Desk<W>, K: Sink>(
     code: Code<W>,
     sink: &mut K,
 ) -> Result<(), Failed>
+    requires few_words { W ≤ 8 }
     requires alone { (D.desk desk.old).alone ≡ true }
     requires config { (D.desk desk.old).config ≡ config.now }
     requires code { StandsFor W config.now.bits code (take config.now.bits code) }
@@ -60,6 +61,7 @@ pub(crate) fn delete<const W: usize, D: Desk<W>, K: Sink>(
     key: u64,
     sink: &mut K,
 ) -> Result<(), Failed>
+    requires few_words { W ≤ 8 }
     requires alone { (D.desk desk.old).alone ≡ true }
     requires config { (D.desk desk.old).config ≡ config.now }
     ensures answers { (reads : List ℕ) (upkeep : ℕ) →

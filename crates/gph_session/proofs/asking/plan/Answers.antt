@@ -22,7 +22,10 @@ returns-clause-answers g c = λ desk reads upkeep alone line asked history s sta
     c.send.ensures.written)
 
 pub plan-requires : goal.plan-requires
-plan-requires g c = ?
+plan-requires g c = (
+  search rules,
+  have_shard c.args.config.now.shards c.args.session.now.queries c.args.shard c.requires.shard c.requires.shards,
+)
 
 pub returns-clause-shards : goal.returns-clause-shards
 returns-clause-shards g c =
