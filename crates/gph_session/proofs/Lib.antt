@@ -13,3 +13,4 @@ pub mod RangeLemmas
 pub mod FrameLemmas
 pub mod TurnLemmas
 pub mod TopLemmas
+pub mod OpeningLemmas

@@ -2,7 +2,7 @@
 
 ghost use Rattle.std.specs.Prelude.{◌≡◌, ◌≤◌, ℕ, List, true, take, IfOk, OnErr};
 ghost use Rattle.hamming_model.specs.Codes.{StandsFor};
-ghost use Rattle.hamming_model.specs.declared.limits.TheConstants.{ROOM_MOST};
+ghost use Rattle.hamming_model.specs.declared.limits.TheConstants.{ROOM_MOST, WORDS_MOST};
 ghost use Rattle.query_protocol.specs.Requests.{Range};
 ghost use Rattle.query_protocol.specs.Replies.{line_of};
 ghost use Rattle.open_queries.specs.Writing.{IsCaused};
@@ -17,6 +17,7 @@ use gph_codes::Code;
 use line_io::{Failed, Sink};
 use open_queries::say;
 use part_layout::Config;
+use query_opening::open_range;
 use query_protocol::{Bad, Reply, Tag};
 use read_meter::{NoMemory, Steps};
 use scatter_gather::Gather;
@@ -104,6 +105,7 @@ fn open_all<const W: usize, D: Desk<W>, M>(
     code: Code<W>,
     upkeep: &mut Steps<M>,
 ) -> Result<(Gather<RangeTask<W>>, u64), NoMemory>
+    requires few_words { W ≤ WORDS_MOST }
     requires alone { (D.desk desk.old).alone ≡ true }
     requires code { StandsFor W (D.desk desk.old).config.bits code
         (take (D.desk desk.old).config.bits code) }
@@ -117,5 +119,14 @@ fn open_all<const W: usize, D: Desk<W>, M>(
     ensures none { OnErr result (OpensNone (D.desk desk.old) (D.desk desk.new)
         upkeep.old upkeep.new) }
 {
-    Err(NoMemory)
+    // The desk's own calls say what is true of it.
+    let _who = desk.who();
+    let Ok(opened) = open_range(alloc, desk, code, tau, room as usize, upkeep) else {
+        return Err(NoMemory);
+    };
+    let position = opened.position;
+    match Gather::new(alloc, opened.sources, u64::MAX) {
+        Ok(gather) => Ok((gather, position)),
+        Err(NoMemory) => Err(NoMemory),
+    }
 }

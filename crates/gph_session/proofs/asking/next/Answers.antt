@@ -24,11 +24,20 @@ returns-clause-answers g c = λ desk upkeep alone line asked history s stands'.
     let same : take (length m) (first.result.now ++ drop (length first.result.now) m) ≡ m =
     ap (λ l. take (length m) (l ++ drop (length l) m)) first.ensures.value
     ∙ take_at m (drop (length m) m) (length m) refl in
-    let number : length c.next-said.new.meters ≡ length m =
-    omega (arith, first.ensures.sixteen, ap length first.ensures.value, last.ensures.sixteen, ap length last.ensures.value) in
-    let gives = subst (λ from. GivesAs (asks {W = g.row.W}) (stands {W = g.row.W}) c.args.session.now.queries
-    c.args.tag.now c.args.n (held c.args.sink.now) (held c.next-said.new.sink) from c.next-said.new.meters
+    let told = c.next-said.new.meters in
+    let end = take (length told) (last.result.now ++ drop (length last.result.now) told) in
+    let same_end : end ≡ told =
+    ap (λ l. take (length told) (l ++ drop (length l) told)) last.ensures.value
+    ∙ take_at told (drop (length told) told) (length told) refl in
+    let number : length end ≡ length m =
+    omega (arith, ap length same_end, first.ensures.sixteen, ap length first.ensures.value, last.ensures.sixteen,
+    ap length last.ensures.value) in
+    let from_here = subst (λ from. GivesAs (asks {W = g.row.W}) (stands {W = g.row.W}) c.args.session.now.queries
+    c.args.tag.now c.args.n (held c.args.sink.now) (held c.next-said.new.sink) from told
     c.next-said.result c.next-said.new.self) same c.next-said.ensures.gives in
+    let gives = subst (λ to. GivesAs (asks {W = g.row.W}) (stands {W = g.row.W}) c.args.session.now.queries
+    c.args.tag.now c.args.n (held c.args.sink.now) (held c.next-said.new.sink) m to
+    c.next-said.result c.next-said.new.self) (sym same_end) from_here in
     next_step p (held c.next-said.new.sink) c.next-said.result _ c.args.tag.now c.args.n asked ready.some_shards
     ready.few_shards refl refl refl number gives
 

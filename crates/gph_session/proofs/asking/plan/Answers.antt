@@ -5,6 +5,7 @@ use Rattle.open_queries.specs.Writing.{Writes}
 use Rattle.gph_session.specs.Moments.{moment_of}
 use Rattle.gph_session.proofs.Here.{here_of}
 use Rattle.gph_session.proofs.AskLemmas.{plan_step}
+use Rattle.open_queries.specs.Queries.{HaveShard}
 use Rattle.open_queries.specs.Answers.{IsPlan}
 use Rattle.gph_session.specs.Cursors.{asks, stands}
 use Rattle.gph_session.proofs.FrameLemmas.{told_shards, have_shard}
@@ -22,10 +23,10 @@ returns-clause-answers g c = λ desk reads upkeep alone line asked history s sta
     c.send.ensures.written)
 
 pub plan-requires : goal.plan-requires
-plan-requires g c = (
-  search rules,
-  have_shard c.args.config.now.shards c.args.session.now.queries c.args.shard c.requires.shard c.requires.shards,
-)
+plan-requires g c =
+    let have : HaveShard c.args.session.now.queries c.args.shard =
+    have_shard c.args.config.now.shards c.args.session.now.queries c.args.shard c.requires.shard c.requires.shards in
+    search (rules, have)
 
 pub returns-clause-shards : goal.returns-clause-shards
 returns-clause-shards g c =

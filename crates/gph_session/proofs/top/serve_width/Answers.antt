@@ -1,5 +1,4 @@
 -- A session over a new desk, by how it ended.
-use Rattle.std.proofs.Common.{refl, sym}
 use Rattle.gph_session.proofs.TopLemmas.{done_run, read_fault_run, write_fault_run, input_limit_run}
 use Rattle.gph_session.proofs.top.serve_width.Goals as goal
 
@@ -22,4 +21,7 @@ returns-in-WriteFault g c =
     (call.ensures.write_fault c.in-WriteFault.is)
 
 pub returns : goal.returns
-returns g c = ?
+returns g c =
+    let call = c.session-report in
+    input_limit_run c.args.config.now _ _ call.result.requests call.result.position c.in-Ok.ensures.begins _ _ _ _ _ _
+    (call.ensures.input_limit c.in-InputLimit.is)

@@ -1,0 +1,9 @@
+//! A query stands on one position of the history: every shard is pinned there, and a source is opened on each version.
+//! Nothing else of the desk changes, and upkeep rises by at most the entries that the shards were behind.
+#![tactic(auto)]
+
+mod opening;
+mod pinning;
+
+pub use opening::{Opened, open_range};
+pub use pinning::{Pinned, pin_all};

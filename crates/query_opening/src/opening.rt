@@ -1,0 +1,115 @@
+//! What a range query stands on.
+
+ghost use Rattle.std.specs.Prelude.{◌≡◌, ℕ, ◌+◌, ◌<◌, ◌≤◌, length, map, slice_index_or, sum, take, IfOk};
+ghost use Rattle.std.specs.List.{AllByRecursion};
+ghost use Rattle.hamming_model.specs.Codes.{StandsFor};
+ghost use Rattle.hamming_model.specs.declared.limits.TheConstants.{ROOM_MOST, SHARDS_MOST, WORDS_MOST};
+ghost use Rattle.shard_version.specs.Contents.{Contents};
+ghost use Rattle.hit_source.specs.Sources.{IsFresh};
+ghost use Rattle.session_desk.specs.Calls.{KeepsKnown};
+ghost use Rattle.session_desk.specs.Desks.{IsDesk};
+ghost use Rattle.query_opening.specs.Opening.{AreRangesOn, MayBeAsked, OpensRange};
+ghost use Rattle.query_opening.specs.Pinning.{ComesOn, behind, contents_of_all};
+
+use crate::pinning::pin_all;
+use gph_codes::Code;
+use hamming_model::shards_together_answer;
+use hit_source::HitSource;
+use read_meter::{NoMemory, Steps};
+use session_desk::Desk;
+use shard_query::RangeTask;
+use shard_version::Version;
+use std::alloc::Global;
+use std::sync::Arc;
+
+/// A source for each shard, in the order of their numbers, at one position, and how many rows there are at it.
+#[derive(Drop)]
+pub struct Opened<const W: usize> {
+    pub sources: Vec<RangeTask<W>>,
+    pub position: u64,
+    pub rows: u64,
+}
+
+/// Opens what a range query stands on: pins every shard at a front of its own, which it closes, and opens a source on each version.
+///
+/// # Errors
+///
+/// `NoMemory` where there is none for the front, a version or a source. Some shards may have come on.
+pub fn open_range<const W: usize, D: Desk<W>, M>(
+    alloc: Global,
+    desk: &mut D,
+    query: Code<W>,
+    tau: u32,
+    room: usize,
+    steps: &mut Steps<M>,
+) -> Result<Opened<W>, NoMemory>
+    requires code { StandsFor W (D.desk desk.old).config.bits query (take (D.desk desk.old).config.bits query) }
+    requires near { tau ≤ (D.desk desk.old).config.bits }
+    requires some_room { 1 ≤ room }
+    requires small_room { room ≤ ROOM_MOST }
+    // Every shard has a source at one position.
+    ensures opened { IfOk result (λ opened. OpensRange
+        ⟦<RangeTask<W> as HitSource>⟧.asked ⟦<RangeTask<W> as HitSource>⟧.standing
+        (D.desk desk.old) (D.desk desk.new) opened.position opened.rows
+        (take (D.desk desk.old).config.bits query.entry) tau room opened.sources.items) }
+    ensures fresh { IfOk result (λ opened.
+        AllByRecursion (λ source. IsFresh (⟦<RangeTask<W> as HitSource>⟧.standing source)) opened.sources.items) }
+    // In any case the desk is as before but for what it saw and how far its shards came.
+    ensures comes { ComesOn (D.desk desk.old) (D.desk desk.new) }
+    ensures known { KeepsKnown (D.desk desk.new) (D.knows desk.old) (D.knows desk.new) }
+    ensures upkeep { steps.new ≤ steps.old
+        + behind (D.desk desk.old).pins (length (D.desk desk.new).seen) (D.desk desk.old).config.shards }
+    ensures desk { IsDesk W (D.desk desk.new) }
+{
+    shards_together_answer();
+    let pinned = pin_all(alloc, desk, steps)?;
+    let rows = row_count(&pinned.versions);
+    let sources = range_tasks(alloc, &pinned.versions, query, tau, room)?;
+    Ok(Opened {
+        sources,
+        position: pinned.position,
+        rows,
+    })
+}
+
+// A range query on each version.
+fn range_tasks<const W: usize>(
+    alloc: Global,
+    versions: &[Arc<Version<W>>],
+    query: Code<W>,
+    tau: u32,
+    room: usize,
+) -> Result<Vec<RangeTask<W>>, NoMemory>
+    requires few_words { W ≤ WORDS_MOST }
+    requires each { (i : ℕ) (version : Contents) → i < length versions.now
+        → MayBeAsked W query tau (slice_index_or (contents_of_all versions.now) i version) }
+    requires some_room { 1 ≤ room }
+    requires small_room { room ≤ ROOM_MOST }
+    ensures { IfOk result (λ tasks. AreRangesOn
+        ⟦<RangeTask<W> as HitSource>⟧.asked ⟦<RangeTask<W> as HitSource>⟧.standing
+        (contents_of_all versions.now) query.entry tau room tasks.items (length versions.now)) }
+{
+    let mut tasks = Vec::new(alloc);
+    for i in 0..versions.len() {
+        let Ok(version) = versions[i].clone() else {
+            return Err(NoMemory);
+        };
+        let task = RangeTask::open(alloc, version, query, tau, room)?;
+        let Ok(()) = tasks.push(task) else {
+            return Err(NoMemory);
+        };
+    }
+    Ok(tasks)
+}
+
+// How many rows all versions have.
+fn row_count<const W: usize>(versions: &[Arc<Version<W>>]) -> u64
+    requires { length versions.now ≤ SHARDS_MOST }
+    ensures { result ≡ sum (map (λ version. length version.rows) (contents_of_all versions.now)) }
+{
+    let mut rows = 0;
+    for i in 0..versions.len() {
+        rows += versions[i].rows();
+    }
+    rows
+}
