@@ -4,14 +4,19 @@
 
 use gph_session::{Outcome, run};
 use line_io::{Gathered, GatheredReader, GatheredWriter};
-use read_meter::Meters;
+use read_meter::{Meters, upkeep};
+use scatter_gather::NoGate;
 use std::env;
 use std::io::ErrorKind;
 use std::process::ExitCode;
 
-// The ledger on which the postings that are read are counted.
+// The ledgers on which the postings that are read are counted.
 #[derive(Drop)]
 struct Postings;
+
+// The ledger on which the entries that shards follow are counted.
+#[derive(Drop)]
+struct Upkeep;
 
 fn main(rt: HostRuntime) -> ExitCode {
     let outcome = outcome_of(&rt);
@@ -52,11 +57,15 @@ fn outcome_of(rt: &HostRuntime) -> Outcome {
     };
     let mut source = GatheredReader::new(rt.stdin(), &gathered);
     let mut sink = GatheredWriter::new(&gathered);
+    let mut steps = upkeep::<Upkeep, _>(rt);
     let outcome = run(
         rt.alloc(),
+        rt,
         words.as_slice(),
         &mut source,
         &mut sink,
+        &NoGate,
+        &mut steps,
         &mut meters,
     );
     if gathered.give_out().is_ok() {

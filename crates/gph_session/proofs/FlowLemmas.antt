@@ -1,96 +1,226 @@
 -- Lemmas on a session that goes on: one line more, the line that ends it, and the line whose reply is
 -- refused.
-use Rattle.std.proofs.Common.{◌≡◌, ℕ, ◌+◌, ◌≤◌, ◌<◌, true, false, cond, Option, Result, Ok}
-use Rattle.std.proofs.Common.{List, [], ◌∷◌, ◌++◌, length, take}
+use Rattle.std.proofs.Common.{◌≡◌, ℕ, ◌+◌, ◌-◌, ◌≤◌, ◌<◌, min, true, false, cond, Option, Result, Ok, Bool}
+use Rattle.std.proofs.Common.{List, [], ◌∷◌, ◌++◌, length, take, drop}
 use Rattle.std.proofs.Common.{refl, sym, ap, ◌∙◌, subst, arith, append_assoc, append-nil}
 use Rattle.std.specs.List.{AllByRecursion}
 use Rattle.std.specs.Io.KnownBytes.{Appends}
 use Rattle.std.proofs.lemmas.List.{map_push, length-map}
+use Rattle.std.proofs.lemmas.List.Sums.{sum_by-append}
+use Rattle.std.proofs.Math.Seq.{drop-append_seam}
 use Rattle.line_io.specs.Cut.{held_of}
 use Rattle.line_io.specs.Lines.{ended_lines, unended}
 use Rattle.line_io.specs.declared.source.Failed.{Failed}
 use Rattle.line_io.proofs.LinesLemmas.{ended_lines-append, unended-append}
 use Rattle.hamming_model.specs.History.{JournalEntry}
 use Rattle.part_layout.specs.declared.config.Config.{Config}
-use Rattle.shard_version.specs.Contents.{Contents}
-use Rattle.query_protocol.specs.Requests.{reading}
+use Rattle.query_protocol.specs.Lines.{reading}
 use Rattle.query_protocol.specs.Replies.{text}
-use Rattle.session_model.specs.State.{Query, State}
+use Rattle.session_desk.specs.Desks.{DeskState, seen_history}
+use Rattle.session_model.specs.State.{Query, State, open_queries}
 use Rattle.session_model.specs.Entries.{Exchange}
-use Rattle.session_model.specs.Ledger.{Rise, column, readings_of}
-use Rattle.session_model.specs.Run.{Run, IsAlone, IsRunAlone, first_session}
+use Rattle.session_model.specs.Ledger.{Ledgers, Rise, RisesBy, column, readings_of, IsBounded}
+use Rattle.session_model.specs.Upkeep.{all_vain_steps, vain_steps, entries_beyond}
+use Rattle.session_model.specs.Run.{Run, IsAlone, IsServedAlone, entries_by, is_answered, requests_of}
 use Rattle.session_model.specs.Run.{commit_of, commits, lines_of, asks_quit, before_quit, has_quit}
 use Rattle.session_model.proofs.RunLemmas.{run_more, commits_more, written_more, own_commits}
 use Rattle.session_model.proofs.RunLemmas.{before_answered, quit_answered, before_more, quit_more}
-use Rattle.gph_session.specs.declared.open_query.OpenQuery.{OpenQuery}
-use Rattle.gph_session.specs.declared.session.Turn.{Turn}
-use Rattle.gph_session.specs.declared.session.Turn.TheVariants.{Goes}
-use Rattle.gph_session.specs.Meaning.{MeansBy, IsSettled}
-use Rattle.gph_session.specs.Flow.{OneStep, GoesOn, Raises, HasServed, HasEnded, WasRefused}
-use Rattle.gph_session.proofs.BoundLemmas.{all_bounded}
+use Rattle.gph_session.specs.declared.turn.Turn.{Turn}
+use Rattle.gph_session.specs.declared.turn.Turn.TheVariants.{Goes}
+use Rattle.gph_session.specs.Sessions.{IsServed, KeepsDesk, state_of, pins_of}
+use Rattle.gph_session.specs.Moments.{Moment, ReadsTo, Spends}
+use Rattle.gph_session.specs.Meaning.{Means, IsSettled, AllKeep}
+use Rattle.gph_session.specs.Flow.{OneLine, Start, HasRun, GoesOn, HasServed, HasEnded, WasRefused}
+use Rattle.gph_session.specs.Flow.{Stands, counted, history_after}
+use Rattle.gph_session.proofs.MomentLemmas.{reads_then, spends_then, vain_more, as_long}
 
 -- ---- what a state's queries have read
 
--- what the queries of a state have read
-abbrev pub rise_of : State → Rise
-rise_of s = record { readings = readings_of s.queries; upkeep = 0 }
+-- what the queries of a state have read, and the steps of upkeep
+abbrev pub rise_of : State → ℕ → Rise
+rise_of s steps = record { readings = readings_of s.queries; upkeep = steps }
 
-single_rows : (config : Config) (history : List JournalEntry) (queries : List Query)
-    → config.shards ≡ 1 → AllByRecursion (IsSettled config history) queries
-    → AllByRecursion (λ row. length row ≡ 1) (readings_of queries)
-single_rows config history [] one settled = tt
-single_rows config history (query ∷ queries) one settled =
-    (settled.0.bounded.number ∙ one, single_rows config history queries one settled.1)
+all_bounded : (config : Config) (history : List JournalEntry) (queries : List Query)
+    → AllByRecursion (IsSettled config history) queries
+    → AllByRecursion (IsBounded config history) queries
+all_bounded config history [] settled = tt
+all_bounded config history (query ∷ queries) settled =
+    (settled.0.bounded, all_bounded config history queries settled.1)
 
-raises_to : (config : Config) (history : List JournalEntry) (s : State) (from to : ℕ)
-    → config.shards ≡ 1 → AllByRecursion (IsSettled config history) s.queries
-    → to ≡ from + column 0 (readings_of s.queries) → Raises from to (rise_of s)
-raises_to config history s from to one settled rises =
-    record { first = rises; no_other = single_rows config history s.queries one settled }
+-- behind a front there is what follows it
+drop_front : (front rest : List JournalEntry) (number : ℕ) → number ≡ length front
+    → drop number (front ++ rest) ≡ rest
+drop_front front rest number same =
+    ap (λ n. drop n (front ++ rest)) same ∙ drop-append_seam front rest
 
--- a run from the start of a server, in the history of what it commits
-abbrev run_alone : (config : Config) (exchanges : List Exchange) (s : State)
-    → ((later : List JournalEntry) → Run (IsAlone config) config (commits 0 config exchanges ++ later)
-    (first_session config) exchanges s)
-    → AllByRecursion (IsSettled config (commits 0 config exchanges)) s.queries
-    → IsRunAlone config exchanges (rise_of s)
-run_alone config exchanges s run settled = record {
-  last = s;
-  solo = record {
-    begins = refl;
-    session = record {
-      run = subst (λ h. Run (IsAlone config) config h (first_session config) exchanges s)
-          (append-nil (commits 0 config exchanges)) (run []);
-      own = own_commits 0 config exchanges;
-    };
-  };
-  ledger = record {
-    readings = refl;
-    bounded = all_bounded config (commits 0 config exchanges) s.queries settled;
-    upkeep = refl;
-  };
+module _ {W : ℕ} (config : Config) (start : Start) (now : Moment W) (exchanges : List Exchange)
+    (state : State) (ran : HasRun config start now exchanges state) where
+  abbrev history : List JournalEntry
+  history = history_after start config exchanges
+
+  abbrev steps : ℕ
+  steps = now.ledgers.upkeep - start.ledgers.upkeep
+
+  pub run_here : Run (IsAlone config) config history (state_of start.desk) exchanges state
+  run_here = subst (λ h. Run (IsAlone config) config h (state_of start.desk) exchanges state)
+      (append-nil history) (ran.run [])
+
+  pub rises_here : RisesBy start.ledgers now.ledgers (rise_of state steps)
+  rises_here = record {
+    number = ran.reads.number;
+    each = λ ledger lt. omega (arith, ran.reads.each ledger lt);
+    steps = omega arith;
+  }
+
+  pub is_served : IsServed start.desk now.desk now.requests now.position config exchanges
+      (rise_of state steps)
+  is_served =
+      let who = start.desk.who in
+      let before = seen_history start.desk in
+      let seen_all : length now.desk.seen ≡ state.position =
+      sym (as_long now.desk) ∙ ap length (sym ran.means.history_is) ∙ sym ran.means.position in
+      record {
+        served = record {
+          last = state;
+          solo = record {
+            begins = sym (as_long start.desk);
+            session = record {
+              run = run_here;
+              own = ap (entries_by who)
+                  (drop_front before (commits who config exchanges) (length start.desk.seen)
+                  (sym (as_long start.desk)))
+                  ∙ own_commits who config exchanges;
+            };
+          };
+          ledger = record {
+            readings = refl;
+            bounded = all_bounded config history state.queries ran.settled;
+          };
+          upkeep =
+              let most = state.position in
+              let pins = pins_of start.desk in
+              omega (arith, ran.spent.within most (omega (arith, seen_all)));
+        };
+        seen = sym ran.means.history_is;
+        keeps = ran.keeps;
+        requests_are = ran.requests;
+        position_is = ran.position;
+      }
+
+keeps_then : (a b c : DeskState) → KeepsDesk a b → KeepsDesk b c → KeepsDesk a c
+keeps_then a b c one two = record {
+  board = two.board ∙ one.board;
+  who = two.who ∙ one.who;
+  config = two.config ∙ one.config;
+  fronts = two.fronts ∙ one.fronts;
+  done = two.done ∙ one.done;
+  late = two.late ∙ one.late;
+  alone = two.alone ∙ one.alone;
+  layouts = two.layouts ∙ one.layouts;
 }
 
-module _ (W : ℕ) (config : Config) (from now : ℕ) (bytes output : List ℕ) (version : Contents)
-    (cursors : List (OpenQuery W)) (begun : Option (List ℕ)) (one_shard : config.shards ≡ 1)
-    (going : GoesOn W config from now bytes output version cursors begun) where
-  -- what was committed so far
-  abbrev past : List JournalEntry
-  past = commits 0 config going.exchanges
+-- ---- one exchange more
 
-  run_so_far : Run (IsAlone config) config past (first_session config) going.exchanges going.state
-  run_so_far =
-      subst (λ h. Run (IsAlone config) config h (first_session config) going.exchanges going.state)
-      (append-nil past) (going.run [])
+requests_more : (config : Config) (exchanges : List Exchange) (e : Exchange) (line : List ℕ)
+    → e.line ≡ line → requests_of config (exchanges ++ e ∷ [])
+    ≡ requests_of config exchanges + cond (is_answered (reading config line)) 1 0
+requests_more config exchanges e line same =
+    let Counts = λ (x : Exchange). cond (is_answered (reading config x.line)) 1 0 in
+    let both = sum_by-append Counts exchanges (e ∷ []) in
+    omega (arith, both, ap {B = ℕ} (λ l. cond (is_answered (reading config l)) 1 0) same)
+
+counted_once : (asked : Bool) (number : ℕ)
+    → (cond asked (min (min number 18446744073709551615 + 1) 18446744073709551615) (min number 18446744073709551615))
+    ≡ min (number + cond asked 1 0) 18446744073709551615
+counted_once true number = omega arith
+counted_once false number = omega arith
+
+module _ {W : ℕ} (config : Config) (start : Start) (now : Moment W) (exchanges : List Exchange)
+    (state : State) (ran : HasRun config start now exchanges state) (line : List ℕ)
+    (before after : Option (List ℕ)) (result : Result Turn Failed) (next : Moment W)
+    (one : OneLine {A = Turn} W config (history_after start config exchanges) state line before after
+    result now next) where
+  -- the exchanges with this one
+  abbrev all : List Exchange
+  all = exchanges ++ one.step.exchange ∷ []
+
+  abbrev who : ℕ
+  who = start.desk.who
+
+  same_who : state.who ≡ who
+  same_who = ran.means.who ∙ ran.keeps.who
+
+  same_commit : commit_of state.who config one.step.exchange ≡ commit_of who config one.step.exchange
+  same_commit = ap (λ w. commit_of w config one.step.exchange) same_who
+
+  pub same_history : history_after start config all
+      ≡ history_after start config exchanges ++ commit_of state.who config one.step.exchange
+  same_history =
+      let before = seen_history start.desk in
+      ap (λ l. before ++ l) (commits_more who config exchanges one.step.exchange)
+      ∙ sym (append_assoc before (commits who config exchanges) (commit_of who config one.step.exchange))
+      ∙ ap (λ l. history_after start config exchanges ++ l) (sym same_commit)
+
+  pub ran_more : HasRun config start next all one.step.state
+  ran_more = record {
+    run = λ later.
+        let past = history_after start config exchanges in
+        let this = commit_of state.who config one.step.exchange in
+        let run = subst (λ h. Run (IsAlone config) config h (state_of start.desk) exchanges state)
+        (sym (append_assoc past this later)) (ran.run (this ++ later)) in
+        subst (λ h. Run (IsAlone config) config (h ++ later) (state_of start.desk) all one.step.state)
+        (sym same_history)
+        (run_more (IsAlone config) config ((past ++ this) ++ later) (state_of start.desk) exchanges
+        one.step.exchange state one.step.state run one.step.alone (one.step.step later));
+    reads = reads_then start.ledgers.reads now.ledgers.reads next.ledgers.reads [] state.queries
+        one.step.state.queries ran.reads one.step.reads;
+    spent = subst (Spends start.desk next.desk start.ledgers.upkeep next.ledgers.upkeep)
+        (sym (vain_more config.shards exchanges one.step.exchange))
+        (spends_then start.desk now.desk next.desk start.ledgers.upkeep now.ledgers.upkeep
+        next.ledgers.upkeep (all_vain_steps config.shards exchanges)
+        (vain_steps config.shards one.step.exchange.replies one.step.exchange.seen) ran.spent one.step.spent);
+    means = subst (λ h. Means config next.desk h one.step.state) (sym same_history) one.step.means;
+    settled = subst (λ h. AllByRecursion (IsSettled config h) one.step.state.queries) (sym same_history)
+        one.step.settled;
+    keeps = keeps_then start.desk now.desk next.desk ran.keeps one.step.keeps;
+    requests = one.requests ∙ ap (counted (reading config line)) ran.requests
+        ∙ counted_once (is_answered (reading config line)) (requests_of config exchanges)
+        ∙ ap (λ n. min n 18446744073709551615) (sym (requests_more config exchanges one.step.exchange line one.step.is_line));
+    position = one.step.position;
+  }
+
+-- ---- the lines so far
+
+module _ {W : ℕ} (config : Config) (start : Start) (now : Moment W) (bytes output : List ℕ)
+    (begun : Option (List ℕ)) (going : GoesOn config start now bytes output begun) where
+  abbrev past : List JournalEntry
+  past = history_after start config going.exchanges
+
+  abbrev so_far : List Exchange
+  so_far = going.exchanges
+
+  run_so_far : Run (IsAlone config) config past (state_of start.desk) so_far going.state
+  run_so_far = run_here config start now so_far going.state going.ran
+
+  abbrev rise_so_far : Rise
+  rise_so_far = rise_of going.state (now.ledgers.upkeep - start.ledgers.upkeep)
+
+  pub stands_here : Stands config now past going.state
+  stands_here = record {
+    means = going.ran.means;
+    settled = going.ran.settled;
+    keep = going.keep;
+    position = going.ran.position;
+  }
 
   -- the whole lines so far were answered
-  pub served_so_far : HasServed config (ended_lines [] bytes) output from now
+  pub served_so_far : HasServed config start now (ended_lines [] bytes) output
   served_so_far = record {
-    rise = rise_of going.state;
-    raises = raises_to config past going.state from now one_shard going.means.settled going.ledger;
+    rise = rise_so_far;
+    rises = rises_here config start now so_far going.state going.ran;
     answered = record {
-      exchanges = going.exchanges;
-      served = run_alone config going.exchanges going.state going.run going.means.settled;
+      exchanges = so_far;
+      served = is_served config start now so_far going.state going.ran;
       lines_are = going.lines_are;
       bytes_are = going.output_is;
     };
@@ -99,185 +229,156 @@ module _ (W : ℕ) (config : Config) (from now : ℕ) (bytes output : List ℕ) 
   -- none of them ends the session
   pub goes_on : has_quit config (ended_lines [] bytes) ≡ false
   goes_on =
-      ap (has_quit config) (sym going.lines_are ∙ sym (append-nil (lines_of going.exchanges)))
-      ∙ quit_answered (IsAlone config) config past (first_session config) going.exchanges going.state
-      run_so_far []
+      ap (has_quit config) (sym going.lines_are ∙ sym (append-nil (lines_of so_far)))
+      ∙ quit_answered (IsAlone config) config past (state_of start.desk) so_far going.state run_so_far []
 
   pub all_before_quit : before_quit config (ended_lines [] bytes) ≡ ended_lines [] bytes
   all_before_quit =
-      ap (before_quit config) (sym going.lines_are ∙ sym (append-nil (lines_of going.exchanges)))
-      ∙ before_answered (IsAlone config) config past (first_session config) going.exchanges going.state
-      run_so_far []
-      ∙ append-nil (lines_of going.exchanges) ∙ going.lines_are
+      ap (before_quit config) (sym going.lines_are ∙ sym (append-nil (lines_of so_far)))
+      ∙ before_answered (IsAlone config) config past (state_of start.desk) so_far going.state run_so_far []
+      ∙ append-nil (lines_of so_far) ∙ going.lines_are
 
   -- ---- one line more
 
-  module _ (line : List ℕ) (before after : Option (List ℕ)) (result : Result Turn Failed) (to : ℕ)
-      (version' : Contents) (cursors' : List (OpenQuery W))
-      (one : OneStep {A = Turn} W config past going.state line before after result now to version' cursors')
-    where
-      -- the exchanges with this one
-      abbrev all : List Exchange
-      all = going.exchanges ++ one.exchange ∷ []
+  module _ (line : List ℕ) (before after : Option (List ℕ)) (result : Result Turn Failed)
+      (next : Moment W)
+      (one : OneLine {A = Turn} W config past going.state line before after result now next) where
+    -- the exchanges with this one
+    abbrev with_one : List Exchange
+    with_one = so_far ++ one.step.exchange ∷ []
 
-      same_commits : commits 0 config all ≡ past ++ commit_of 0 config one.exchange
-      same_commits = commits_more 0 config going.exchanges one.exchange
+    ran_with : HasRun config start next with_one one.step.state
+    ran_with = ran_more config start now so_far going.state going.ran line before after result next one
 
-      -- the run with this exchange, whatever comes later
-      run_one_more : (later : List JournalEntry) → Run (IsAlone config) config
-          (commits 0 config all ++ later) (first_session config) all one.state
-      run_one_more later =
-          let this = commit_of 0 config one.exchange in
-          let run = subst (λ h. Run (IsAlone config) config h (first_session config) going.exchanges going.state)
-          (sym (append_assoc past this later)) (going.run (this ++ later)) in
-          subst (λ h. Run (IsAlone config) config (h ++ later) (first_session config) all one.state)
-          (sym same_commits)
-          (run_more (IsAlone config) config ((past ++ this) ++ later) (first_session config) going.exchanges
-          one.exchange going.state one.state run one.alone (one.step later))
+    abbrev rise_with : Rise
+    rise_with = rise_of one.step.state (next.ledgers.upkeep - start.ledgers.upkeep)
 
-      settled_one_more : AllByRecursion (IsSettled config (commits 0 config all)) one.state.queries
-      settled_one_more =
-          subst (λ h. AllByRecursion (IsSettled config h) one.state.queries) (sym same_commits) one.settled
+    -- the lines with this one
+    lines_with : lines_of with_one ≡ ended_lines [] bytes ++ line ∷ []
+    lines_with =
+        map_push (λ (e : Exchange). e.line) so_far one.step.exchange
+        ∙ ap (λ l. l ++ one.step.exchange.line ∷ []) going.lines_are
+        ∙ ap (λ l. ended_lines [] bytes ++ l ∷ []) one.step.is_line
 
-      ledger_one_more : to ≡ from + column 0 (readings_of one.state.queries)
-      ledger_one_more = omega (arith, one.ledger, going.ledger)
-
-      raises_one_more : Raises from to (rise_of one.state)
-      raises_one_more =
-          raises_to config (commits 0 config all) one.state from to one_shard settled_one_more ledger_one_more
-
-      abbrev served_one_more : IsRunAlone config all (rise_of one.state)
-      served_one_more = run_alone config all one.state run_one_more settled_one_more
-
-      -- the lines with this one
-      lines_one_more : lines_of all ≡ ended_lines [] bytes ++ line ∷ []
-      lines_one_more =
-          map_push (λ (e : Exchange). e.line) going.exchanges one.exchange
-          ∙ ap (λ l. l ++ one.exchange.line ∷ []) going.lines_are
-          ∙ ap (λ l. ended_lines [] bytes ++ l ∷ []) one.is_line
-
-      pub refused_line : (taken : ℕ) → taken < length (text one.exchange.replies)
-          → (of_lines : List (List ℕ)) → of_lines ≡ ended_lines [] bytes ++ line ∷ []
-          → WasRefused config of_lines (output ++ take taken (text one.exchange.replies)) from to
-          (length (ended_lines [] bytes))
-      refused_line taken not_all of_lines is = record {
-        rise = rise_of one.state;
-        raises = raises_one_more;
-        refused = record {
-          answered = going.exchanges;
-          refused = one.exchange;
-          rest = [];
-          served = served_one_more;
-          lines_are = is ∙ ap (λ l. l ++ line ∷ []) (sym going.lines_are)
-              ∙ ap (λ l. lines_of going.exchanges ++ l ∷ []) (sym one.is_line);
-          taken = taken;
-          not_all = not_all;
-          output_is = ap (λ o. o ++ take taken (text one.exchange.replies)) going.output_is;
-        };
-        all_before =
-            let same : length (lines_of going.exchanges) ≡ length going.exchanges =
-            length-map going.exchanges (λ (e : Exchange). e.line) in
-            omega (arith, same, ap length going.lines_are);
-      }
+    pub refused_line : (taken : ℕ) → taken < length (text one.step.exchange.replies)
+        → (of_lines : List (List ℕ)) → of_lines ≡ ended_lines [] bytes ++ line ∷ []
+        → WasRefused config start next of_lines (output ++ take taken (text one.step.exchange.replies))
+        (length (ended_lines [] bytes))
+    refused_line taken not_all of_lines is = record {
+      rise = rise_with;
+      rises = rises_here config start next with_one one.step.state ran_with;
+      refused = record {
+        answered = so_far;
+        refused = one.step.exchange;
+        rest = [];
+        served = is_served config start next with_one one.step.state ran_with;
+        lines_are = is ∙ ap (λ l. l ++ line ∷ []) (sym going.lines_are)
+            ∙ ap (λ l. lines_of so_far ++ l ∷ []) (sym one.step.is_line);
+        taken = taken;
+        not_all = not_all;
+        output_is = ap (λ o. o ++ take taken (text one.step.exchange.replies)) going.output_is;
+      };
+      all_before =
+          let same : length (lines_of so_far) ≡ length so_far =
+          length-map so_far (λ (e : Exchange). e.line) in
+          omega (arith, same, ap length going.lines_are);
+    }
 
   -- ---- a line that was answered
 
-  module _ (line : List ℕ) (before after : Option (List ℕ)) (to : ℕ) (version' : Contents)
-      (cursors' : List (OpenQuery W))
-      (one : OneStep {A = Turn} W config past going.state line before after (Ok Goes) now to version' cursors')
-    where
-      pub goes_line : (piece : List ℕ) (begun' : Option (List ℕ))
-          → ended_lines (unended [] bytes) piece ≡ line ∷ []
-          → begun' ≡ held_of (unended (unended [] bytes) piece)
-          → (more : List ℕ) × Appends before after more
-          × GoesOn W config from to (bytes ++ piece) (output ++ more) version' cursors' begun'
-      goes_line piece begun' lines_are begun_is = (
-        text one.exchange.replies,
-        one.wrote,
-        record {
-          exchanges = going.exchanges ++ one.exchange ∷ [];
-          state = one.state;
-          run = run_one_more line before after (Ok Goes) to version' cursors' one;
-          lines_are = lines_one_more line before after (Ok Goes) to version' cursors' one
-              ∙ ap (λ l. ended_lines [] bytes ++ l) (sym lines_are) ∙ sym (ended_lines-append [] bytes piece);
-          output_is = ap (λ o. o ++ text one.exchange.replies) going.output_is
-              ∙ sym (written_more going.exchanges one.exchange);
-          ledger = ledger_one_more line before after (Ok Goes) to version' cursors' one;
-          means = subst (λ h. MeansBy W config version' cursors' h one.state)
-              (sym (same_commits line before after (Ok Goes) to version' cursors' one)) one.means;
-          begun_is = begun_is ∙ ap held_of (sym (unended-append [] bytes piece));
-        },
-      )
+  module _ (line : List ℕ) (before after : Option (List ℕ)) (next : Moment W)
+      (one : OneLine {A = Turn} W config past going.state line before after (Ok Goes) now next) where
+    pub goes_line : (piece : List ℕ) (begun' : Option (List ℕ))
+        → ended_lines (unended [] bytes) piece ≡ line ∷ []
+        → begun' ≡ held_of (unended (unended [] bytes) piece)
+        → (more : List ℕ) × Appends before after more
+        × GoesOn config start next (bytes ++ piece) (output ++ more) begun'
+    goes_line piece begun' lines_are begun_is = (
+      text one.step.exchange.replies,
+      one.step.wrote,
+      record {
+        exchanges = so_far ++ one.step.exchange ∷ [];
+        state = one.step.state;
+        ran = ran_with line before after (Ok Goes) next one;
+        keep = subst (λ h. AllKeep config h next.cursors (open_queries one.step.state.queries))
+            (sym (same_history config start now so_far going.state going.ran line before after (Ok Goes) next one))
+            one.step.keep;
+        lines_are = lines_with line before after (Ok Goes) next one
+            ∙ ap (λ l. ended_lines [] bytes ++ l) (sym lines_are) ∙ sym (ended_lines-append [] bytes piece);
+        output_is = ap (λ o. o ++ text one.step.exchange.replies) going.output_is
+            ∙ sym (written_more so_far one.step.exchange);
+        begun_is = begun_is ∙ ap held_of (sym (unended-append [] bytes piece));
+      },
+    )
 
-      -- where it is the last
-      pub served_last : (of_lines : List (List ℕ)) → of_lines ≡ ended_lines [] bytes ++ line ∷ []
-          → (more : List ℕ) × Appends before after more
-          × HasServed config (before_quit config of_lines) (output ++ more) from to
-      served_last of_lines is =
-          let all = going.exchanges ++ one.exchange ∷ [] in
-          let served = served_one_more line before after (Ok Goes) to version' cursors' one in
-          let same : lines_of all ≡ of_lines =
-          lines_one_more line before after (Ok Goes) to version' cursors' one ∙ sym is in
-          let answered = before_answered (IsAlone config) config (commits 0 config all) (first_session config)
-          all one.state served.solo.session.run [] in (
-            text one.exchange.replies,
-            one.wrote,
-            record {
-              rise = rise_of one.state;
-              raises = raises_one_more line before after (Ok Goes) to version' cursors' one;
-              answered = record {
-                exchanges = all;
-                served = served;
-                lines_are = sym (ap (before_quit config) (sym same ∙ sym (append-nil (lines_of all)))
-                    ∙ answered ∙ append-nil (lines_of all));
-                bytes_are = ap (λ o. o ++ text one.exchange.replies) going.output_is
-                    ∙ sym (written_more going.exchanges one.exchange);
-              };
-            },
-          )
+    -- where it is the last
+    pub served_last : (of_lines : List (List ℕ)) → of_lines ≡ ended_lines [] bytes ++ line ∷ []
+        → (more : List ℕ) × Appends before after more
+        × HasServed config start next (before_quit config of_lines) (output ++ more)
+    served_last of_lines is =
+        let all = so_far ++ one.step.exchange ∷ [] in
+        let ran = ran_with line before after (Ok Goes) next one in
+        let same : lines_of all ≡ of_lines =
+        lines_with line before after (Ok Goes) next one ∙ sym is in
+        let answered = before_answered (IsAlone config) config (history_after start config all)
+        (state_of start.desk) all one.step.state (run_here config start next all one.step.state ran) [] in (
+          text one.step.exchange.replies,
+          one.step.wrote,
+          record {
+            rise = rise_with line before after (Ok Goes) next one;
+            rises = rises_here config start next all one.step.state ran;
+            answered = record {
+              exchanges = all;
+              served = is_served config start next all one.step.state ran;
+              lines_are = sym (ap (before_quit config) (sym same ∙ sym (append-nil (lines_of all)))
+                  ∙ answered ∙ append-nil (lines_of all));
+              bytes_are = ap (λ o. o ++ text one.step.exchange.replies) going.output_is
+                  ∙ sym (written_more so_far one.step.exchange);
+            };
+          },
+        )
 
   -- ---- the line that ends the session
 
-  pub ended_line : (line : List ℕ) (to : ℕ) → asks_quit (reading config line) ≡ true → to ≡ now
-      → (of_lines : List (List ℕ)) → of_lines ≡ ended_lines [] bytes ++ line ∷ []
-      → HasEnded config of_lines output from to
-  ended_line line to quits still of_lines is =
-      let same : of_lines ≡ lines_of going.exchanges ++ line ∷ [] =
+  pub ended_line : (line : List ℕ) (next : Moment W) → asks_quit (reading config line) ≡ true
+      → next ≡ now → (of_lines : List (List ℕ)) → of_lines ≡ ended_lines [] bytes ++ line ∷ []
+      → HasEnded config start next of_lines output
+  ended_line line next quits still of_lines is =
+      let same : of_lines ≡ lines_of so_far ++ line ∷ [] =
       is ∙ ap (λ l. l ++ line ∷ []) (sym going.lines_are) in
-      record {
+      subst (λ m. HasEnded config start m of_lines output) (sym still) (record {
         quits = ap (has_quit config) same
-            ∙ quit_answered (IsAlone config) config past (first_session config) going.exchanges going.state
-            run_so_far (line ∷ [])
+            ∙ quit_answered (IsAlone config) config past (state_of start.desk) so_far going.state run_so_far
+            (line ∷ [])
             ∙ ap (λ b. cond b true false) quits;
         served = record {
-          rise = rise_of going.state;
-          raises = raises_to config past going.state from to one_shard going.means.settled (still ∙ going.ledger);
+          rise = rise_so_far;
+          rises = rises_here config start now so_far going.state going.ran;
           answered = record {
-            exchanges = going.exchanges;
-            served = run_alone config going.exchanges going.state going.run going.means.settled;
+            exchanges = so_far;
+            served = is_served config start now so_far going.state going.ran;
             lines_are = sym (ap (before_quit config) same
-                ∙ before_answered (IsAlone config) config past (first_session config) going.exchanges
-                going.state run_so_far (line ∷ [])
-                ∙ ap (λ b. lines_of going.exchanges ++ cond b [] (line ∷ [])) quits
-                ∙ append-nil (lines_of going.exchanges));
+                ∙ before_answered (IsAlone config) config past (state_of start.desk) so_far going.state
+                run_so_far (line ∷ [])
+                ∙ ap (λ b. lines_of so_far ++ cond b [] (line ∷ [])) quits
+                ∙ append-nil (lines_of so_far));
             bytes_are = going.output_is;
           };
         };
-      }
+      })
 
   -- ---- bytes that end no line
 
   pub goes_bytes : (piece : List ℕ) (begun' : Option (List ℕ))
       → ended_lines (unended [] bytes) piece ≡ []
       → begun' ≡ held_of (unended (unended [] bytes) piece)
-      → GoesOn W config from now (bytes ++ piece) output version cursors begun'
+      → GoesOn config start now (bytes ++ piece) output begun'
   goes_bytes piece begun' none begun_is = record {
-    exchanges = going.exchanges;
+    exchanges = so_far;
     state = going.state;
-    run = going.run;
+    ran = going.ran;
+    keep = going.keep;
     output_is = going.output_is;
-    ledger = going.ledger;
-    means = going.means;
     lines_are = going.lines_are ∙ sym (append-nil (ended_lines [] bytes))
         ∙ ap (λ l. ended_lines [] bytes ++ l) (sym none) ∙ sym (ended_lines-append [] bytes piece);
     begun_is = begun_is ∙ ap held_of (sym (unended-append [] bytes piece));
@@ -285,12 +386,13 @@ module _ (W : ℕ) (config : Config) (from now : ℕ) (bytes output : List ℕ) 
 
 -- ---- what comes behind
 
-pub refused_more : (config : Config) (of_lines more : List (List ℕ)) (output : List ℕ)
-    (from to known fewer : ℕ) → fewer ≤ known → WasRefused config of_lines output from to known
-    → WasRefused config (of_lines ++ more) output from to fewer
-refused_more config of_lines more output from to known fewer le h = record {
+pub refused_more : {W : ℕ} (config : Config) (start : Start) (now : Moment W)
+    (of_lines more : List (List ℕ)) (output : List ℕ) (known fewer : ℕ) → fewer ≤ known
+    → WasRefused config start now of_lines output known
+    → WasRefused config start now (of_lines ++ more) output fewer
+refused_more config start now of_lines more output known fewer le h = record {
   rise = h.rise;
-  raises = h.raises;
+  rises = h.rises;
   refused = record {
     answered = h.refused.answered;
     refused = h.refused.refused;
@@ -305,10 +407,11 @@ refused_more config of_lines more output from to known fewer le h = record {
   all_before = omega (arith, le, h.all_before);
 }
 
-pub ended_more : (config : Config) (of_lines more : List (List ℕ)) (output : List ℕ) (from to : ℕ)
-    → HasEnded config of_lines output from to → HasEnded config (of_lines ++ more) output from to
-ended_more config of_lines more output from to h = record {
+pub ended_more : {W : ℕ} (config : Config) (start : Start) (now : Moment W)
+    (of_lines more : List (List ℕ)) (output : List ℕ) → HasEnded config start now of_lines output
+    → HasEnded config start now (of_lines ++ more) output
+ended_more config start now of_lines more output h = record {
   quits = quit_more config of_lines more h.quits;
-  served = subst (λ l. HasServed config l output from to)
+  served = subst (λ l. HasServed config start now l output)
       (sym (before_more config of_lines more h.quits)) h.served;
 }

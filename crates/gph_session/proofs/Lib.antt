@@ -1,17 +1,16 @@
-mod CursorLemmas
-mod LawLemmas
-mod VersionLemmas
-mod ShardLemmas
-mod BoundLemmas
-mod QueryLemmas
-mod WritingLemmas
-mod Here
-mod AddLemmas
-mod RangeLemmas
-mod NextLemmas
-mod AskLemmas
-mod GivingLemmas
-mod FlowLemmas
-mod BlockLemmas
-mod ServeLemmas
-mod TopLemmas
+pub mod MomentLemmas
+pub mod FlowLemmas
+pub mod BlockLemmas
+pub mod ServeLemmas
+pub mod Here
+pub mod QueryLemmas
+pub mod BoundLemmas
+pub mod NextLemmas
+pub mod AskLemmas
+pub mod CommitLemmas
+pub mod LookLemmas
+pub mod RangeLemmas
+pub mod FrameLemmas
+pub mod TurnLemmas
+pub mod TopLemmas
+pub mod OpeningLemmas

@@ -10,18 +10,21 @@ use Rattle.line_io.specs.Lines.{ended_lines, unended, last_line}
 use Rattle.line_io.specs.declared.source.Failed.{Failed}
 use Rattle.line_io.proofs.LinesLemmas.{ended_lines-append}
 use Rattle.part_layout.specs.declared.config.Config.{Config}
+use Rattle.session_desk.specs.Desks.{DeskState}
 use Rattle.session_model.specs.declared.limits.TheConstants.{BLOCK_MOST}
-use Rattle.session_model.specs.Run.{IsRunAlone, AnswersLines, has_quit}
-use Rattle.session_model.specs.Outcomes.{Ends, Transfers, before_last}
+use Rattle.session_model.specs.Entries.{Exchange}
+use Rattle.session_model.specs.Ledger.{Ledgers, Rise}
+use Rattle.session_model.specs.Run.{AnswersLines, has_quit}
+use Rattle.session_model.specs.Outcomes.{Ends, EndsWith, Transfers, before_last}
 use Rattle.session_model.specs.Outcomes.{IsDone, IsReadFault, IsWriteFault, IsInputLimit}
 use Rattle.session_model.proofs.RunLemmas.{before_more, no_quit_in_front}
-use Rattle.gph_session.specs.declared.session.Session.{Session}
-use Rattle.gph_session.specs.declared.session.Turn.{Turn}
-use Rattle.gph_session.specs.declared.session.Turn.TheVariants.{Goes, Quits}
-use Rattle.gph_session.specs.Meaning.{contents_in}
-use Rattle.gph_session.specs.Flow.{GoesOn, HasAnswered, FlowIs, FlowsOn, EndIs, EndsOn}
+use Rattle.gph_session.specs.declared.turn.Turn.{Turn}
+use Rattle.gph_session.specs.declared.turn.Turn.TheVariants.{Goes, Quits}
+use Rattle.gph_session.specs.Sessions.{IsServed}
+use Rattle.gph_session.specs.Moments.{Moment}
+use Rattle.gph_session.specs.Flow.{Start, GoesOn, FlowIs, FlowsOn, EndIs, EndsOn}
 use Rattle.gph_session.specs.Flow.{HasEnded, HasServed, WasRefused}
-use Rattle.gph_session.specs.Serving.{Serves, EndsBy}
+use Rattle.gph_session.specs.Serving.{Serves}
 use Rattle.gph_session.proofs.FlowLemmas.{served_so_far, goes_on}
 use Rattle.gph_session.proofs.BlockLemmas.{no_fewer_lines}
 
@@ -91,34 +94,26 @@ length_read count room rest within =
 
 -- ---- the loop
 
-module _ {W : ℕ} (start old : Session W) {taken : ℕ}
-    (source0 sink0 : Ends) {source1 sink1 : Ends} {from now : ℕ} (one : start.config.shards ≡ 1) (same : old.config ≡ start.config)
-    (serves : Serves start.config old taken source0 source1 sink0 sink1 from now) where
-  -- what the session was asked to be
-  abbrev config : Config
-  config = start.config
+module _ {W : ℕ} (config : Config) (start : Start) (old : Moment W) (taken : ℕ)
+    (source0 sink0 source1 sink1 : Ends) (begun : Option (List ℕ))
+    (serves : Serves config start old taken source0 source1 sink0 sink1 begun) where
+  -- what makes a session of exchanges that end at a moment
+  abbrev Served : Moment W → Config → List Exchange → Rise → Type 0
+  Served now = IsServed start.desk now.desk now.requests now.position
 
   -- the lines so far were answered, and none of them ends the session
-  served : HasServed config (ended_lines [] serves.bytes) serves.output from now
-  served = served_so_far W config from now serves.bytes serves.output (contents_in old) old.queries.items
-      old.cutter.held one serves.goes
+  served : HasServed config start old (ended_lines [] serves.bytes) serves.output
+  served = served_so_far config start old serves.bytes serves.output begun serves.goes
 
   goes : has_quit config (ended_lines [] serves.bytes) ≡ false
-  goes = goes_on W config from now serves.bytes serves.output (contents_in old) old.queries.items
-      old.cutter.held one serves.goes
-
-  -- the same for what the session itself says
-  goes_here : HasAnswered old from now serves.bytes serves.output
-  goes_here =
-      subst (λ c. GoesOn W c from now serves.bytes serves.output (contents_in old) old.queries.items
-      old.cutter.held) (sym same) serves.goes
+  goes = goes_on config start old serves.bytes serves.output begun serves.goes
 
   pub read_fault : (source2 : Ends) → Keeps source1.bytes source2.bytes
       → Rose source1.faults source2.faults
-      → EndsBy (IsReadFault IsRunAlone config) source0 source2 sink0 sink1 from now
+      → EndsWith (IsReadFault (Served old) config) source0 source2 sink0 sink1 start.ledgers old.ledgers
   read_fault source2 keeps rose = record {
     rise = served.rise;
-    raises = served.raises;
+    rises = served.rises;
     ended = record {
       rose = rose_from source0.faults source1.faults source2.faults serves.no_read_failed rose;
       no_write_failed = serves.no_write_failed;
@@ -136,10 +131,10 @@ module _ {W : ℕ} (start old : Session W) {taken : ℕ}
 
   pub limit_reached : (source2 : Ends) (past : ℕ) → Consumes source1.bytes source2.bytes (past ∷ [])
       → source2.faults ≡ source1.faults → taken ≡ config.input
-      → EndsBy (IsInputLimit IsRunAlone config) source0 source2 sink0 sink1 from now
+      → EndsWith (IsInputLimit (Served old) config) source0 source2 sink0 sink1 start.ledgers old.ledgers
   limit_reached source2 past more steady full = record {
     rise = served.rise;
-    raises = served.raises;
+    rises = served.rises;
     ended = record {
       no_read_failed = steady ∙ serves.no_read_failed;
       no_write_failed = serves.no_write_failed;
@@ -154,19 +149,15 @@ module _ {W : ℕ} (start old : Session W) {taken : ℕ}
     };
   }
 
-  module _ (source2 sink2 : Ends) (to : ℕ) (no_read_failed : source2.faults ≡ source1.faults) where
+  module _ (source2 sink2 : Ends) (new : Moment W) (no_read_failed : source2.faults ≡ source1.faults) where
     -- ---- the end of the input
 
     module _ (none : Consumes source1.bytes source2.bytes []) (at_end : IsAtEnd source2.bytes)
-        (result : Result Turn Failed) (flows : EndsOn result old sink1.bytes sink2.bytes now to) where
+        (result : Result Turn Failed) (flows : EndsOn result config old new begun sink1.bytes sink2.bytes)
+        where
       ends : (more : List ℕ) × Appends sink1.bytes sink2.bytes more
-          × EndIs result config from to serves.bytes (serves.output ++ more)
-      ends =
-          let last = flows from serves.bytes serves.output goes_here in (
-            last.0,
-            last.1,
-            subst (λ c. EndIs result c from to serves.bytes (serves.output ++ last.0)) same last.2,
-          )
+          × EndIs result config start new serves.bytes (serves.output ++ more)
+      ends = flows start serves.bytes serves.output serves.goes
 
       moved_all : Transfers config.input source0 source2 sink0 sink2 serves.bytes (serves.output ++ ends.0)
       moved_all = record {
@@ -177,12 +168,12 @@ module _ {W : ℕ} (start old : Session W) {taken : ℕ}
       }
 
       pub done_at_end : (turn : Turn) → result ≡ Ok turn → sink2.faults ≡ sink1.faults
-          → EndsBy (IsDone IsRunAlone config) source0 source2 sink0 sink2 from to
+          → EndsWith (IsDone (Served new) config) source0 source2 sink0 sink2 start.ledgers new.ledgers
       done_at_end turn is steady =
-          let last = subst (λ r. EndIs r config from to serves.bytes (serves.output ++ ends.0)) is ends.2 in
+          let last = subst (λ r. EndIs r config start new serves.bytes (serves.output ++ ends.0)) is ends.2 in
           record {
             rise = last.rise;
-            raises = last.raises;
+            rises = last.rises;
             ended = record {
               no_read_failed = no_read_failed ∙ serves.no_read_failed;
               no_write_failed = steady ∙ serves.no_write_failed;
@@ -197,14 +188,14 @@ module _ {W : ℕ} (start old : Session W) {taken : ℕ}
           }
 
       pub refused_at_end : (failed : Failed) → result ≡ Err failed → Rose sink1.faults sink2.faults
-          → EndsBy (IsWriteFault IsRunAlone config) source0 source2 sink0 sink2 from to
+          → EndsWith (IsWriteFault (Served new) config) source0 source2 sink0 sink2 start.ledgers new.ledgers
       refused_at_end failed is rose =
-          let last = subst (λ r. EndIs r config from to serves.bytes (serves.output ++ ends.0)) is ends.2 in
+          let last = subst (λ r. EndIs r config start new serves.bytes (serves.output ++ ends.0)) is ends.2 in
           let few = subst (λ l. length (ended_lines [] (before_last l)) ≤ length (ended_lines [] serves.bytes))
           (append-nil serves.bytes) (no_more_before serves.bytes [] (omega arith)) in
           record {
             rise = last.rise;
-            raises = last.raises;
+            rises = last.rises;
             ended = record {
               no_read_failed = no_read_failed ∙ serves.no_read_failed;
               rose = rose_from sink0.faults sink1.faults sink2.faults serves.no_write_failed rose;
@@ -221,26 +212,18 @@ module _ {W : ℕ} (start old : Session W) {taken : ℕ}
     -- ---- one more block
 
     module _ (piece : List ℕ) (block : HasRead source1.bytes source2.bytes taken config.input piece)
-        (new : Session W) (result : Result Turn Failed)
-        (leads : FlowsOn result old new piece sink1.bytes sink2.bytes now to) where
+        (begun' : Option (List ℕ)) (result : Result Turn Failed)
+        (leads : FlowsOn result config old new begun begun' piece sink1.bytes sink2.bytes) where
       flows : (more : List ℕ) × Appends sink1.bytes sink2.bytes more
-          × FlowIs result W config from to serves.bytes piece (serves.output ++ more) (contents_in new)
-          new.queries.items new.cutter.held
-      flows =
-          let next = leads from serves.bytes serves.output goes_here in (
-            next.0,
-            next.1,
-            subst (λ c. FlowIs result W c from to serves.bytes piece (serves.output ++ next.0)
-                (contents_in new) new.queries.items new.cutter.held) same next.2,
-          )
+          × FlowIs result config start new serves.bytes piece (serves.output ++ more) begun'
+      flows = leads start serves.bytes serves.output serves.goes
 
       -- the same by the result
       flowed : (expected : Result Turn Failed) → result ≡ expected
-          → FlowIs expected W config from to serves.bytes piece (serves.output ++ flows.0) (contents_in new)
-          new.queries.items new.cutter.held
+          → FlowIs expected config start new serves.bytes piece (serves.output ++ flows.0) begun'
       flowed expected is =
-          subst (λ r. FlowIs r W config from to serves.bytes piece (serves.output ++ flows.0)
-          (contents_in new) new.queries.items new.cutter.held) is flows.2
+          subst (λ r. FlowIs r config start new serves.bytes piece (serves.output ++ flows.0) begun') is
+          flows.2
 
       -- all that was read, and all that was written
       abbrev all : List ℕ
@@ -258,7 +241,7 @@ module _ {W : ℕ} (start old : Session W) {taken : ℕ}
       }
 
       pub serves_more : result ≡ Ok Goes → sink2.faults ≡ sink1.faults
-          → Serves config new (taken + length piece) source0 source2 sink0 sink2 from to
+          → Serves config start new (taken + length piece) source0 source2 sink0 sink2 begun'
       serves_more is steady = record {
         bytes = all;
         output = output;
@@ -272,12 +255,12 @@ module _ {W : ℕ} (start old : Session W) {taken : ℕ}
       }
 
       pub done_by_quit : result ≡ Ok Quits → sink2.faults ≡ sink1.faults
-          → EndsBy (IsDone IsRunAlone config) source0 source2 sink0 sink2 from to
+          → EndsWith (IsDone (Served new) config) source0 source2 sink0 sink2 start.ledgers new.ledgers
       done_by_quit is steady =
-          let ended : HasEnded config (ended_lines [] all) output from to = flowed (Ok Quits) is in
+          let ended : HasEnded config start new (ended_lines [] all) output = flowed (Ok Quits) is in
           record {
             rise = ended.served.rise;
-            raises = ended.served.raises;
+            rises = ended.served.rises;
             ended = record {
               no_read_failed = no_read_failed ∙ serves.no_read_failed;
               no_write_failed = steady ∙ serves.no_write_failed;
@@ -287,20 +270,20 @@ module _ {W : ℕ} (start old : Session W) {taken : ℕ}
               ended = inr ended.quits;
               goes_on = no_quit_before config serves.bytes piece block.few goes;
               answered =
-                  subst (λ l. AnswersLines (IsRunAlone config) l output ended.served.rise)
+                  subst (λ l. AnswersLines (Served new config) l output ended.served.rise)
                   (sym (before_more config (ended_lines [] all) (last_line (unended [] all)) ended.quits))
                   ended.served.answered;
             };
           }
 
       pub refused_in_block : (failed : Failed) → result ≡ Err failed → Rose sink1.faults sink2.faults
-          → EndsBy (IsWriteFault IsRunAlone config) source0 source2 sink0 sink2 from to
+          → EndsWith (IsWriteFault (Served new) config) source0 source2 sink0 sink2 start.ledgers new.ledgers
       refused_in_block failed is rose =
-          let last : WasRefused config (ended_lines [] all) output from to (length (ended_lines [] serves.bytes)) =
+          let last : WasRefused config start new (ended_lines [] all) output (length (ended_lines [] serves.bytes)) =
           flowed (Err failed) is in
           record {
             rise = last.rise;
-            raises = last.raises;
+            rises = last.rises;
             ended = record {
               no_read_failed = no_read_failed ∙ serves.no_read_failed;
               rose = rose_from sink0.faults sink1.faults sink2.faults serves.no_write_failed rose;

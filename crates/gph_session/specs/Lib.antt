@@ -1,8 +1,8 @@
 pub mod Cursors
-pub mod Writing
-pub mod GivenHits
-pub mod Asking
-pub mod Changing
+pub mod Sessions
+pub mod Moments
 pub mod Meaning
+pub mod Commits
+pub mod Opening
 pub mod Flow
 pub mod Serving

@@ -1,73 +1,62 @@
--- How the session's fields mean a state. No public clause cites this module.
-use Rattle.std.specs.Prelude.{◌≡◌, ℕ, ◌≤◌, true, false, None, List, [], ◌∷◌, length, take}
+-- How a desk and the cursors mean a state. No public clause cites this module.
+use Rattle.std.specs.Prelude.{◌≡◌, ℕ, ◌<◌, ◌≤◌, true, false, None, List, [], ◌∷◌, length, take}
+use Rattle.std.specs.Prelude.{slice_index_or, Option}
 use Rattle.std.specs.List.{AllByRecursion}
-use Rattle.std.specs.Arc.{arc_value}
-use Rattle.hamming_model.specs.declared.limits.TheConstants.{ENTRIES_MOST, ROOM_MOST}
-use Rattle.hamming_model.specs.Stored.{AreCodes}
-use Rattle.hamming_model.specs.History.{JournalEntry, rows_of}
-use Rattle.hamming_model.specs.Layouts.{IsLayout}
-use Rattle.hamming_model.specs.Scan.{Ask}
+use Rattle.hamming_model.specs.declared.limits.TheConstants.{ENTRIES_MOST, WORDS_MOST}
+use Rattle.hamming_model.specs.History.{JournalEntry}
+use Rattle.hamming_model.specs.Scan.{Ask, scan}
 use Rattle.hamming_model.specs.Scan as ask
-use Rattle.hit_source.specs.Sources.{Asked, IsLawful}
-use Rattle.shard_version.specs.Contents.{Contents}
-use Rattle.shard_query.specs.Opening.{AsksRange}
+use Rattle.hit_source.specs.Sources.{Asked}
+use Rattle.shard_query.specs.declared.range_task.RangeTask.{RangeTask}
+use Rattle.threshold_model.specs.Vectors.{IsChoice, IsLeast, row_counts}
 use Rattle.part_layout.specs.declared.config.Config.{Config}
-use Rattle.part_layout.specs.Contiguous.{contiguous}
-use Rattle.part_layout.specs.Laid.{Laid}
+use Rattle.part_layout.specs.Ranges.{IsConfig}
 use Rattle.gph_codes.specs.Allowed.{IsAllowed}
+use Rattle.query_protocol.specs.declared.request.Request.{Request}
+use Rattle.query_protocol.specs.declared.request.Request.TheVariants as request
+use Rattle.session_desk.specs.Desks.{DeskState, seen_history}
 use Rattle.session_model.specs.State.{Query, State, open_queries}
-use Rattle.session_model.specs.Ledger.{IsBounded}
-use Rattle.gph_session.specs.declared.open_query.OpenQuery.{OpenQuery}
-use Rattle.gph_session.specs.declared.session.Session.{Session}
-use Rattle.gph_session.specs.Cursors.{asked_in, standing_in}
-use Rattle.gph_session.specs.Changing.{HasFewRows}
+use Rattle.session_model.specs.Step.{AreLayouts}
+use Rattle.session_model.specs.Ledger.{IsBounded, layout_at, rows_at}
+use Rattle.gph_session.specs.Cursors.{Cursor, asks, reads_in}
+use Rattle.gph_session.specs.Sessions.{layouts_of}
 
--- the layout of a session's one shard
-abbrev pub starting_parts : Config → List (List ℕ)
-starting_parts config = contiguous config.bits config.parts
+-- a source is asked for all rows of a shard within a radius, in a layout of its codes
+pub record AsksWithin (rows : List (ℕ × List ℕ)) (layout : List (List ℕ)) (code : List ℕ) (tau : ℕ)
+    (a : Asked) : Type 0 where
+  pub hits : a.hits ≡ scan rows code tau
+  pub rows_are : a.rows ≡ length rows
+  pub few : length rows ≤ ENTRIES_MOST
+  pub vector : (given : Option ℕ) →
+      IsChoice (row_counts rows layout code) tau (length layout) (a.plan given).0
+  pub cost : (given : Option ℕ) →
+      IsLeast (row_counts rows layout code) tau (length layout) (a.plan given).1
+  pub bound : (given : Option ℕ) →
+      IsLeast (row_counts rows layout code) tau (length layout) (a.bound given)
 
--- the same with its number of bits
-abbrev pub starting_laid : Config → Laid
-starting_laid config = record { bits = config.bits; parts = starting_parts config }
-
--- the one shard of a session after a history
-abbrev pub shard_after : Config → List JournalEntry → Contents
-shard_after config history = record {
-  shard = 0;
-  shards = 1;
-  at = length history;
-  layout = starting_laid config;
-  rows = rows_of history;
-}
-
--- the contents of a session's version
-abbrev pub contents_in : {W : ℕ} → Session W → Contents
-contents_in session = (arc_value session.version).contents
-
--- what a source is asked is this question on the rows of a history
-abbrev pub AsksOn : Ask → Config → List JournalEntry → Asked → Type 0
-AsksOn (ask.Range tau code) config history asked =
-    AsksRange (shard_after config history) code tau config.room asked
-AsksOn (ask.Near number code) config history asked = ⊥
+-- a source is asked this question on the rows of a shard
+abbrev pub AsksOn : Ask → List (ℕ × List ℕ) → List (List ℕ) → Asked → Type 0
+AsksOn (ask.Range tau code) rows layout a = AsksWithin rows layout code tau a
+AsksOn (ask.Near number code) rows layout a = ⊥
 
 -- a cursor is this open query of the state, in a history
-pub record Keeps {W : ℕ} (config : Config) (history : List JournalEntry) (cursor : OpenQuery W)
+pub record Keeps {W : ℕ} (config : Config) (history : List JournalEntry) (cursor : Cursor W)
     (query : Query) : Type 0 where
   pub tag : cursor.tag ≡ query.tag
   pub within : query.position ≤ length history
-  pub asks : AsksOn query.ask config (take query.position history) (asked_in cursor)
-  pub few : length (asked_in cursor).hits ≤ ENTRIES_MOST
-  pub pinned : query.pinned ≡ starting_parts config ∷ []
-  pub given : cursor.given ≡ query.given
-  pub counted : cursor.given ≡ (standing_in cursor).given
+  pub pinned : AreLayouts config query.pinned
+  pub sources : length cursor.gather.sources ≡ config.shards
+  pub each_asks : (shard : ℕ) (d : RangeTask W) → shard < config.shards →
+      AsksOn query.ask (rows_at config history query shard) (layout_at query.pinned shard)
+      (asks (slice_index_or cursor.gather.sources shard d))
+  pub limit : cursor.gather.limit ≡ 18446744073709551615
+  pub given : cursor.gather.given ≡ query.given
   pub done : cursor.done ≡ query.done
-  pub lawful : IsLawful (asked_in cursor) (standing_in cursor)
-  pub ended : query.done ≡ true → (standing_in cursor).ended ≡ true
-  pub reads : query.reads ≡ (standing_in cursor).reads ∷ []
+  pub reads : query.reads ≡ reads_in cursor
   pub opened : query.closed ≡ false
 
 -- the cursors are these queries, in their order
-abbrev pub AllKeep : {W : ℕ} → Config → List JournalEntry → List (OpenQuery W) → List Query → Type 0
+abbrev pub AllKeep : {W : ℕ} → Config → List JournalEntry → List (Cursor W) → List Query → Type 0
 AllKeep config history [] [] = Unit {0}
 AllKeep config history [] (query ∷ queries) = ⊥
 AllKeep config history (cursor ∷ cursors) [] = ⊥
@@ -79,35 +68,30 @@ pub record IsSettled (config : Config) (history : List JournalEntry) (query : Qu
   pub within : query.position ≤ length history
   pub bounded : IsBounded config history query
 
--- the version and the cursors mean a state of a session that is alone, in the history so far
-pub record MeansBy (W : ℕ) (config : Config) (version : Contents) (cursors : List (OpenQuery W))
-    (history : List JournalEntry) (s : State) : Type 0 where
-  pub version_is : version ≡ shard_after config history
-  pub codes : AreCodes config.bits history
-  pub keep : AllKeep config history cursors (open_queries s.queries)
-  pub settled : AllByRecursion (IsSettled config history) s.queries
+-- a desk that is alone means a state of its session, in the history so far
+pub record Means (config : Config) (desk : DeskState) (history : List JournalEntry) (s : State)
+    : Type 0 where
+  pub config_is : desk.config ≡ config
+  pub alone : desk.alone ≡ true
+  pub history_is : history ≡ seen_history desk
   pub position : s.position ≡ length history
-  pub who : s.who ≡ 0
-  pub layouts : s.layouts ≡ starting_parts config ∷ []
+  pub who : s.who ≡ desk.who
+  pub layouts : s.layouts ≡ layouts_of desk
+  pub are_layouts : AreLayouts config s.layouts
   pub no_build : s.build ≡ None
 
--- a session means a state in a history
-abbrev pub Means : {W : ℕ} → Session W → List JournalEntry → State → Type 0
-Means {W} session history s =
-    MeansBy W session.config (contents_in session) session.queries.items history s
-
--- what a session was asked to be fits its words, and its version has the one shard's layout
-pub record IsReadyBy (W : ℕ) (config : Config) (version : Contents) : Type 0 where
+-- what a session was asked to be fits its words
+pub record IsReady (W : ℕ) (config : Config) : Type 0 where
+  pub few_words : W ≤ WORDS_MOST
   pub allowed : IsAllowed W config.bits
-  pub some_room : 1 ≤ config.room
-  pub small_room : config.room ≤ ROOM_MOST
-  pub few_entries : config.entries ≤ ENTRIES_MOST
-  pub alone : config.shards ≡ 1
-  pub one_shard : version.shards ≡ 1
-  pub few_rows : HasFewRows version
-  pub laid : version.layout ≡ starting_laid config
-  pub layout : IsLayout config.bits (starting_parts config)
+  pub is_config : IsConfig config
 
--- a session is so
-abbrev pub IsReady : {W : ℕ} → Session W → Type 0
-IsReady {W} session = IsReadyBy W session.config (contents_in session)
+-- a source stands behind each cursor for each shard
+abbrev pub HaveShards : {W : ℕ} → ℕ → List (Cursor W) → Type 0
+HaveShards {W} shards cursors =
+    AllByRecursion (λ cursor. length cursor.gather.sources ≡ shards) cursors
+
+-- a request that has an answer: all but `quit`
+abbrev pub IsAnswered : {W : ℕ} → Request W → Type 0
+IsAnswered request.Quit = ⊥
+IsAnswered other = Unit {0}

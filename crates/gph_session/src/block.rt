@@ -1,32 +1,73 @@
 //! Bytes as they come.
 
-ghost use Rattle.std.specs.Prelude.{◌≡◌, ◌<◌, ◌≤◌, length, take};
-ghost use Rattle.gph_session.specs.Meaning.{IsReady};
-ghost use Rattle.gph_session.specs.Writing.{IsCaused};
+ghost use Rattle.std.specs.Prelude.{◌≡◌, ◌<◌, ◌≤◌, length, take, true};
+ghost use Rattle.std.specs.Thread.{IsSync};
+ghost use Rattle.open_queries.specs.Writing.{IsCaused};
+ghost use Rattle.gph_session.specs.Meaning.{IsReady, HaveShards};
 ghost use Rattle.gph_session.specs.Flow.{FlowsOn, EndsOn};
+ghost use Rattle.gph_session.specs.Moments.{moment_of};
 
-use crate::session::{Session, Turn, answer};
+use crate::answer::answer;
+use crate::open_session::Session;
+use crate::turn::Turn;
 use line_io::{Failed, Sink};
-use read_meter::Steps;
+use part_layout::Config;
+use read_meter::{Meters, Steps};
+use scatter_gather::Gate;
+use session_desk::Desk;
+use std::alloc::Global;
+use std::thread::Threads;
 
 /// Answers the lines of a block, up to the first that ends the session.
-pub(crate) fn answer_block<const W: usize, K: Sink, L>(
+pub(crate) fn answer_block<
+    const W: usize,
+    D: Desk<W>,
+    K: Sink,
+    R: Threads + Sync,
+    G: Gate,
+    L: Send,
+    M,
+>(
+    alloc: Global,
+    rt: &R,
+    config: &Config,
     session: &mut Session<W>,
+    desk: &mut D,
     block: &[u8],
     sink: &mut K,
-    steps: &mut Steps<L>,
+    gate: &G,
+    upkeep: &mut Steps<M>,
+    meters: &mut Meters<L>,
 ) -> Result<Turn, Failed>
-    requires few_words { W ≤ 8 }
-    requires ready { IsReady session.old }
-    ensures flow { FlowsOn result session.old session.new block.now
-        (K.held sink.old) (K.held sink.new) steps.old steps.new }
-    ensures ready { IsReady session.new }
-    ensures config { session.new.config ≡ session.old.config }
+    requires sync { IsSync R.row }
+    requires ready { IsReady W config.now }
+    requires alone { (D.desk desk.old).alone ≡ true }
+    requires config { (D.desk desk.old).config ≡ config.now }
+    requires shards { HaveShards config.now.shards session.old.queries }
+    ensures flow { FlowsOn result config.now
+        (moment_of (D.desk desk.old) session.old meters.old upkeep.old)
+        (moment_of (D.desk desk.new) session.new meters.new upkeep.new)
+        session.old.cutter.held session.new.cutter.held block.now
+        (K.held sink.old) (K.held sink.new) }
+    ensures alone { (D.desk desk.new).alone ≡ true }
+    ensures config { (D.desk desk.new).config ≡ config.now }
+    ensures shards { HaveShards config.now.shards session.new.queries }
     ensures cause { IsCaused (K.faults sink.old) (K.faults sink.new) result }
 {
     let mut done = 0;
     while done < block.len() {
-        let (taken, turn) = answer_line(session, &block[done..], sink, steps);
+        let (taken, turn) = answer_line(
+            alloc,
+            rt,
+            config,
+            session,
+            desk,
+            &block[done..],
+            sink,
+            gate,
+            upkeep,
+            meters,
+        );
         match turn {
             Ok(Turn::Goes) => done += taken,
             Ok(Turn::Quits) => return Ok(Turn::Quits),
@@ -37,43 +78,82 @@ pub(crate) fn answer_block<const W: usize, K: Sink, L>(
 }
 
 // Takes the bytes up to and with the next LF, or all, and answers the line that they end: how many bytes, and how it goes on.
-fn answer_line<const W: usize, K: Sink, L>(
+fn answer_line<const W: usize, D: Desk<W>, K: Sink, R: Threads + Sync, G: Gate, L: Send, M>(
+    alloc: Global,
+    rt: &R,
+    config: &Config,
     session: &mut Session<W>,
+    desk: &mut D,
     bytes: &[u8],
     sink: &mut K,
-    steps: &mut Steps<L>,
+    gate: &G,
+    upkeep: &mut Steps<M>,
+    meters: &mut Meters<L>,
 ) -> (usize, Result<Turn, Failed>)
-    requires few_words { W ≤ 8 }
-    requires ready { IsReady session.old }
+    requires sync { IsSync R.row }
+    requires ready { IsReady W config.now }
+    requires alone { (D.desk desk.old).alone ≡ true }
+    requires config { (D.desk desk.old).config ≡ config.now }
+    requires shards { HaveShards config.now.shards session.old.queries }
     requires some { 0 < length bytes.now }
     ensures progress { (0 < result.0) × (result.0 ≤ length bytes.now) }
-    ensures flow { FlowsOn result.1 session.old session.new (take result.0 bytes.now)
-        (K.held sink.old) (K.held sink.new) steps.old steps.new }
-    ensures ready { IsReady session.new }
-    ensures config { session.new.config ≡ session.old.config }
+    ensures flow { FlowsOn result.1 config.now
+        (moment_of (D.desk desk.old) session.old meters.old upkeep.old)
+        (moment_of (D.desk desk.new) session.new meters.new upkeep.new)
+        session.old.cutter.held session.new.cutter.held (take result.0 bytes.now)
+        (K.held sink.old) (K.held sink.new) }
+    ensures alone { (D.desk desk.new).alone ≡ true }
+    ensures config { (D.desk desk.new).config ≡ config.now }
+    ensures shards { HaveShards config.now.shards session.new.queries }
     ensures cause { IsCaused (K.faults sink.old) (K.faults sink.new) result.1 }
 {
     let (taken, cut) = session.cutter.push(bytes);
     match cut {
         None => (taken, Ok(Turn::Goes)),
-        Some(cut) => (taken, answer(session, cut, sink, steps)),
+        Some(cut) => (
+            taken,
+            answer(
+                alloc, rt, config, session, desk, cut, sink, gate, upkeep, meters,
+            ),
+        ),
     }
 }
 
 /// Answers what follows the last LF, where the input has ended.
-pub(crate) fn answer_end<const W: usize, K: Sink, L>(
+pub(crate) fn answer_end<
+    const W: usize,
+    D: Desk<W>,
+    K: Sink,
+    R: Threads + Sync,
+    G: Gate,
+    L: Send,
+    M,
+>(
+    alloc: Global,
+    rt: &R,
+    config: &Config,
     session: &mut Session<W>,
+    desk: &mut D,
     sink: &mut K,
-    steps: &mut Steps<L>,
+    gate: &G,
+    upkeep: &mut Steps<M>,
+    meters: &mut Meters<L>,
 ) -> Result<Turn, Failed>
-    requires few_words { W ≤ 8 }
-    requires ready { IsReady session.old }
-    ensures flow { EndsOn result session.old (K.held sink.old) (K.held sink.new)
-        steps.old steps.new }
+    requires sync { IsSync R.row }
+    requires ready { IsReady W config.now }
+    requires alone { (D.desk desk.old).alone ≡ true }
+    requires config { (D.desk desk.old).config ≡ config.now }
+    requires shards { HaveShards config.now.shards session.old.queries }
+    ensures flow { EndsOn result config.now
+        (moment_of (D.desk desk.old) session.old meters.old upkeep.old)
+        (moment_of (D.desk desk.new) session.new meters.new upkeep.new)
+        session.old.cutter.held (K.held sink.old) (K.held sink.new) }
     ensures cause { IsCaused (K.faults sink.old) (K.faults sink.new) result }
 {
     match session.cutter.finish() {
         None => Ok(Turn::Goes),
-        Some(cut) => answer(session, cut, sink, steps),
+        Some(cut) => answer(
+            alloc, rt, config, session, desk, cut, sink, gate, upkeep, meters,
+        ),
     }
 }

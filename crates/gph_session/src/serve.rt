@@ -1,57 +1,100 @@
 //! A session from its first read to its end.
 
-ghost use Rattle.std.specs.Prelude.{◌≡◌, ◌≤◌, [], length};
+ghost use Rattle.std.specs.Prelude.{◌≡◌, ◌≤◌, [], length, true};
+ghost use Rattle.std.specs.Thread.{IsSync};
 ghost use Rattle.session_model.specs.declared.limits.TheConstants.{BLOCK_MOST};
+ghost use Rattle.session_model.specs.Ledger.{ledgers};
 ghost use Rattle.session_model.specs.Outcomes.{ends};
-ghost use Rattle.gph_session.specs.Meaning.{IsReady};
-ghost use Rattle.gph_session.specs.Flow.{HasAnswered};
+ghost use Rattle.gph_session.specs.Meaning.{IsReady, HaveShards};
+ghost use Rattle.gph_session.specs.Flow.{HasBegun};
+ghost use Rattle.gph_session.specs.Moments.{moment_of};
 ghost use Rattle.gph_session.specs.Serving.{EndsAs};
 
 use crate::block::{answer_block, answer_end};
-use crate::session::{Session, Turn};
+use crate::report::Status;
+use crate::open_session::Session;
+use crate::turn::Turn;
 use line_io::{Failed, Sink, Source};
-use read_meter::Steps;
-use session_model::{BLOCK_MOST, Outcome};
+use part_layout::Config;
+use read_meter::{Meters, Steps};
+use scatter_gather::Gate;
+use session_desk::Desk;
+use session_model::BLOCK_MOST;
+use std::alloc::Global;
+use std::thread::Threads;
 
 /// Reads and answers, at most the input's limit, until the input ends or a line ends the session.
-pub(crate) fn serve<const W: usize, S: Source, K: Sink, L>(
+pub(crate) fn serve<
+    const W: usize,
+    D: Desk<W>,
+    S: Source,
+    K: Sink,
+    R: Threads + Sync,
+    G: Gate,
+    L: Send,
+    M,
+>(
+    alloc: Global,
+    rt: &R,
+    config: &Config,
     session: &mut Session<W>,
+    desk: &mut D,
     block: &mut [u8],
     source: &mut S,
     sink: &mut K,
-    steps: &mut Steps<L>,
-) -> Outcome
-    requires few_words { W ≤ 8 }
-    requires ready { IsReady session.old }
+    gate: &G,
+    upkeep: &mut Steps<M>,
+    meters: &mut Meters<L>,
+) -> Status
+    requires sync { IsSync R.row }
+    requires ready { IsReady W config.now }
+    requires alone { (D.desk desk.old).alone ≡ true }
+    requires config { (D.desk desk.old).config ≡ config.now }
+    requires shards { HaveShards config.now.shards session.old.queries }
     requires room { length block.old ≡ BLOCK_MOST }
-    requires new { HasAnswered session.old steps.old steps.old [] [] }
-    ensures { EndsAs result session.old.config
+    requires new { HasBegun config.now
+        (moment_of (D.desk desk.old) session.old meters.old upkeep.old) session.old.cutter.held }
+    ensures { EndsAs result config.now (D.desk desk.old) (D.desk desk.new)
+        session.new.requests session.new.position
         (ends (S.left source.old) (S.faults source.old))
         (ends (S.left source.new) (S.faults source.new))
         (ends (K.held sink.old) (K.faults sink.old)) (ends (K.held sink.new) (K.faults sink.new))
-        steps.old steps.new }
+        (ledgers meters.old upkeep.old) (ledgers meters.new upkeep.new) }
 {
-    let limit = session.config.input;
+    let limit = config.input;
     let mut taken: u64 = 0;
     loop {
         let room = (limit - taken).clamp(1, BLOCK_MOST as u64) as usize;
         match source.read(&mut block[..room]) {
-            Err(Failed) => return Outcome::ReadFault,
+            Err(Failed) => return Status::ReadFault,
             Ok(0) => {
-                return match answer_end(session, sink, steps) {
-                    Ok(_) => Outcome::Done,
-                    Err(Failed) => Outcome::WriteFault,
+                return match answer_end(
+                    alloc, rt, config, session, desk, sink, gate, upkeep, meters,
+                ) {
+                    Ok(_) => Status::Done,
+                    Err(Failed) => Status::WriteFault,
                 };
             }
             Ok(count) => {
                 if taken == limit {
-                    return Outcome::InputLimit;
+                    return Status::InputLimit;
                 }
                 taken += count as u64;
-                match answer_block(session, &block[..count], sink, steps) {
+                match answer_block(
+                    alloc,
+                    rt,
+                    config,
+                    session,
+                    desk,
+                    &block[..count],
+                    sink,
+                    gate,
+                    upkeep,
+                    meters,
+                ) {
                     Ok(Turn::Goes) => {}
-                    Ok(Turn::Quits) => return Outcome::Done,
-                    Err(Failed) => return Outcome::WriteFault,
+                    Ok(Turn::Quits) => return Status::Done,
+                    Err(Failed) => return Status::WriteFault,
                 }
             }
         }

@@ -62,6 +62,12 @@ pub trait Desk<const W: usize> {
         ensures learns { OnlyLearns (desk self.old) (desk self.new) }
         ensures known { KeepsKnown (desk self.new) (knows self.old) (knows self.new) };
 
+    /// How many entries there are.
+    fn length(&mut self) -> u64
+        ensures length { result ≡ length (desk self.new).seen }
+        ensures learns { OnlyLearns (desk self.old) (desk self.new) }
+        ensures known { KeepsKnown (desk self.new) (knows self.old) (knows self.new) };
+
     /// A front at the length of all that is seen.
     ///
     /// # Errors

@@ -117,6 +117,10 @@ impl<const W: usize> Desk<W> for SoloDesk<W> {
         (self.journal.code_of(key), self.journal.length())
     }
 
+    fn length(&mut self) -> u64 {
+        self.journal.length()
+    }
+
     fn open_front(&mut self) -> Result<Front<W>, NoMemory> {
         journals_keep_the_rule();
         let front = self.journal.open_front(0)?;

@@ -7,12 +7,13 @@ use Rattle.hamming_model.specs.Scan.{Ask}
 use Rattle.hamming_model.specs.Scan as ask
 use Rattle.hamming_model.specs.declared.hit.Hit.{Hit}
 use Rattle.part_layout.specs.declared.config.Config.{Config}
-use Rattle.query_protocol.specs.Requests.{LineRequest, Add, Range, Next, Cost, Plan, Layout, Quit}
+use Rattle.query_protocol.specs.Requests.{LineRequest, Add, Del, Get, Range, Next, Cost, Plan}
+use Rattle.query_protocol.specs.Requests.{Cancel, Layout, Quit}
 use Rattle.query_protocol.specs.declared.bad.Bad.{Bad}
 use Rattle.session_model.specs.State.{Query, State, has_tag, query_of, replaced, open_queries}
 use Rattle.session_model.specs.Entries.{Exchange}
 use Rattle.session_model.specs.QuerySteps.{ReadsOn, given_more, new_query, most_open}
-use Rattle.session_model.specs.QuerySteps.{IfOpen, Gives, Costs, TellsPlan}
+use Rattle.session_model.specs.QuerySteps.{IfOpen, Gives, Costs, TellsPlan, Cancels, closed_query}
 use Rattle.session_model.specs.QuerySteps.{OpensUnlessMany, OpensUnlessUsed}
 use Rattle.session_model.specs.Step.{Answers, asked_by}
 use Rattle.session_model.specs.Run.{Run}
@@ -94,6 +95,16 @@ given_later query count hits reads on = record {
   reads_on = on;
 }
 
+closed_later : (query : Query) → IsLater query (closed_query query)
+closed_later query = record {
+  tag = refl;
+  position = refl;
+  ask = refl;
+  pinned = refl;
+  done = λ e. e;
+  reads_on = record { number = refl; no_less = λ shard. omega arith; stays = λ e. refl };
+}
+
 -- ---- each step
 
 same_later : (s t : State) → t ≡ s → AreLater s.queries t.queries
@@ -138,6 +149,13 @@ module _ (config : Config) (history : List JournalEntry) (s : State) (e : Exchan
   plans_later tag shard None h = same_later s t h.same
   plans_later tag shard (Some query) h = same_later s t h.same
 
+  cancels_later : (tag : List ℕ) (found : Option Query) → query_of tag s.queries ≡ found
+      → IfOpen found (Cancels tag) s e t → AreLater s.queries t.queries
+  cancels_later tag None is h = same_later s t h.same
+  cancels_later tag (Some query) is h =
+      subst (λ (u : State). AreLater s.queries u.queries) (sym h.closed)
+      (replaced_later tag query (closed_query query) s.queries is (closed_later query))
+
   answers_later : (asked : Result (Option LineRequest) Bad) → Answers asked config history s e t
       → AreLater s.queries t.queries
   answers_later (Err fault) h = same_later s t h.same
@@ -146,11 +164,17 @@ module _ (config : Config) (history : List JournalEntry) (s : State) (e : Exchan
   answers_later (Ok (Some (Add key code))) (inr (inl h)) = moved_later s t e.position h.position
   answers_later (Ok (Some (Add key code))) (inr (inr (inl h))) = moved_later s t e.position h.position
   answers_later (Ok (Some (Add key code))) (inr (inr (inr h))) = moved_later s t e.position h.position
+  answers_later (Ok (Some (Del key))) (inl h) = same_later s t h.same
+  answers_later (Ok (Some (Del key))) (inr (inl h)) = moved_later s t e.position h.position
+  answers_later (Ok (Some (Del key))) (inr (inr (inl h))) = moved_later s t e.position h.position
+  answers_later (Ok (Some (Del key))) (inr (inr (inr h))) = moved_later s t e.position h.position
+  answers_later (Ok (Some (Get key))) h = moved_later s t e.position h.position
   answers_later (Ok (Some (Range tag tau code))) h =
       opens_unused_later (query_of tag s.queries) history tag (ask.Range tau code) s e t h
   answers_later (Ok (Some (Next tag count))) h = gives_later tag count (query_of tag s.queries) refl h
   answers_later (Ok (Some (Cost tag))) h = costs_later tag (query_of tag s.queries) h
   answers_later (Ok (Some (Plan tag shard))) h = plans_later tag shard (query_of tag s.queries) h
+  answers_later (Ok (Some (Cancel tag))) h = cancels_later tag (query_of tag s.queries) refl h
   answers_later (Ok (Some (Layout shard))) h = same_later s t h.same
   answers_later (Ok (Some Quit)) h = absurd h
 

@@ -1,7 +1,9 @@
 -- What a line that changes nothing is told, and what becomes of an operation.
-use Rattle.std.specs.Prelude.{◌≡◌, ℕ, ◌-◌, ◌<◌, ◌≤◌, List, [], ◌∷◌, length, take, slice_get, Some}
-use Rattle.hamming_model.specs.History.{JournalEntry, Operation, Decision, Added, Taken, Full}
-use Rattle.hamming_model.specs.History.{decision_on}
+use Rattle.std.specs.Prelude.{◌≡◌, ℕ, ◌-◌, ◌<◌, ◌≤◌, List, [], ◌∷◌, length, take, slice_get}
+use Rattle.std.specs.Prelude.{Option, Some, None}
+use Rattle.hamming_model.specs.History.{JournalEntry, Operation, Decision}
+use Rattle.hamming_model.specs.History.{Added, Taken, Deleted, Absent, Full}
+use Rattle.hamming_model.specs.History.{code_at, decision_on, rows_of}
 use Rattle.hamming_model.specs.History as journal
 use Rattle.part_layout.specs.declared.config.Config.{Config}
 use Rattle.query_protocol.specs.Replies.{LineReply}
@@ -9,7 +11,7 @@ use Rattle.query_protocol.specs.Replies as reply
 use Rattle.session_model.specs.State.{State}
 
 -- a line, its replies, the position that they print or carry on, the layout of each shard as the
--- line saw it, and how many entries the session had seen before it
+-- line saw it, and how many entries the session had seen once it was answered
 pub record Exchange : Type 0 where
   pub line : List ℕ
   pub replies : List LineReply
@@ -57,7 +59,31 @@ abbrev pub RefusesTaken : Config → List JournalEntry → ℕ → List ℕ → 
 RefusesTaken config history key code s e t =
     Declines config history (journal.Add key code) Taken (reply.Taken key e.position) s e t
 
--- a refused add: as many entries stand as may
-abbrev pub Fills : Config → List JournalEntry → ℕ → List ℕ → State → Exchange → State → Type 0
-Fills config history key code s e t =
-    Declines config history (journal.Add key code) Full (reply.Full e.position) s e t
+-- an accepted deletion
+abbrev pub Deletes : Config → List JournalEntry → ℕ → State → Exchange → State → Type 0
+Deletes config history key s e t =
+    CommitsOperation config history (journal.Delete key) Deleted (reply.Deleted key e.position) s e t
+
+-- a refused deletion: no row has the key
+abbrev pub RefusesAbsent : Config → List JournalEntry → ℕ → State → Exchange → State → Type 0
+RefusesAbsent config history key s e t =
+    Declines config history (journal.Delete key) Absent (reply.Absent key e.position) s e t
+
+-- a refused operation: as many entries stand as may
+abbrev pub Fills : Config → List JournalEntry → Operation → State → Exchange → State → Type 0
+Fills config history operation s e t =
+    Declines config history operation Full (reply.Full e.position) s e t
+
+-- the code of a key at a position, or that there is none
+abbrev pub code_reply : ℕ → Option (List ℕ) → ℕ → LineReply
+code_reply key None at = reply.Absent key at
+code_reply key (Some code) at = reply.Code key code at
+
+-- the code of a key in the rows of a prefix no shorter than the last
+pub record Gets (history : List JournalEntry) (key : ℕ) (s : State) (e : Exchange) (t : State)
+    : Type 0 where
+  pub not_before : s.position ≤ e.position
+  pub within : e.position ≤ length history
+  pub said_is : e.replies
+      ≡ code_reply key (code_at (rows_of (take e.position history)) key) e.position ∷ []
+  pub position : t ≡ record s { position = e.position }

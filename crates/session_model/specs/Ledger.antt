@@ -76,20 +76,30 @@ pub record Rise : Type 0 where
 abbrev pub readings_of : List Query → List (List ℕ)
 readings_of queries = map (λ query. query.reads) queries
 
--- so much was read by these queries, each within its bounds, and there was no upkeep
+-- so much was read by these queries, each within its bounds
 pub record IsRise (config : Config) (history : List JournalEntry) (queries : List Query)
     (rise : Rise) : Type 0 where
   pub readings : rise.readings ≡ readings_of queries
   pub bounded : AllByRecursion (IsBounded config history) queries
-  pub upkeep : rise.upkeep ≡ 0
 
 -- the column of a shard: what all queries have read there
 abbrev pub column : ℕ → List (List ℕ) → ℕ
 column shard [] = 0
 column shard (row ∷ rows) = slice_index row shard + column shard rows
 
--- each ledger rises by the column of its shard, and those beyond the shards don't
-pub record RisesBy (old new : List ℕ) (rise : Rise) : Type 0 where
-  pub number : length new ≡ length old
-  pub each : (ledger : ℕ) → ledger < length old →
-      slice_index new ledger ≡ slice_index old ledger + column ledger rise.readings
+-- the ledgers of a server: what the queries read, by shard, and the steps of upkeep
+pub record Ledgers : Type 0 where
+  pub reads : List ℕ
+  pub upkeep : ℕ
+
+-- ledgers of these numbers
+abbrev pub ledgers : List ℕ → ℕ → Ledgers
+ledgers reads upkeep = record { reads = reads; upkeep = upkeep }
+
+-- each ledger of the queries rises by the column of its shard, and those beyond the shards don't;
+-- that of upkeep rises by its steps at most
+pub record RisesBy (old new : Ledgers) (rise : Rise) : Type 0 where
+  pub number : length new.reads ≡ length old.reads
+  pub each : (ledger : ℕ) → ledger < length old.reads → slice_index new.reads ledger
+      ≡ slice_index old.reads ledger + column ledger rise.readings
+  pub steps : new.upkeep ≤ old.upkeep + rise.upkeep

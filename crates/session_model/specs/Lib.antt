@@ -1,6 +1,7 @@
 pub mod State
 pub mod Ledger
 pub mod Entries
+pub mod Upkeep
 pub mod QuerySteps
 pub mod Step
 pub mod Run

@@ -11,7 +11,7 @@ use Rattle.session_model.specs.declared.outcome.Outcome.{Outcome}
 use Rattle.session_model.specs.declared.outcome.Outcome.TheVariants.{Done, Usage, NoMemory}
 use Rattle.session_model.specs.Entries.{Exchange}
 use Rattle.session_model.specs.Run.{IsRefused, AnswersLines, before_quit, has_quit}
-use Rattle.session_model.specs.Ledger.{Rise, RisesBy}
+use Rattle.session_model.specs.Ledger.{Ledgers, Rise, RisesBy}
 
 -- a source or a sink over a call: the bytes that it tells, and its count of faults
 pub record Ends : Type 0 where
@@ -23,10 +23,10 @@ abbrev pub ends : Option (List ℕ) → ℕ → Ends
 ends bytes faults = record { bytes = bytes; faults = faults }
 
 -- nothing was read or written, and no ledger rose
-pub record Untouched (source source' sink sink' : Ends) (ledgers ledgers' : List ℕ) : Type 0 where
+pub record Untouched (source source' sink sink' : Ends) (old new : Ledgers) : Type 0 where
   pub left : source' ≡ source
   pub held : sink' ≡ sink
-  pub none_rose : ledgers' ≡ ledgers
+  pub none_rose : new ≡ old
 
 -- bytes were read, so many at most, and bytes were written
 pub record Transfers (limit : ℕ) (source source' sink sink' : Ends) (bytes output : List ℕ)
@@ -102,12 +102,18 @@ IsWithin config input =
 abbrev pub IsDoneOrNoMemory : Outcome → Type 0
 IsDoneOrNoMemory outcome = (outcome ≡ Done) ⊎ (outcome ≡ NoMemory)
 
--- a fact of an ending and of how much the ledgers rose, for what the words asked for
+-- an ending, by how much the ledgers rose
+pub record EndsWith (P : Ends → Ends → Ends → Ends → Rise → Type 0)
+    (source source' sink sink' : Ends) (old new : Ledgers) : Type 0 where
+  pub rise : Rise
+  pub rises : RisesBy old new rise
+  pub ended : P source source' sink sink' rise
+
+-- an ending, for what the words asked for
 abbrev pub ForConfig : (Config → Ends → Ends → Ends → Ends → Rise → Type 0) → Result Config ℕ
-    → Ends → Ends → Ends → Ends → List ℕ → List ℕ → Type 0
-ForConfig P asked source source' sink sink' ledgers ledgers' =
-    (config : Config) × (rise : Rise) × (asked ≡ Ok config) × RisesBy ledgers ledgers' rise
-    × P config source source' sink sink' rise
+    → Ends → Ends → Ends → Ends → Ledgers → Ledgers → Type 0
+ForConfig P asked source source' sink sink' old new =
+    (config : Config) × (asked ≡ Ok config) × EndsWith (P config) source source' sink sink' old new
 
 -- within the limit and with no fault the call ends well, if memory doesn't lack
 abbrev pub IsComplete : Outcome → Result Config ℕ → Ends → Ends → Ends → Ends → Type 0

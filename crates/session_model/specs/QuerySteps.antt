@@ -112,6 +112,21 @@ pub record TellsPlan (config : Config) (history : List JournalEntry) (tag : List
   pub position : e.position ≡ s.position
   pub same : t ≡ s
 
+-- a query that is closed
+abbrev pub closed_query : Query → Query
+closed_query query = record query { closed = true }
+
+-- the end of a query of which so many hits were given, told by whether `done` was said
+abbrev pub end_reply : Bool → List ℕ → ℕ → LineReply
+end_reply done tag given = if done then reply.Closed tag given else reply.Cancelled tag given
+
+-- a query is closed, and its tag is free
+pub record Cancels (tag : List ℕ) (query : Query) (s : State) (e : Exchange) (t : State)
+    : Type 0 where
+  pub said_is : e.replies ≡ end_reply query.done tag query.given ∷ []
+  pub position : e.position ≡ s.position
+  pub closed : t ≡ record s { queries = replaced tag (closed_query query) s.queries }
+
 -- an answer on the open query of a tag, where it has one
 abbrev pub IfOpen
     : Option Query → (Query → State → Exchange → State → Type 0) → State → Exchange → State → Type 0

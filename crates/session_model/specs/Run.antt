@@ -1,13 +1,13 @@
 -- A whole session: its steps in one history, and what is written.
-use Rattle.std.specs.Prelude.{◌≡◌, ℕ, ◌+◌, ◌<◌, ◌==◌, Bool, true, false, if◌then◌else◌}
+use Rattle.std.specs.Prelude.{◌≡◌, ℕ, ◌+◌, ◌<◌, ◌≤◌, ◌==◌, Bool, true, false, if◌then◌else◌}
 use Rattle.std.specs.Prelude.{List, [], ◌∷◌, ◌++◌, length, map, take, drop, filter, replicate}
-use Rattle.std.specs.Prelude.{Option, Some, Result, Ok}
+use Rattle.std.specs.Prelude.{Option, Some, None, Result, Ok, count_by}
 use Rattle.std.specs.List.{flat_map}
 use Rattle.hamming_model.specs.History.{JournalEntry, Operation}
 use Rattle.hamming_model.specs.History as journal
 use Rattle.part_layout.specs.Contiguous.{contiguous}
 use Rattle.part_layout.specs.declared.config.Config.{Config}
-use Rattle.query_protocol.specs.Requests.{LineRequest, Add, Quit}
+use Rattle.query_protocol.specs.Requests.{LineRequest, Add, Del, Quit}
 use Rattle.query_protocol.specs.Replies.{text}
 use Rattle.query_protocol.specs.declared.bad.Bad.{Bad}
 use Rattle.query_protocol.specs.Replies.{LineReply}
@@ -16,6 +16,7 @@ use Rattle.session_model.specs.Entries.{Exchange}
 use Rattle.session_model.specs.Ledger.{Rise, IsRise}
 use Rattle.session_model.specs.State.{State, new_session}
 use Rattle.session_model.specs.Step.{Step, asked_by}
+use Rattle.session_model.specs.Upkeep.{most_upkeep}
 
 -- the exchanges are steps one after another, all in one history, and each meets a side condition
 abbrev pub Run : (State → Exchange → Type 0) → Config → List JournalEntry → State → List Exchange
@@ -27,6 +28,7 @@ Run At config history s (e ∷ exchanges) t =
 -- the operations that were accepted, by what a line asked and what it was told
 abbrev pub accepted : Result (Option LineRequest) Bad → List LineReply → List Operation
 accepted (Ok (Some (Add key code))) (reply.Added added at ∷ []) = journal.Add key code ∷ []
+accepted (Ok (Some (Del key))) (reply.Deleted deleted at ∷ []) = journal.Delete key ∷ []
 accepted asked replies = []
 
 -- what the session with this number committed, by what a line asked and what it was told
@@ -41,6 +43,16 @@ commit_of who config e = committed who (asked_by config e.line) e.replies
 -- all that the exchanges of a session committed
 abbrev pub commits : ℕ → Config → List Exchange → List JournalEntry
 commits who config exchanges = flat_map (commit_of who config) exchanges
+
+-- a line is answered unless it asks nothing: one with no word is skipped
+abbrev pub is_answered : Result (Option LineRequest) Bad → Bool
+is_answered (Ok None) = false
+is_answered asked = true
+
+-- how many of the exchanges answer a line
+abbrev pub requests_of : Config → List Exchange → ℕ
+requests_of config exchanges =
+    count_by (λ e. is_answered (asked_by config e.line)) exchanges
 
 -- the entries of a session
 abbrev pub entries_by : ℕ → List JournalEntry → List JournalEntry
@@ -59,7 +71,7 @@ pub record IsSession (At : State → Exchange → Type 0) (config : Config)
 pub record IsAlone (config : Config) (s : State) (e : Exchange) : Type 0 where
   pub position : e.position ≡ s.position + length (commit_of s.who config e)
   pub layouts : e.layouts ≡ s.layouts
-  pub seen : e.seen ≡ s.position
+  pub seen : e.seen ≡ e.position
 
 -- others may commit and give the shards other layouts
 abbrev pub IsAmongOthers : State → Exchange → Type 0
@@ -78,11 +90,18 @@ abbrev pub first_session : Config → State
 first_session config =
     new_session 0 0 (replicate config.shards (contiguous config.bits config.parts))
 
--- the exchanges are those of a first session that is alone, whose queries read so much
-pub record IsRunAlone (config : Config) (exchanges : List Exchange) (rise : Rise) : Type 0 where
+-- the exchanges are those of a session that is alone, whose shards had been pinned at these
+-- positions before it, and its queries and its upkeep read so much
+pub record IsServedAlone (config : Config) (before : List JournalEntry) (start : State)
+    (pins : List ℕ) (exchanges : List Exchange) (rise : Rise) : Type 0 where
   pub last : State
-  pub solo : IsSolo config [] (first_session config) exchanges last
-  pub ledger : IsRise config (commits 0 config exchanges) last.queries rise
+  pub solo : IsSolo config before start exchanges last
+  pub ledger : IsRise config (before ++ commits start.who config exchanges) last.queries rise
+  pub upkeep : rise.upkeep ≤ most_upkeep config.shards pins last.position exchanges
+
+-- the exchanges are those of a first session that is alone, whose queries and upkeep read so much
+abbrev pub IsRunAlone : Config → List Exchange → Rise → Type 0
+IsRunAlone config = IsServedAlone config [] (first_session config) (replicate config.shards 0)
 
 -- all that is written
 abbrev pub written_text : List Exchange → List ℕ

@@ -3,18 +3,21 @@ use Rattle.std.specs.Prelude.{◌≡◌, ℕ, ◌⊎◌, List, [], ◌∷◌, le
 use Rattle.std.specs.Prelude.{Option, Some, None, Result, Ok, Err}
 use Rattle.std.specs.List.{AllByRecursion}
 use Rattle.hamming_model.specs.History.{JournalEntry}
+use Rattle.hamming_model.specs.History as journal
 use Rattle.hamming_model.specs.Layouts.{IsLayout}
 use Rattle.hamming_model.specs.Scan as ask
 use Rattle.part_layout.specs.declared.config.Config.{Config}
 use Rattle.part_layout.specs.Text.{layout_text}
-use Rattle.query_protocol.specs.Requests.{LineRequest, Add, Range, Next, Cost, Plan, Layout, Quit}
-use Rattle.query_protocol.specs.Requests.{reading}
+use Rattle.query_protocol.specs.Requests.{LineRequest, Add, Del, Get, Range, Next, Cost, Plan}
+use Rattle.query_protocol.specs.Requests.{Cancel, Layout, Quit}
+use Rattle.query_protocol.specs.Lines.{reading}
 use Rattle.query_protocol.specs.declared.bad.Bad.{Bad}
 use Rattle.query_protocol.specs.Replies as reply
 use Rattle.session_model.specs.State.{State, query_of}
 use Rattle.session_model.specs.Ledger.{layout_at}
 use Rattle.session_model.specs.Entries.{Exchange, Stays, Refuses, Adds, RefusesTaken, Fills}
-use Rattle.session_model.specs.QuerySteps.{OpensUnlessUsed, Gives, Costs, TellsPlan, IfOpen}
+use Rattle.session_model.specs.Entries.{Deletes, RefusesAbsent, Gets}
+use Rattle.session_model.specs.QuerySteps.{OpensUnlessUsed, Gives, Costs, TellsPlan, Cancels, IfOpen}
 
 -- what a line asks of a session
 abbrev pub asked_by : Config → List ℕ → Result (Option LineRequest) Bad
@@ -28,7 +31,14 @@ Answers (Ok None) config history s e t = Stays [] s e t
 Answers (Ok (Some (Add key code))) config history s e t =
     Refuses s e t
     ⊎ (Adds config history key code s e t
-    ⊎ (RefusesTaken config history key code s e t ⊎ Fills config history key code s e t))
+    ⊎ (RefusesTaken config history key code s e t
+    ⊎ Fills config history (journal.Add key code) s e t))
+Answers (Ok (Some (Del key))) config history s e t =
+    Refuses s e t
+    ⊎ (Deletes config history key s e t
+    ⊎ (RefusesAbsent config history key s e t
+    ⊎ Fills config history (journal.Delete key) s e t))
+Answers (Ok (Some (Get key))) config history s e t = Gets history key s e t
 Answers (Ok (Some (Range tag tau code))) config history s e t =
     OpensUnlessUsed (query_of tag s.queries) history tag (ask.Range tau code) s e t
 Answers (Ok (Some (Next tag count))) config history s e t =
@@ -37,6 +47,8 @@ Answers (Ok (Some (Cost tag))) config history s e t =
     IfOpen (query_of tag s.queries) (Costs config history tag) s e t
 Answers (Ok (Some (Plan tag shard))) config history s e t =
     IfOpen (query_of tag s.queries) (TellsPlan config history tag shard) s e t
+Answers (Ok (Some (Cancel tag))) config history s e t =
+    IfOpen (query_of tag s.queries) (Cancels tag) s e t
 Answers (Ok (Some (Layout shard))) config history s e t =
     Stays (reply.Layout shard (layout_text (layout_at e.layouts shard)) ∷ []) s e t
 Answers (Ok (Some Quit)) config history s e t = ⊥

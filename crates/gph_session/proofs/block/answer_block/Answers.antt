@@ -2,7 +2,7 @@
 use Rattle.std.proofs.Common.{◌≡◌, ◌-◌, ◌++◌, length, take, drop}
 use Rattle.std.proofs.Common.{refl, ◌∙◌, subst, arith, rules}
 use Rattle.std.proofs.lemmas.List.{take_all, length-drop, length-take}
-use Rattle.gph_session.specs.Meaning.{contents_in}
+use Rattle.gph_session.specs.Moments.{moment_of}
 use Rattle.gph_session.specs.Flow.{GoesOn}
 use Rattle.gph_session.proofs.BlockLemmas.{goes_then, quits_then, refused_then, still_goes}
 use Rattle.gph_session.proofs.block.answer_block.Goals as goal
@@ -10,13 +10,12 @@ use Rattle.gph_session.proofs.block.answer_block.Goals as goal
 pub loop-done-init : goal.loop-done-init
 loop-done-init g c = record {
   within = omega arith;
-  config = search rules;
-  ready = c.requires.ready;
-  goes = λ from bytes output going.
-      let now = c.args.session.now in
-      still_goes g.row.W now.config from c.args.steps.now bytes output (contents_in now) now.queries.items
-      now.cutter.held c.requires.ready.alone going (g.K.Sink.held c.args.sink.now)
-      (g.K.Sink.held c.args.sink.now) (g.K.Sink.held c.args.sink.now);
+  alone = c.requires.alone;
+  config = c.requires.config;
+  shards = c.requires.shards;
+  goes = λ start bytes output going.
+      let held = g.K.Sink.held c.args.sink.now in
+      still_goes c.args.config.now start _ bytes output c.args.session.now.cutter.held going held held held;
   steady = refl;
 }
 
@@ -32,42 +31,44 @@ loop-done-preserved g c =
         length-take (length block - c.loop-done.done) (drop c.loop-done.done block),
         length-drop c.loop-done.done block,
       );
-      config = line.ensures.config ∙ i.config;
-      ready = line.ensures.ready;
-      goes = λ from bytes output going.
-          goes_then c.args.session.now c.loop-done.session line.new.session from c.loop-done.steps line.new.steps
-          c.loop-done.done line.result.0 block bytes output (g.K.Sink.held c.args.sink.now)
-          (g.K.Sink.held c.loop-done.sink) (g.K.Sink.held line.new.sink) i.config
-          (i.goes from bytes output going) line.result.1 line.ensures.flow (search rules);
+      alone = line.ensures.alone;
+      config = line.ensures.config;
+      shards = line.ensures.shards;
+      goes = λ start bytes output going.
+          goes_then c.args.config.now start _ _ c.loop-done.done line.result.0 block bytes output
+          (g.K.Sink.held c.args.sink.now) (g.K.Sink.held c.loop-done.sink) (g.K.Sink.held line.new.sink)
+          c.loop-done.session.cutter.held line.new.session.cutter.held (i.goes start bytes output going)
+          line.result.1 line.ensures.flow (search rules);
       steady = search rules;
     }
 
 pub returns-in-Ok-Quits-clause-flow : goal.returns-in-Ok-Quits-clause-flow
-returns-in-Ok-Quits-clause-flow g c = λ from bytes output going.
+returns-in-Ok-Quits-clause-flow g c = λ start bytes output going.
     let i = c.loop-done.invariant in
     let line = c.answer_line-taken in
-    quits_then c.args.session.now c.loop-done.session line.new.session from c.loop-done.steps line.new.steps
-    c.loop-done.done line.result.0 c.args.block.now bytes output (g.K.Sink.held c.args.sink.now)
-    (g.K.Sink.held c.loop-done.sink) (g.K.Sink.held line.new.sink) i.config (i.goes from bytes output going)
+    quits_then c.args.config.now start _ _ c.loop-done.done line.result.0 c.args.block.now bytes output
+    (g.K.Sink.held c.args.sink.now) (g.K.Sink.held c.loop-done.sink) (g.K.Sink.held line.new.sink)
+    c.loop-done.session.cutter.held line.new.session.cutter.held (i.goes start bytes output going)
     line.result.1 line.ensures.flow (search rules)
 
 pub returns-in-Err-clause-flow : goal.returns-in-Err-clause-flow
-returns-in-Err-clause-flow g c = λ from bytes output going.
+returns-in-Err-clause-flow g c = λ start bytes output going.
     let i = c.loop-done.invariant in
     let line = c.answer_line-taken in
-    refused_then c.args.session.now c.loop-done.session line.new.session from c.loop-done.steps line.new.steps
-    c.loop-done.done line.result.0 c.args.block.now bytes output (g.K.Sink.held c.args.sink.now)
-    (g.K.Sink.held c.loop-done.sink) (g.K.Sink.held line.new.sink) i.config (i.goes from bytes output going)
+    refused_then c.args.config.now start _ _ c.loop-done.done line.result.0 c.args.block.now bytes output
+    (g.K.Sink.held c.args.sink.now) (g.K.Sink.held c.loop-done.sink) (g.K.Sink.held line.new.sink)
+    c.loop-done.session.cutter.held line.new.session.cutter.held (i.goes start bytes output going)
     line.result.1 line.ensures.flow c.in-Err.field-0 c.in-Err.is
 
 pub returns-clause-flow : goal.returns-clause-flow
-returns-clause-flow g c = λ from bytes output going.
-    let now = c.loop-done.session in
+returns-clause-flow g c = λ start bytes output going.
+    let now = moment_of (g.D.Desk.desk c.loop-done.desk) c.loop-done.session c.loop-done.meters
+    c.loop-done.upkeep in
     let whole : take c.loop-done.done c.args.block.now ≡ c.args.block.now =
     take_all c.loop-done.done c.args.block.now (omega arith) in
-    let end = c.loop-done.invariant.goes from bytes output going in (
+    let end = c.loop-done.invariant.goes start bytes output going in (
       end.0,
       end.1,
-      subst (λ l. GoesOn g.row.W c.args.session.now.config from c.loop-done.steps (bytes ++ l) (output ++ end.0)
-          (contents_in now) now.queries.items now.cutter.held) whole end.2,
+      subst (λ l. GoesOn c.args.config.now start now (bytes ++ l) (output ++ end.0)
+          c.loop-done.session.cutter.held) whole end.2,
     )

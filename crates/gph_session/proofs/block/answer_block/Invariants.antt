@@ -1,19 +1,23 @@
-use Rattle.std.proofs.Common.{◌≡◌, ℕ, ◌≤◌, ◌-◌, List, ◌++◌, length, take}
+use Rattle.std.proofs.Common.{◌≡◌, ℕ, ◌≤◌, ◌-◌, true, List, ◌++◌, length, take}
 use Rattle.std.specs.Io.KnownBytes.{Appends}
-use Rattle.gph_session.specs.Meaning.{IsReady, contents_in}
-use Rattle.gph_session.specs.Flow.{HasAnswered, GoesOn}
+use Rattle.gph_session.specs.Meaning.{HaveShards}
+use Rattle.gph_session.specs.Moments.{moment_of}
+use Rattle.gph_session.specs.Flow.{Start, GoesOn}
 use Rattle.gph_session.proofs.block.answer_block.Given as goal
 
 -- the session goes on after the front of the block, and no write has failed
 abbrev pub invariant-loop-done : goal.invariant-loop-done
 invariant-loop-done g l = record {
   within : l.done ≤ length l.block;
-  config : l.session.config ≡ l.fn.session.config;
-  ready : IsReady l.session;
-  goes : (from : ℕ) (bytes output : List ℕ) → HasAnswered l.fn.session from l.fn.steps bytes output
+  alone : (g.D.Desk.desk l.desk).alone ≡ true;
+  config : (g.D.Desk.desk l.desk).config ≡ l.config;
+  shards : HaveShards l.config.shards l.session.queries;
+  goes : (start : Start) (bytes output : List ℕ) → GoesOn l.config start
+      (moment_of (g.D.Desk.desk l.fn.desk) l.fn.session l.fn.meters l.fn.upkeep) bytes output
+      l.fn.session.cutter.held
       → (more : List ℕ) × Appends (g.K.Sink.held l.fn.sink) (g.K.Sink.held l.sink) more
-      × GoesOn g.row.W l.fn.session.config from l.steps (bytes ++ take l.done l.block) (output ++ more)
-      (contents_in l.session) l.session.queries.items l.session.cutter.held;
+      × GoesOn l.config start (moment_of (g.D.Desk.desk l.desk) l.session l.meters l.upkeep)
+      (bytes ++ take l.done l.block) (output ++ more) l.session.cutter.held;
   steady : g.K.Sink.faults l.sink ≡ g.K.Sink.faults l.fn.sink;
 }
 

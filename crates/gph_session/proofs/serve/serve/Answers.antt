@@ -4,6 +4,8 @@ use Rattle.std.proofs.Common.{ap, ◌∙◌, subst, arith, rules}
 use Rattle.std.specs.Io.KnownBytes.{Consumes}
 use Rattle.session_model.specs.declared.limits.TheConstants.{BLOCK_MOST}
 use Rattle.session_model.specs.Outcomes.{ends}
+use Rattle.gph_session.specs.Moments.{moment_of}
+use Rattle.gph_session.specs.Flow.{start_at}
 use Rattle.gph_session.specs.Serving.{Serves}
 use Rattle.gph_session.proofs.ServeLemmas.{take_one, has_read, length_read, read_fault}
 use Rattle.gph_session.proofs.ServeLemmas.{limit_reached, done_at_end, refused_at_end}
@@ -14,16 +16,29 @@ pub returns-in-Err : goal.returns-in-Err
 returns-in-Err g c =
     let i = c.loop-session.invariant in
     let left = g.S.Source.left in
+    let desk = g.D.Desk.desk in
+    let begin = moment_of (desk c.args.desk.now) c.args.session.now c.args.meters.now c.args.upkeep.now in
+    let now = moment_of (desk c.loop-session.desk) c.loop-session.session c.loop-session.meters
+    c.loop-session.upkeep in
+    let source1 = ends (left c.loop-session.source) (g.S.Source.faults c.loop-session.source) in
+    let sink1 = ends (g.K.Sink.held c.loop-session.sink) (g.K.Sink.faults c.loop-session.sink) in
     let source0 = ends (left c.args.source.now) (g.S.Source.faults c.args.source.now) in
     let sink0 = ends (g.K.Sink.held c.args.sink.now) (g.K.Sink.faults c.args.sink.now) in
     let source = ends (left c.read.new.self) (g.S.Source.faults c.read.new.self) in
-    read_fault c.args.session.now c.loop-session.session source0 sink0 c.requires.ready.alone i.config i.serves
+    read_fault c.args.config.now (start_at begin) now c.loop-session.taken source0 sink0 source1 sink1
+    c.loop-session.session.cutter.held i.serves
     source c.in-Err.ensures.bytes c.in-Err.ensures.cause.failed
 
 pub returns-in-Ok-answer_end : goal.returns-in-Ok-answer_end
 returns-in-Ok-answer_end g c =
     let i = c.loop-session.invariant in
     let left = g.S.Source.left in
+    let desk = g.D.Desk.desk in
+    let begin = moment_of (desk c.args.desk.now) c.args.session.now c.args.meters.now c.args.upkeep.now in
+    let now = moment_of (desk c.loop-session.desk) c.loop-session.session c.loop-session.meters
+    c.loop-session.upkeep in
+    let source1 = ends (left c.loop-session.source) (g.S.Source.faults c.loop-session.source) in
+    let sink1 = ends (g.K.Sink.held c.loop-session.sink) (g.K.Sink.faults c.loop-session.sink) in
     let source0 = ends (left c.args.source.now) (g.S.Source.faults c.args.source.now) in
     let sink0 = ends (g.K.Sink.held c.args.sink.now) (g.K.Sink.faults c.args.sink.now) in
     let source = ends (left c.read.new.self) (g.S.Source.faults c.read.new.self) in
@@ -34,8 +49,9 @@ returns-in-Ok-answer_end g c =
     let none : Consumes (left c.loop-session.source) (left c.read.new.self) [] =
     subst (λ n. Consumes (left c.loop-session.source) (left c.read.new.self) (take n c.read.new.room))
     zero c.in-Ok-eq0.ensures.bytes.0 in
-    done_at_end c.args.session.now c.loop-session.session source0 sink0 c.requires.ready.alone i.config i.serves
-    source sink c.answer_end.new.steps c.in-Ok-eq0.ensures.steady none
+    done_at_end c.args.config.now (start_at begin) now c.loop-session.taken source0 sink0 source1 sink1
+    c.loop-session.session.cutter.held i.serves
+    source sink _ c.in-Ok-eq0.ensures.steady none
     (c.in-Ok-eq0.ensures.bytes.1 zero room) c.answer_end.result c.answer_end.ensures.flow _
     c.in-Ok-answer_end.is c.in-Ok-answer_end.ensures.cause
 
@@ -43,6 +59,12 @@ pub returns-in-Err-answer_end : goal.returns-in-Err-answer_end
 returns-in-Err-answer_end g c =
     let i = c.loop-session.invariant in
     let left = g.S.Source.left in
+    let desk = g.D.Desk.desk in
+    let begin = moment_of (desk c.args.desk.now) c.args.session.now c.args.meters.now c.args.upkeep.now in
+    let now = moment_of (desk c.loop-session.desk) c.loop-session.session c.loop-session.meters
+    c.loop-session.upkeep in
+    let source1 = ends (left c.loop-session.source) (g.S.Source.faults c.loop-session.source) in
+    let sink1 = ends (g.K.Sink.held c.loop-session.sink) (g.K.Sink.faults c.loop-session.sink) in
     let source0 = ends (left c.args.source.now) (g.S.Source.faults c.args.source.now) in
     let sink0 = ends (g.K.Sink.held c.args.sink.now) (g.K.Sink.faults c.args.sink.now) in
     let source = ends (left c.read.new.self) (g.S.Source.faults c.read.new.self) in
@@ -53,8 +75,9 @@ returns-in-Err-answer_end g c =
     let none : Consumes (left c.loop-session.source) (left c.read.new.self) [] =
     subst (λ n. Consumes (left c.loop-session.source) (left c.read.new.self) (take n c.read.new.room))
     zero c.in-Ok-eq0.ensures.bytes.0 in
-    refused_at_end c.args.session.now c.loop-session.session source0 sink0 c.requires.ready.alone i.config i.serves
-    source sink c.answer_end.new.steps c.in-Ok-eq0.ensures.steady none
+    refused_at_end c.args.config.now (start_at begin) now c.loop-session.taken source0 sink0 source1 sink1
+    c.loop-session.session.cutter.held i.serves
+    source sink _ c.in-Ok-eq0.ensures.steady none
     (c.in-Ok-eq0.ensures.bytes.1 zero room) c.answer_end.result c.answer_end.ensures.flow _
     c.in-Err-answer_end.is c.in-Err-answer_end.ensures.cause.1
 
@@ -62,6 +85,12 @@ pub returns-then-taken-limit : goal.returns-then-taken-limit
 returns-then-taken-limit g c =
     let i = c.loop-session.invariant in
     let left = g.S.Source.left in
+    let desk = g.D.Desk.desk in
+    let begin = moment_of (desk c.args.desk.now) c.args.session.now c.args.meters.now c.args.upkeep.now in
+    let now = moment_of (desk c.loop-session.desk) c.loop-session.session c.loop-session.meters
+    c.loop-session.upkeep in
+    let source1 = ends (left c.loop-session.source) (g.S.Source.faults c.loop-session.source) in
+    let sink1 = ends (g.K.Sink.held c.loop-session.sink) (g.K.Sink.faults c.loop-session.sink) in
     let source0 = ends (left c.args.source.now) (g.S.Source.faults c.args.source.now) in
     let sink0 = ends (g.K.Sink.held c.args.sink.now) (g.K.Sink.faults c.args.sink.now) in
     let source = ends (left c.read.new.self) (g.S.Source.faults c.read.new.self) in
@@ -73,13 +102,20 @@ returns-then-taken-limit g c =
     let room : 0 < length c.read.new.room = omega (arith, size, c.clamp-room.ensures) in
     let read = subst (Consumes (left c.loop-session.source) (left c.read.new.self))
     (ap (λ n. take n c.read.new.room) one ∙ take_one c.read.new.room room) c.in-Ok.ensures.bytes.0 in
-    limit_reached c.args.session.now c.loop-session.session source0 sink0 c.requires.ready.alone i.config i.serves
+    limit_reached c.args.config.now (start_at begin) now c.loop-session.taken source0 sink0 source1 sink1
+    c.loop-session.session.cutter.held i.serves
     source (get_or c.read.new.room 0 0) read c.in-Ok.ensures.steady full
 
 pub loop-session-preserved : goal.loop-session-preserved
 loop-session-preserved g c =
     let i = c.loop-session.invariant in
     let left = g.S.Source.left in
+    let desk = g.D.Desk.desk in
+    let begin = moment_of (desk c.args.desk.now) c.args.session.now c.args.meters.now c.args.upkeep.now in
+    let now = moment_of (desk c.loop-session.desk) c.loop-session.session c.loop-session.meters
+    c.loop-session.upkeep in
+    let source1 = ends (left c.loop-session.source) (g.S.Source.faults c.loop-session.source) in
+    let sink1 = ends (g.K.Sink.held c.loop-session.sink) (g.K.Sink.faults c.loop-session.sink) in
     let source0 = ends (left c.args.source.now) (g.S.Source.faults c.args.source.now) in
     let sink0 = ends (g.K.Sink.held c.args.sink.now) (g.K.Sink.faults c.args.sink.now) in
     let source = ends (left c.read.new.self) (g.S.Source.faults c.read.new.self) in
@@ -88,19 +124,22 @@ loop-session-preserved g c =
     let rest = drop c.clamp-room.result c.loop-session.block in
     let within = c.in-Ok.ensures.bound.0 in
     let few : length c.read.new.room ≤ BLOCK_MOST = omega (arith, size, c.clamp-room.ensures) in
-    let fits : c.loop-session.taken + length c.read.new.room ≤ c.args.session.now.config.input =
+    let fits : c.loop-session.taken + length c.read.new.room ≤ c.args.config.now.input =
     omega (arith, size, c.clamp-room.ensures, i.serves.few) in
     let read = has_read (left c.loop-session.source) (left c.read.new.self) c.loop-session.taken
-    c.args.session.now.config.input c.in-Ok.count c.read.new.room rest within few fits
+    c.args.config.now.input c.in-Ok.count c.read.new.room rest within few fits
     c.in-Ok.ensures.bytes.0 in
-    let next = serves_more c.args.session.now c.loop-session.session source0 sink0 c.requires.ready.alone i.config i.serves
-    source sink c.answer_block.new.steps c.in-Ok.ensures.steady _ read c.answer_block.new.session
+    let next = serves_more c.args.config.now (start_at begin) now c.loop-session.taken source0 sink0 source1 sink1
+    c.loop-session.session.cutter.held i.serves
+    source sink _ c.in-Ok.ensures.steady _ read c.answer_block.new.session.cutter.held
     c.answer_block.result c.answer_block.ensures.flow (search rules) (search rules) in
     record {
-      config = c.answer_block.ensures.config ∙ i.config;
-      ready = c.answer_block.ensures.ready;
-      serves = subst (λ n. Serves c.args.session.now.config c.answer_block.new.session n source0 source
-          sink0 sink c.args.steps.now c.answer_block.new.steps)
+      alone = c.answer_block.ensures.alone;
+      config = c.answer_block.ensures.config;
+      shards = c.answer_block.ensures.shards;
+      serves = subst (λ n. Serves c.args.config.now (start_at begin) (moment_of (desk c.answer_block.new.desk)
+          c.answer_block.new.session c.answer_block.new.meters c.answer_block.new.upkeep) n source0 source
+          sink0 sink c.answer_block.new.session.cutter.held)
           (ap (λ n. c.loop-session.taken + n) (length_read c.in-Ok.count c.read.new.room rest within)) next;
     }
 
@@ -108,6 +147,12 @@ pub returns-in-Ok-Quits : goal.returns-in-Ok-Quits
 returns-in-Ok-Quits g c =
     let i = c.loop-session.invariant in
     let left = g.S.Source.left in
+    let desk = g.D.Desk.desk in
+    let begin = moment_of (desk c.args.desk.now) c.args.session.now c.args.meters.now c.args.upkeep.now in
+    let now = moment_of (desk c.loop-session.desk) c.loop-session.session c.loop-session.meters
+    c.loop-session.upkeep in
+    let source1 = ends (left c.loop-session.source) (g.S.Source.faults c.loop-session.source) in
+    let sink1 = ends (g.K.Sink.held c.loop-session.sink) (g.K.Sink.faults c.loop-session.sink) in
     let source0 = ends (left c.args.source.now) (g.S.Source.faults c.args.source.now) in
     let sink0 = ends (g.K.Sink.held c.args.sink.now) (g.K.Sink.faults c.args.sink.now) in
     let source = ends (left c.read.new.self) (g.S.Source.faults c.read.new.self) in
@@ -116,19 +161,26 @@ returns-in-Ok-Quits g c =
     let rest = drop c.clamp-room.result c.loop-session.block in
     let within = c.in-Ok.ensures.bound.0 in
     let few : length c.read.new.room ≤ BLOCK_MOST = omega (arith, size, c.clamp-room.ensures) in
-    let fits : c.loop-session.taken + length c.read.new.room ≤ c.args.session.now.config.input =
+    let fits : c.loop-session.taken + length c.read.new.room ≤ c.args.config.now.input =
     omega (arith, size, c.clamp-room.ensures, i.serves.few) in
     let read = has_read (left c.loop-session.source) (left c.read.new.self) c.loop-session.taken
-    c.args.session.now.config.input c.in-Ok.count c.read.new.room rest within few fits
+    c.args.config.now.input c.in-Ok.count c.read.new.room rest within few fits
     c.in-Ok.ensures.bytes.0 in
-    done_by_quit c.args.session.now c.loop-session.session source0 sink0 c.requires.ready.alone i.config i.serves
-    source sink c.answer_block.new.steps c.in-Ok.ensures.steady _ read c.answer_block.new.session
+    done_by_quit c.args.config.now (start_at begin) now c.loop-session.taken source0 sink0 source1 sink1
+    c.loop-session.session.cutter.held i.serves
+    source sink _ c.in-Ok.ensures.steady _ read c.answer_block.new.session.cutter.held
     c.answer_block.result c.answer_block.ensures.flow (search rules) (search rules)
 
 pub returns-in-Err-answer_block : goal.returns-in-Err-answer_block
 returns-in-Err-answer_block g c =
     let i = c.loop-session.invariant in
     let left = g.S.Source.left in
+    let desk = g.D.Desk.desk in
+    let begin = moment_of (desk c.args.desk.now) c.args.session.now c.args.meters.now c.args.upkeep.now in
+    let now = moment_of (desk c.loop-session.desk) c.loop-session.session c.loop-session.meters
+    c.loop-session.upkeep in
+    let source1 = ends (left c.loop-session.source) (g.S.Source.faults c.loop-session.source) in
+    let sink1 = ends (g.K.Sink.held c.loop-session.sink) (g.K.Sink.faults c.loop-session.sink) in
     let source0 = ends (left c.args.source.now) (g.S.Source.faults c.args.source.now) in
     let sink0 = ends (g.K.Sink.held c.args.sink.now) (g.K.Sink.faults c.args.sink.now) in
     let source = ends (left c.read.new.self) (g.S.Source.faults c.read.new.self) in
@@ -137,12 +189,13 @@ returns-in-Err-answer_block g c =
     let rest = drop c.clamp-room.result c.loop-session.block in
     let within = c.in-Ok.ensures.bound.0 in
     let few : length c.read.new.room ≤ BLOCK_MOST = omega (arith, size, c.clamp-room.ensures) in
-    let fits : c.loop-session.taken + length c.read.new.room ≤ c.args.session.now.config.input =
+    let fits : c.loop-session.taken + length c.read.new.room ≤ c.args.config.now.input =
     omega (arith, size, c.clamp-room.ensures, i.serves.few) in
     let read = has_read (left c.loop-session.source) (left c.read.new.self) c.loop-session.taken
-    c.args.session.now.config.input c.in-Ok.count c.read.new.room rest within few fits
+    c.args.config.now.input c.in-Ok.count c.read.new.room rest within few fits
     c.in-Ok.ensures.bytes.0 in
-    refused_in_block c.args.session.now c.loop-session.session source0 sink0 c.requires.ready.alone i.config i.serves
-    source sink c.answer_block.new.steps c.in-Ok.ensures.steady _ read c.answer_block.new.session
+    refused_in_block c.args.config.now (start_at begin) now c.loop-session.taken source0 sink0 source1 sink1
+    c.loop-session.session.cutter.held i.serves
+    source sink _ c.in-Ok.ensures.steady _ read c.answer_block.new.session.cutter.held
     c.answer_block.result c.answer_block.ensures.flow _ c.in-Err-answer_block.is
     c.in-Err-answer_block.ensures.cause.1

@@ -1,0 +1,84 @@
+-- A session begins with nothing answered, and ends as it was served.
+use Rattle.std.proofs.Common.{◌≡◌, [], refl, sym, ap, ◌∙◌, subst, arith, rules, true, Result, IfOk}
+use Rattle.part_layout.specs.declared.config.Config.{Config}
+use Rattle.part_layout.specs.Ranges.{IsConfig}
+use Rattle.line_io.specs.Cut.{held_of}
+use Rattle.read_meter.specs.declared.no_memory.NoMemory.{NoMemory}
+use Rattle.session_desk.specs.Desks.{DeskState, IsDesk}
+use Rattle.gph_session.specs.declared.open_session.Session.{Session}
+use Rattle.gph_session.specs.declared.report.Status.TheVariants as status
+use Rattle.gph_session.specs.Meaning.{IsReady, HaveShards}
+use Rattle.gph_session.specs.Moments.{moment_of}
+use Rattle.gph_session.specs.Flow.{HasBegun}
+use Rattle.gph_session.proofs.Here.{learns_nothing}
+use Rattle.gph_session.proofs.TopLemmas.{begun_session, is_ready, ended_as}
+use Rattle.gph_session.proofs.session_call.session.Goals as goal
+
+pub serve-status-requires-after_bounds : goal.serve-status-requires-after_bounds
+serve-status-requires-after_bounds g c κs within =
+    let desk = g.D.Desk.desk in
+    let before = desk c.args.desk.now in
+    let now = desk c.length-position.new.self in
+    let session = c.in-Ok-Ok.session in
+    let same : now ≡ before = learns_nothing before now c.requires.alone c.length-position.ensures.learns in
+    let is : IsDesk g.row.W now = subst (IsDesk g.row.W) (sym same) c.who-who.ensures.desk in
+    let alone : now.alone ≡ true = ap (λ (d : DeskState). d.alone) same ∙ c.requires.alone in
+    let config : now.config ≡ c.args.config.now = ap (λ (d : DeskState). d.config) same ∙ c.requires.config in
+    let made = c.new_session-begun.ensures in
+    let ok = c.in-Ok-Ok.is-0 in
+    let queries : session.queries ≡ [] =
+    subst (λ (r : Result (Session g.row.W) NoMemory). IfOk r (λ made. made.queries ≡ [])) ok made.queries in
+    let cutter : session.cutter.held ≡ held_of [] =
+    subst (λ (r : Result (Session g.row.W) NoMemory). IfOk r (λ made. made.cutter.held ≡ held_of [])) ok made.cutter in
+    let requests : session.requests ≡ 0 =
+    subst (λ (r : Result (Session g.row.W) NoMemory). IfOk r (λ made. made.requests ≡ 0)) ok made.requests in
+    let position : session.position ≡ c.length-position.result =
+    subst (λ (r : Result (Session g.row.W) NoMemory). IfOk r (λ made. made.position ≡ c.length-position.result)) ok
+    made.position in (
+      search rules,
+      (
+        c.requires.sync,
+        (
+          is_ready g.row.W c.args.config.now now is config,
+          (
+            alone,
+            (
+              config,
+              (
+                subst (HaveShards {W = g.row.W} c.args.config.now.shards) (sym queries) tt,
+                (
+                  search rules,
+                  begun_session g.row.W c.args.config.now
+                      (moment_of now session c.args.meters.now c.args.upkeep.now) session.cutter.held is alone config
+                      queries requests (position ∙ c.length-position.ensures.length) cutter,
+                ),
+              ),
+            ),
+          ),
+        ),
+      ),
+    )
+
+pub returns-clause-done : goal.returns-clause-done
+returns-clause-done g c = λ is.
+    ended_as c.serve-status.result status.Done is c.args.config.now _ (g.D.Desk.desk c.args.desk.now) _ _ _ _ _ _ _ _ _
+    (learns_nothing (g.D.Desk.desk c.args.desk.now) (g.D.Desk.desk c.length-position.new.self) c.requires.alone
+    c.length-position.ensures.learns) c.serve-status.ensures
+
+pub returns-clause-read_fault : goal.returns-clause-read_fault
+returns-clause-read_fault g c = λ is.
+    ended_as c.serve-status.result status.ReadFault is c.args.config.now _ (g.D.Desk.desk c.args.desk.now) _ _ _ _ _ _ _ _ _
+    (learns_nothing (g.D.Desk.desk c.args.desk.now) (g.D.Desk.desk c.length-position.new.self) c.requires.alone
+    c.length-position.ensures.learns) c.serve-status.ensures
+
+pub returns-clause-write_fault : goal.returns-clause-write_fault
+returns-clause-write_fault g c = λ is.
+    ended_as c.serve-status.result status.WriteFault is c.args.config.now _ (g.D.Desk.desk c.args.desk.now) _ _ _ _ _ _ _ _ _
+    (learns_nothing (g.D.Desk.desk c.args.desk.now) (g.D.Desk.desk c.length-position.new.self) c.requires.alone
+    c.length-position.ensures.learns) c.serve-status.ensures
+
+pub returns-clause-input_limit : goal.returns-clause-input_limit
+returns-clause-input_limit g c = λ is.
+    ended_as c.serve-status.result status.InputLimit is c.args.config.now _ (g.D.Desk.desk c.args.desk.now) _ _ _ _ _ _ _ _ _
+    (learns_nothing (g.D.Desk.desk c.args.desk.now) (g.D.Desk.desk c.length-position.new.self) c.requires.alone
+    c.length-position.ensures.learns) c.serve-status.ensures
