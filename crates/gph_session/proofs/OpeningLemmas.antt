@@ -45,11 +45,6 @@ all_places P f [] d each = tt
 all_places P f (x ∷ xs) d each =
     (each zero (omega arith), all_places P f xs d (λ i lt. each (suc i) (omega (arith, lt))))
 
-all_of_map : {S B : Type 0} (P : B → Type 0) (f : S → B) (xs : List S) → AllByRecursion P (map f xs)
-    → AllByRecursion (λ x. P (f x)) xs
-all_of_map P f [] all = tt
-all_of_map P f (x ∷ xs) all = (all.0, all_of_map P f xs all.1)
-
 -- ---- how far pins are behind
 
 behind_first : (pin : Option Pin) (pins : List (Option Pin)) (position number : ℕ)
@@ -77,8 +72,11 @@ beyond_less [] [] most same each = omega arith
 beyond_less [] (y ∷ new) most same each = absurd (omega (arith, same))
 beyond_less (x ∷ old) [] most same each = absurd (omega (arith, same))
 beyond_less (x ∷ old) (y ∷ new) most same each =
-    omega (arith, each zero (omega arith),
-    beyond_less old new most (omega (arith, same)) (λ i lt. each (suc i) (omega (arith, lt))))
+    omega (
+      arith,
+      each zero (omega arith),
+      beyond_less old new most (omega (arith, same)) (λ i lt. each (suc i) (omega (arith, lt))),
+    )
 
 -- ---- a desk that is alone
 
@@ -126,9 +124,13 @@ module _ (words : ℕ) (old new : DeskState) (is_old : IsDesk words old) (is_new
     seen = seen_same;
     keeps = keeps;
     pins = λ most le. beyond_less old.pins new.pins most comes.number (λ i lt. comes.rises i (pin_within i lt));
-    steps = omega (arith, steps, behind_here (length new.seen),
-        subst (λ n. entries_beyond (pins_of old) (length new.seen) ≤ n * length new.seen) pins_number
-        (beyond_most (pins_of old) (length new.seen)));
+    steps = omega (
+      arith,
+      steps,
+      behind_here (length new.seen),
+      subst (λ n. entries_beyond (pins_of old) (length new.seen) ≤ n * length new.seen) pins_number
+          (beyond_most (pins_of old) (length new.seen)),
+    );
   }
 
   pub opens_all : {S : Type 0} (asks : S → Asked) (stands : S → Standing) (sources : List S)
@@ -185,20 +187,20 @@ module _ {W : ℕ} (words : ℕ) (old new : DeskState) (sources : List (RangeTas
       let one = opens.each i some (omega (arith, lt, opens.number)) in
       one.asks.farthest ∙ one.version_is.bits_are))
 
-  none_near : AllByRecursion (λ source. (asks {W = W} source).near ≡ false) sources
-  none_near = all_of_map (λ a. a.near ≡ false) (asks {W = W}) sources
-      (all_places (λ a. a.near ≡ false) (asks {W = W}) sources some (λ i lt.
-      (opens.each i some (omega (arith, lt, opens.number))).asks.near))
+  none_near : AllByRecursion (λ (a : Asked). a.near ≡ false) (map (asks {W = W}) sources)
+  none_near = all_places (λ (a : Asked). a.near ≡ false) (asks {W = W}) sources some (λ i lt.
+      (opens.each i some (omega (arith, lt, opens.number))).asks.near)
 
   pub is_gathered : (gather : Gathered (RangeTask W)) → gather ≡ gathered sources 18446744073709551615 0 None
       → AllByRecursion (λ source. IsFresh (stands {W = W} source)) sources → IsGathered gather
-  is_gathered gather same fresh = subst (λ g. IsGathered {W = W} g) (sym same) (record {
-    limit = refl;
-    given = refl;
-    untouched = record {
-      is_new = refl;
-      fresh = fresh;
-      one_length = same_length;
-      one_kind = inl none_near;
-    };
-  })
+  is_gathered gather same fresh =
+      subst (λ g. IsGathered {W = W} g) (sym same) (record {
+        limit = refl;
+        given = refl;
+        untouched = record {
+          is_new = refl;
+          fresh = fresh;
+          one_length = same_length;
+          one_kind = inl none_near;
+        };
+      })
