@@ -26,9 +26,13 @@ module _ (words : ℕ) (s now : SoloState) (solo : IsSoloDesk words s) (is : s �
   -- what pinning it needs
   pub pin_needs : (front : FrontState) → IsOwnFront (desk_of now) front → KnowsFront now.journal front
       → KeepsJournalRule s.journal found × (AreStoredEntries words found.current.layout.bits s.journal.history × (IsLive s.journal front × KnowsFront s.journal front))
-  pin_needs front own known =
-      (found_own.rule, (subst (λ (bits : ℕ). AreStoredEntries words bits s.journal.history) (sym found_own.bits_are) solo.codes,
-      (subst (λ (t : SoloState). IsOwnFront (desk_of t) front) (sym is) own, subst (λ (t : SoloState). KnowsFront t.journal front) (sym is) known)))
+  pin_needs front own known = (
+    found_own.rule,
+    (
+      subst (λ (bits : ℕ). AreStoredEntries words bits s.journal.history) (sym found_own.bits_are) solo.codes,
+      (subst (λ (t : SoloState). IsOwnFront (desk_of t) front) (sym is) own, subst (λ (t : SoloState). KnowsFront t.journal front) (sym is) known),
+    ),
+  )
 
   module _ (new : ShardState) (position : ℕ) (comes : ComesTo s.journal position found new) where
     comes_here : ComesTo s.journal position (shard_of s number) new

@@ -28,9 +28,16 @@ module _ (words : ℕ) (s now : SoloState) (solo : IsSoloDesk words s) (is : s �
       → KeepsJournalRule s.journal found × ((prepared.shard ≡ found.current.shard) × ((prepared.shards ≡ found.current.shards)
       × ((prepared.layout.bits ≡ found.current.layout.bits) × Follows s.journal.history prepared)))
   swap_needs prepared made =
-      let made_here = subst (λ (t : SoloState). IsMadeFor (desk_of t) number prepared) (sym is) made in
-      (own.rule, (made_here.shard_is ∙ sym own.shard_is, (made_here.shards_are ∙ sym own.shards_are,
-      (made_here.bits_are ∙ sym own.bits_are, made_here.follows))))
+      let made_here = subst (λ (t : SoloState). IsMadeFor (desk_of t) number prepared) (sym is) made in (
+        own.rule,
+        (
+          made_here.shard_is ∙ sym own.shard_is,
+          (
+            made_here.shards_are ∙ sym own.shards_are,
+            (made_here.bits_are ∙ sym own.bits_are, made_here.follows),
+          ),
+        ),
+      )
 
   module _ (new : ShardState) (swapped : IsSwapped s.journal found new) where
     -- the desk after it
@@ -76,8 +83,11 @@ module _ (words : ℕ) (s now : SoloState) (solo : IsSoloDesk words s) (is : s �
           after =
               ap (λ (left : List ℕ). (record after { left = left })) (changed_lefts words s solo number low_here new s.pins s.last done late)
               ∙ ap (λ (n : ℕ). (record after { left = set (map (λ (shard : ShardState). shard.current.at) s.shards) number (left_at after number); done = n })) done_is
-              ∙ ap (λ (n : ℕ). (record after { left = set (map (λ (shard : ShardState). shard.current.at) s.shards) number (left_at after number);
-              done = (if moved then s.done else one_more s.done); late = n }))
+              ∙ ap (λ (n : ℕ). (record after {
+                left = set (map (λ (shard : ShardState). shard.current.at) s.shards) number (left_at after number);
+                done = (if moved then s.done else one_more s.done);
+                late = n;
+              }))
               (subst (λ (n : ℕ). late ≡ (if moved && is_late s.last prepared.at n then one_more s.late else s.late)) (sym (stays_at done late)) late_is);
           places = λ alone. places_after moved prepared layout;
           stays = λ alone. stays_at done late ∙ ap (λ (shard : ShardState). shard.current.at) here ∙ sym (ap (λ (place : Place). place.0) (placed_there s number));

@@ -11,10 +11,16 @@ use Rattle.session_desk.proofs.shards.pin_shard.Goals as goal
 
 pub advance-requires : goal.advance-requires
 advance-requires g c =
-    let journal = c.args.journal.now in
-    (omega arith, (omega arith,
-    (c.shards_keep_the_rule.ensures.follows (positions_of journal.live) journal.history c.args.shard.now c.args.front.now c.requires.rule c.requires.known,
-    stored_front g.row.W c.args.shard.now.current.layout.bits journal c.args.front.now c.requires.known c.requires.codes)))
+    let journal = c.args.journal.now in (
+      omega arith,
+      (
+        omega arith,
+        (
+          c.shards_keep_the_rule.ensures.follows (positions_of journal.live) journal.history c.args.shard.now c.args.front.now c.requires.rule c.requires.known,
+          stored_front g.row.W c.args.shard.now.current.layout.bits journal c.args.front.now c.requires.known c.requires.codes,
+        ),
+      ),
+    )
 
 pub returns-in_err-version-clause-comes : goal.returns-in_err-version-clause-comes
 returns-in_err-version-clause-comes g c =

@@ -8,9 +8,20 @@ use Rattle.session_desk.proofs.ShardLemmas.{on_err}
 use Rattle.session_desk.proofs.solo.SoloDeskDesk.pin.Goals as goal
 
 pub pin_shard-requires : goal.pin_shard-requires
-pin_shard-requires g c = (omega arith, (omega arith, (omega arith, (omega arith,
-    pin_needs g.row.W _ c.args.self.now c.self.invariant c.self.view_is c.args.shard c.requires.shard c.index_mut.result.now c.index_mut.ensures.value
-    c.args.front.now c.requires.own c.requires.knows))))
+pin_shard-requires g c = (
+  omega arith,
+  (
+    omega arith,
+    (
+      omega arith,
+      (
+        omega arith,
+        pin_needs g.row.W _ c.args.self.now c.self.invariant c.self.view_is c.args.shard c.requires.shard c.index_mut.result.now c.index_mut.ensures.value
+            c.args.front.now c.requires.own c.requires.knows,
+      ),
+    ),
+  ),
+)
 
 pub invariant_of-self : goal.invariant_of-self
 invariant_of-self g c =

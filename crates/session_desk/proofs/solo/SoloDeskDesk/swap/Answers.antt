@@ -5,9 +5,20 @@ use Rattle.session_desk.proofs.SwapLemmas.{now_swapped, now_swaps, swap_needs}
 use Rattle.session_desk.proofs.solo.SoloDeskDesk.swap.Goals as goal
 
 pub swap_shard-swapped-requires : goal.swap_shard-swapped-requires
-swap_shard-swapped-requires g c = (omega arith, (omega arith, (omega arith, (omega arith,
-    swap_needs g.row.W _ c.args.self.now c.self.invariant c.self.view_is c.args.shard c.requires.shard c.index_mut.result.now c.index_mut.ensures.value
-    (contents_at c.args.prepared.version) c.requires.made))))
+swap_shard-swapped-requires g c = (
+  omega arith,
+  (
+    omega arith,
+    (
+      omega arith,
+      (
+        omega arith,
+        swap_needs g.row.W _ c.args.self.now c.self.invariant c.self.view_is c.args.shard c.requires.shard c.index_mut.result.now c.index_mut.ensures.value
+            (contents_at c.args.prepared.version) c.requires.made,
+      ),
+    ),
+  ),
+)
 
 pub invariant_of-self : goal.invariant_of-self
 invariant_of-self g c =
