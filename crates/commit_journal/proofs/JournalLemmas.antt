@@ -12,7 +12,7 @@ use Rattle.slab.specs.Slab.{Slab, Updates}
 use Rattle.slab.specs.Slab as slab
 use Rattle.hamming_model.specs.History.{JournalEntry, IsLegal, changed, code_at, rows_of}
 use Rattle.hamming_model.specs.declared.limits.TheConstants.{ENTRIES_MOST, WORDS_MOST}
-use Rattle.commit_journal.specs.Fronts.{AreOlder, FrontState, Live, StandsAt, front_of, live_at, position_of, positions_of}
+use Rattle.commit_journal.specs.Fronts.{AreOlder, FrontState, Live, StandsAt, front_of, position_of, positions_of}
 use Rattle.commit_journal.specs.Journals.{IsLive, JournalState, KeepsFronts, KnowsFront, Opens, empty_journal, with_entry, without_front}
 use Rattle.commit_journal.specs.Kept.{IsKeptJournal, journal_of, live_of}
 use Rattle.commit_journal.proofs.LiveLemmas.{second, slab_at, slab_inserted, slab_removed, stands_closed, stands_opened}

@@ -6,9 +6,12 @@ use gph_session::{Outcome, run};
 use line_io::{Gathered, GatheredReader, GatheredWriter};
 use read_meter::{Meters, upkeep};
 use scatter_gather::NoGate;
-use std::env;
+use std::alloc::{Alloc, Global};
+use std::env::{self, Env};
 use std::io::ErrorKind;
 use std::process::ExitCode;
+use std::rt::{Stdin, Stdout};
+use std::thread::Threads;
 
 // The ledgers on which the postings that are read are counted.
 #[derive(Drop)]
@@ -19,7 +22,7 @@ struct Postings;
 struct Upkeep;
 
 fn main(rt: HostRuntime) -> ExitCode {
-    let outcome = outcome_of(&rt);
+    let outcome = outcome_of(&rt, rt.stdin(), rt.stdout());
     let told = match outcome {
         Outcome::Done => Ok(()),
         Outcome::Usage { word } => eprintln!(rt; "gph: usage at word {word}"),
@@ -34,7 +37,11 @@ fn main(rt: HostRuntime) -> ExitCode {
 }
 
 // Runs the top call over standard input and output. What it wrote is gathered, and given out before each read and at the end.
-fn outcome_of(rt: &HostRuntime) -> Outcome {
+fn outcome_of<R: Env + Alloc<A = Global> + Threads + Sync>(
+    rt: &R,
+    input: Stdin,
+    output: Stdout,
+) -> Outcome {
     let words = match env::args(rt) {
         Ok(words) => words.skip(1).collect(rt.alloc()),
         Err(error) => {
@@ -52,10 +59,10 @@ fn outcome_of(rt: &HostRuntime) -> Outcome {
     let Ok(mut meters) = Meters::<Postings>::new(rt, rt.alloc()) else {
         return Outcome::NoMemory;
     };
-    let Ok(gathered) = Gathered::new(rt.alloc(), rt.stdout()) else {
+    let Ok(gathered) = Gathered::new(rt.alloc(), output) else {
         return Outcome::NoMemory;
     };
-    let mut source = GatheredReader::new(rt.stdin(), &gathered);
+    let mut source = GatheredReader::new(input, &gathered);
     let mut sink = GatheredWriter::new(&gathered);
     let mut steps = upkeep::<Upkeep, _>(rt);
     let outcome = run(

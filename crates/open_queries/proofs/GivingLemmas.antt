@@ -68,11 +68,14 @@ module _ {S : Type 0} (asks : S → Asked) (stands : S → Standing) (law : (x :
       }
 
   -- no hit is left
-  pub gave_last : given ≤ count → Gave asks stands now new via to None → None ≡ next_hit (seen asks stands now)
+  pub gave_last : given ≤ count → (result : Option Hit) → result ≡ None → Gave asks stands now new via to result
+      → result ≡ next_hit (seen asks stands now)
       → (reaches_by_rows (seen asks stands now) ≡ true → BegunWithin stands now.last now.sources
       → BegunWithin stands new.last new.sources)
       → GivesHits asks stands tag count start new sink0 sink1 from to (Ok false)
-  gave_last few gave none near =
+  gave_last few result is_none told next near =
+      let gave = subst (Gave asks stands now new via to) is_none told in
+      let none : None ≡ next_hit (seen asks stands now) = sym is_none ∙ next in
       let nothing : first_of (drop now.given (whole_answer asks now)) ≡ None = sym (none ∙ next_seen asks stands now) in
       let all : length answer ≤ now.given =
       omega (arith, none_next now.given (whole_answer asks now) nothing, ap length now_answer) in
@@ -89,15 +92,20 @@ module _ {S : Type 0} (asks : S → Asked) (stands : S → Standing) (law : (x :
         more = sym (le-ltb (start.given + count) (length answer) (omega (arith, all, few, has.given)));
       }
 
-  module _ (hit : Hit) (gave : Gave asks stands now new via to (Some hit))
-      (is : Some hit ≡ next_hit (seen asks stands now))
+  module _ (result : Option Hit) (hit : Hit) (is_some : result ≡ Some hit)
+      (told : Gave asks stands now new via to result) (next : result ≡ next_hit (seen asks stands now))
       (near : reaches_by_rows (seen asks stands now) ≡ true → BegunWithin stands now.last now.sources
       → BegunWithin stands new.last new.sources) where
+    gave : Gave asks stands now new via to (Some hit)
+    gave = subst (Gave asks stands now new via to) is_some told
+
+    is : Some hit ≡ next_hit (seen asks stands now)
+    is = sym is_some ∙ next
+
     -- the hits from the one that was given on
     abbrev from_it : (later : List Hit) × (drop given rest ≡ hit ∷ later)
     from_it =
-        let next : first_of (drop now.given (whole_answer asks now)) ≡ Some hit = sym (is ∙ next_seen asks stands now) in
-        let found = next_first now.given (whole_answer asks now) hit next in (
+        let found = next_first now.given (whole_answer asks now) hit (sym (is ∙ next_seen asks stands now)) in (
           found.0,
           drop-drop given start.given answer ∙ ap (λ n. drop n answer) (sym has.given)
               ∙ ap (drop now.given) (sym now_answer) ∙ found.1,

@@ -1,4 +1,4 @@
--- What is true of an open query at every moment. A public clause cites this module at an opening alone.
+-- What is true of an open query at every moment. One public clause cites it: that of an opening.
 use Rattle.std.specs.Prelude.{◌≡◌, ℕ, ◌≤◌, ◌⊎◌, ◌&&◌, nat_le, Bool, true, false, None}
 use Rattle.std.specs.Prelude.{List, [], ◌∷◌, length, map, take, sum_by}
 use Rattle.std.specs.List.{AllByRecursion, list_all}

@@ -1,6 +1,6 @@
 //! Requests on open queries over three sources, with a tie over all of them.
 
-ghost use Rattle.std.specs.Prelude.{◌≡◌, [], IfOk};
+ghost use Rattle.std.specs.Prelude.{◌≡◌, false, IfOk};
 ghost use Rattle.std.specs.Thread.{IsSync};
 ghost use Rattle.hamming_model.specs.declared.limits.TheConstants.{BITS_MOST};
 ghost use Rattle.hit_source.specs.Sources.{IsFresh};

@@ -25,7 +25,8 @@ module _ (words : ℕ) (s now : SoloState) (solo : IsSoloDesk words s) (is : s �
 
   -- what pinning it needs
   pub pin_needs : (front : FrontState) → IsOwnFront (desk_of now) front → KnowsFront now.journal front
-      → KeepsJournalRule s.journal found × (AreStoredEntries words found.current.layout.bits s.journal.history × (IsLive s.journal front × KnowsFront s.journal front))
+      → KeepsJournalRule s.journal found × (AreStoredEntries words found.current.layout.bits s.journal.history
+      × (IsLive s.journal front × KnowsFront s.journal front))
   pin_needs front own known = (
     found_own.rule,
     (
@@ -43,7 +44,8 @@ module _ (words : ℕ) (s now : SoloState) (solo : IsSoloDesk words s) (is : s �
     now_came = solo_came words s solo number low_here new position comes_here
 
     pub now_comes : Comes (desk_of now) (desk_of (solo_of s.config s.journal s.last (set s.shards number new) s.pins s.done s.late)) number now.pins
-    now_comes = subst (λ (t : SoloState). Comes (desk_of t) (desk_of (solo_of s.config s.journal s.last (set s.shards number new) s.pins s.done s.late)) number t.pins) is
+    now_comes = subst (λ (t : SoloState). Comes (desk_of t)
+        (desk_of (solo_of s.config s.journal s.last (set s.shards number new) s.pins s.done s.late)) number t.pins) is
         (came words s solo number low_here new position comes_here s.pins)
 
     -- and with one
@@ -55,9 +57,11 @@ module _ (words : ℕ) (s now : SoloState) (solo : IsSoloDesk words s) (is : s �
           → IsSoloDesk words (solo_of s.config s.journal s.last (set s.shards number new) (set s.pins number (Some pin)) s.done s.late)
       now_pinned pin stands = solo_pinned words s solo number low_here new position comes_here pin (omega (arith, reached_here, stands))
 
-      pub now_pins : (version : Contents) → GivesVersion s.journal.history position new version → (front : FrontState) (pin : Pin) → position_of front ≡ position
+      pub now_pins : (version : Contents) → GivesVersion s.journal.history position new version → (front : FrontState) (pin : Pin) → position_of front
+          ≡ position
           → pin ≡ (position_of front, layout_text version.layout.parts)
-          → PinsVersion (desk_of now) (desk_of (solo_of s.config s.journal s.last (set s.shards number new) (set s.pins number (Some pin)) s.done s.late)) front number version
+          → PinsVersion (desk_of now) (desk_of (solo_of s.config s.journal s.last (set s.shards number new)
+          (set s.pins number (Some pin)) s.done s.late)) front number version
       now_pins version gives front pin stands pin_is =
           subst (λ (t : SoloState). PinsVersion (desk_of t)
           (desk_of (solo_of s.config s.journal s.last (set s.shards number new) (set s.pins number (Some pin)) s.done s.late)) front number version) is

@@ -17,7 +17,8 @@ use Rattle.versioned_shard.specs.Shards.{IsOneOf, MayStandIn, ShardState, advanc
 use Rattle.session_desk.specs.Solos.{ComesTo, GivesVersion, IsSwapped}
 
 -- the codes of the first entries are kept as those of all
-stored_first : (words bits position : ℕ) (history : List JournalEntry) → AreStoredEntries words bits history → AreStoredEntries words bits (take position history)
+stored_first : (words bits position : ℕ) (history : List JournalEntry) → AreStoredEntries words bits history
+    → AreStoredEntries words bits (take position history)
 stored_first words bits zero history all = tt
 stored_first words bits (suc position) [] all = tt
 stored_first words bits (suc position) (entry ∷ history) all = (all.0, stored_first words bits position history all.1)
@@ -71,7 +72,8 @@ module _ (front : FrontState) (shard : ShardState) where
       go false = refl
 
   -- and it came to the front
-  pub advanced_comes : (journal : JournalState) → KeepsJournalRule journal (advanced front shard) → ComesTo journal (position_of front) shard (advanced front shard)
+  pub advanced_comes : (journal : JournalState) → KeepsJournalRule journal (advanced front shard)
+      → ComesTo journal (position_of front) shard (advanced front shard)
   advanced_comes journal rule = record {
     rule = rule;
     shard_is = advanced_shard;
@@ -85,7 +87,8 @@ pub stays_there : (journal : JournalState) (position : ℕ) (shard : ShardState)
 stays_there journal position shard rule = record { rule = rule; shard_is = refl; shards_are = refl; layout_is = refl; never_back = omega arith }
 
 -- the version that a shard gives has its shard and bits, and at the end of the history its layout
-pub one_given : (journal : JournalState) (shard : ShardState) (position : ℕ) (version : Contents) → KeepsJournalRule journal shard → IsOneOf shard position version
+pub one_given : (journal : JournalState) (shard : ShardState) (position : ℕ) (version : Contents) → KeepsJournalRule journal shard
+    → IsOneOf shard position version
     → version ≡ version_at journal.history version position → IsVersion version → GivesVersion journal.history position shard version
 one_given journal shard position version rule one rows sound = elim one.among [
   | inl same ↦ record {
@@ -98,7 +101,8 @@ one_given journal shard position version rule one rows sound = elim one.among [
     layout_is = λ whole. ap (λ (each : Contents). each.layout) same;
   }
   | inr among ↦
-      let kept : IsKeptVersion journal.history shard.current version = all_among (IsKeptVersion journal.history shard.current) shard.kept version rule.kept among in
+      let kept : IsKeptVersion journal.history shard.current version = all_among
+      (IsKeptVersion journal.history shard.current) shard.kept version rule.kept among in
       record {
         sound = sound;
         shard_is = kept.shard_is;

@@ -135,7 +135,8 @@ module _ (words : ℕ) (s : SoloState) (solo : IsSoloDesk words s) where
 
     pub changed_lefts : (pins : List (Option Pin)) (last done late : ℕ)
         → map (λ shard. shard.current.at) (set s.shards number new)
-        ≡ set (map (λ shard. shard.current.at) s.shards) number (left_at (desk_of (solo_of s.config s.journal last (set s.shards number new) pins done late)) number)
+        ≡ set (map (λ shard. shard.current.at) s.shards) number
+        (left_at (desk_of (solo_of s.config s.journal last (set s.shards number new) pins done late)) number)
     changed_lefts pins last done late =
         map-set (λ (shard : ShardState). shard.current.at) s.shards number new
         ∙ ap (set (map (λ (shard : ShardState). shard.current.at) s.shards) number) (sym (changed_left pins last done late))
@@ -208,7 +209,8 @@ module _ (words : ℕ) (s : SoloState) (solo : IsSoloDesk words s) where
         -- and what it did
         pub solo_pins : (front : FrontState) (pin : Pin) → position_of front ≡ position → pin ≡ (position_of front, layout_text version.layout.parts)
             → new.current.at ≡ max (shard_of s number).current.at position
-            → PinsVersion (desk_of s) (desk_of (solo_of s.config s.journal s.last (set s.shards number new) (set s.pins number (Some pin)) s.done s.late)) front number version
+            → PinsVersion (desk_of s) (desk_of (solo_of s.config s.journal s.last (set s.shards number new)
+            (set s.pins number (Some pin)) s.done s.late)) front number version
         solo_pins front pin here is reached =
             let pins = set s.pins number (Some pin) in
             let after = desk_of (solo_of s.config s.journal s.last (set s.shards number new) pins s.done s.late) in
@@ -229,7 +231,8 @@ module _ (words : ℕ) (s : SoloState) (solo : IsSoloDesk words s) where
       let place = placed_there s number in
       record {
         learns = learns_nothing (desk_of s);
-        after = ap (λ (left : List ℕ). (record (desk_of s) { left = left })) (sym (set-get_or (map (λ (shard : ShardState). shard.current.at) s.shards) number 0));
+        after = ap (λ (left : List ℕ). (record (desk_of s) { left = left }))
+            (sym (set-get_or (map (λ (shard : ShardState). shard.current.at) s.shards) number 0));
         laid = (shard_of s number).current.layout;
         is_laid = own.rule.laid;
         bits = own.bits_are;

@@ -66,7 +66,8 @@ none_more (pin ∷ pins) none zero = none 0
 none_more (pin ∷ pins) none (suc i) = none_more pins (λ j. none (suc j)) i
 
 -- one shard more
-pub first_more : (config : Config) (shards : List ShardState) (pins : List (Option Pin)) (number : ℕ) (new : ShardState) → AreFirstShards config shards pins number
+pub first_more : (config : Config) (shards : List ShardState) (pins : List (Option Pin)) (number : ℕ) (new : ShardState)
+    → AreFirstShards config shards pins number
     → new ≡ first_of config number → AreFirstShards config (shards ++ new ∷ []) (pins ++ None ∷ []) (number + 1)
 first_more config shards pins number new first is = record {
   shards_are = length-append shards (new ∷ []) ∙ omega (arith, first.shards_are);
@@ -79,7 +80,8 @@ first_more config shards pins number new first is = record {
     go i low (inl below) = before_last shards new no_shard i (omega (arith, below, first.shards_are)) ∙ first.each i below
     go i low (inr last) =
         let here : i ≡ number = omega arith in
-        ap (λ (n : ℕ). get_or (shards ++ new ∷ []) n no_shard) (here ∙ sym first.shards_are) ∙ last_of shards new no_shard ∙ is ∙ ap (first_of config) (sym here)
+        ap (λ (n : ℕ). get_or (shards ++ new ∷ []) n no_shard) (here ∙ sym first.shards_are) ∙ last_of shards new no_shard ∙ is
+        ∙ ap (first_of config) (sym here)
 
 all_same : {A B : Type 0} (f : A → B) (items : List A) (none : A) (value : B) → ((i : ℕ) → i < length items → f (get_or items i none) ≡ value)
     → map f items ≡ replicate (length items) value
@@ -111,7 +113,8 @@ module _ (config : Config) (journal : JournalState) (shards : List ShardState) (
 
   -- and keeps what a solo desk keeps
   pub begins_solo : (words : ℕ) → IsConfig config → words ≤ WORDS_MOST → config.bits ≤ 64 * words → IsLaid (starting_layout config)
-      → ((live : ℕ → Option ℕ) (history : List JournalEntry) (shard shards : ℕ) (layout : Laid) → IsLaid layout → KeepsRule live history (shard_with (empty_of shard shards layout) []))
+      → ((live : ℕ → Option ℕ) (history : List JournalEntry) (shard shards : ℕ) (layout : Laid) → IsLaid layout
+      → KeepsRule live history (shard_with (empty_of shard shards layout) []))
       → IsSoloDesk words (solo_of config journal 0 shards pins 0 0)
   begins_solo words is_config few room laid law = record {
     config = is_config;
@@ -122,7 +125,8 @@ module _ (config : Config) (journal : JournalState) (shards : List ShardState) (
     shards = first.shards_are ∙ all;
     pins = first.pins_are ∙ all;
     each = λ i low. (let here = first.each i (omega (arith, low, all)) in record {
-      rule = subst (KeepsRule (positions_of journal.live) journal.history) (sym here) (law (positions_of journal.live) journal.history i config.shards (starting_layout config) laid);
+      rule = subst (KeepsRule (positions_of journal.live) journal.history) (sym here)
+          (law (positions_of journal.live) journal.history i config.shards (starting_layout config) laid);
       shard_is = ap (λ (shard : ShardState). shard.current.shard) here;
       shards_are = ap (λ (shard : ShardState). shard.current.shards) here;
       bits_are = ap (λ (shard : ShardState). shard.current.layout.bits) here;

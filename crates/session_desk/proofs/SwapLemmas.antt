@@ -1,7 +1,9 @@
 -- A swap of a desk that is alone.
-use Rattle.std.proofs.Common.{◌≡◌, ◌≢◌, ◌↔◌, ℕ, ◌<◌, Bool, true, false, List, get_or, map, set, None, refl, sym, ap, subst, ◌∙◌, arith}
+use Rattle.std.proofs.Common.{◌≡◌, ◌≢◌, ◌↔◌, ℕ, ◌<◌, Bool, true, false, List, length, take, get_or, map, set, None, refl, sym, ap, subst, ◌∙◌, arith}
 use Rattle.std.specs.Prelude.{◌&&◌, if◌then◌else◌}
-use Rattle.std.proofs.lemmas.List.{set-get_or}
+use Rattle.std.proofs.lemmas.List.{length-map, length-take, set-get_or}
+use Rattle.hamming_model.specs.History.{JournalEntry, rows_of, shard_rows}
+use Rattle.hamming_model.specs.Recoded.{cut_entry, cut_history}
 use Rattle.part_layout.specs.Laid.{Laid}
 use Rattle.shard_version.specs.Contents.{Contents}
 use Rattle.versioned_shard.specs.Along.{Follows}
@@ -11,6 +13,29 @@ use Rattle.session_desk.specs.Calls.{IsMadeFor, Swaps, is_late, one_more}
 use Rattle.session_desk.specs.Desks.{DeskState, Place, left_at, place_at}
 use Rattle.session_desk.specs.Solos.{IsShardOf, IsSoloDesk, IsSwapped, SoloState, desk_of, no_shard, place_of, solo_of}
 use Rattle.session_desk.proofs.SoloLemmas.{changed_left, changed_lefts, changed_places, learns_nothing, placed_there, shard_found, shard_of, solo_with}
+
+-- the first entries of the history, in codes of so many bits
+abbrev first_entries : SoloState → ℕ → ℕ → List JournalEntry
+first_entries s at bits = take at (cut_history bits s.journal.history)
+
+-- a version that was made apart follows the history
+made_follows : (s : SoloState) (number : ℕ) (version : Contents) → IsMadeFor (desk_of s) number version → Follows s.journal.history version
+made_follows s number version made = record {
+  is = ap (λ (n : ℕ). (record version { at = n })) at_is
+      ∙ ap (λ (rows : List (ℕ × List ℕ)). (record version { at = length (first_entries s version.at version.layout.bits); rows = rows })) rows_are;
+}
+  where
+    at_is : version.at ≡ length (first_entries s version.at version.layout.bits)
+    at_is = omega (arith, made.within, length-take version.at (cut_history version.layout.bits s.journal.history),
+        length-map s.journal.history (cut_entry version.layout.bits))
+
+    rows_are : version.rows ≡ shard_rows version.shard version.shards (rows_of (first_entries s version.at version.layout.bits))
+    rows_are =
+        let is = made.version_is in
+        is.rows
+        ∙ ap (λ (n : ℕ). shard_rows n s.config.shards (rows_of (first_entries s version.at s.config.bits))) (sym is.shard_is)
+        ∙ ap (λ (n : ℕ). shard_rows version.shard n (rows_of (first_entries s version.at s.config.bits))) (sym is.shards_are)
+        ∙ ap (λ (n : ℕ). shard_rows version.shard version.shards (rows_of (first_entries s version.at n))) (sym is.bits_are)
 
 module _ (words : ℕ) (s now : SoloState) (solo : IsSoloDesk words s) (is : s ≡ now) (number : ℕ) (low : number < now.config.shards)
     (found : ShardState) (at : found ≡ get_or s.shards number found) where
@@ -28,16 +53,10 @@ module _ (words : ℕ) (s now : SoloState) (solo : IsSoloDesk words s) (is : s �
       → KeepsJournalRule s.journal found × ((prepared.shard ≡ found.current.shard) × ((prepared.shards ≡ found.current.shards)
       × ((prepared.layout.bits ≡ found.current.layout.bits) × Follows s.journal.history prepared)))
   swap_needs prepared made =
-      let made_here = subst (λ (t : SoloState). IsMadeFor (desk_of t) number prepared) (sym is) made in (
-        own.rule,
-        (
-          made_here.shard_is ∙ sym own.shard_is,
-          (
-            made_here.shards_are ∙ sym own.shards_are,
-            (made_here.bits_are ∙ sym own.bits_are, made_here.follows),
-          ),
-        ),
-      )
+      let made_here = subst (λ (t : SoloState). IsMadeFor (desk_of t) number prepared) (sym is) made in
+      let is_version = made_here.version_is in
+      (own.rule, (is_version.shard_is ∙ sym own.shard_is, (is_version.shards_are ∙ sym own.shards_are,
+      (is_version.bits_are ∙ sym own.bits_are, made_follows s number prepared made_here))))
 
   module _ (new : ShardState) (swapped : IsSwapped s.journal found new) where
     -- the desk after it
@@ -60,7 +79,8 @@ module _ (words : ℕ) (s now : SoloState) (solo : IsSoloDesk words s) (is : s �
         changed_places words s solo number low_here new
         ∙ ap (set (map place_of s.shards) number)
         (ap (λ (each : ℕ). let place : Place = (each, new.current.layout) in place) (swapped.at_is ∙ ap (λ (shard : ShardState). shard.current.at) here)
-        ∙ ap (λ (laid : Laid). let place : Place = ((shard_of s number).current.at, laid) in place) (layout ∙ ap (λ (shard : ShardState). shard.current.layout) here)
+        ∙ ap (λ (laid : Laid). let place : Place = ((shard_of s number).current.at, laid) in place)
+        (layout ∙ ap (λ (shard : ShardState). shard.current.layout) here)
         ∙ sym (placed_there s number))
         ∙ set-get_or (map place_of s.shards) number (place_of no_shard)
     places_after false prepared layout =
@@ -82,7 +102,10 @@ module _ (words : ℕ) (s now : SoloState) (solo : IsSoloDesk words s) (is : s �
           pinned = omega (arith, own.pinned, stays_at done late);
           after =
               ap (λ (left : List ℕ). (record after { left = left })) (changed_lefts words s solo number low_here new s.pins s.last done late)
-              ∙ ap (λ (n : ℕ). (record after { left = set (map (λ (shard : ShardState). shard.current.at) s.shards) number (left_at after number); done = n })) done_is
+              ∙ ap (λ (n : ℕ). (record after {
+                left = set (map (λ (shard : ShardState). shard.current.at) s.shards) number (left_at after number);
+                done = n;
+              })) done_is
               ∙ ap (λ (n : ℕ). (record after {
                 left = set (map (λ (shard : ShardState). shard.current.at) s.shards) number (left_at after number);
                 done = (if moved then s.done else one_more s.done);
@@ -90,7 +113,8 @@ module _ (words : ℕ) (s now : SoloState) (solo : IsSoloDesk words s) (is : s �
               }))
               (subst (λ (n : ℕ). late ≡ (if moved && is_late s.last prepared.at n then one_more s.late else s.late)) (sym (stays_at done late)) late_is);
           places = λ alone. places_after moved prepared layout;
-          stays = λ alone. stays_at done late ∙ ap (λ (shard : ShardState). shard.current.at) here ∙ sym (ap (λ (place : Place). place.0) (placed_there s number));
+          stays = λ alone. stays_at done late ∙ ap (λ (shard : ShardState). shard.current.at) here
+              ∙ sym (ap (λ (place : Place). place.0) (placed_there s number));
         })
       where
         after : DeskState

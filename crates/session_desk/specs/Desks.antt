@@ -19,9 +19,12 @@ Pin = ℕ × List ℕ
 abbrev pub Place : Type 0
 Place = ℕ × Laid
 
--- a desk: its board, empty where it has none; its number; the Config; the entries that it has seen, their codes as words keep them;
--- its live fronts; the position of the front that it opened last; by shard its last pin that gave a version, and the position at
--- which it left the shard; how many swaps were done, and how many came late; whether it is alone, and then by shard its place
+-- a desk: its board, empty where it has none; its number; the Config; the entries that it has seen,
+-- their codes as words keep them;
+-- its live fronts; the position of the front that it opened last; by shard its last pin that gave a
+-- version, and the position at
+-- which it left the shard; how many swaps were done, and how many came late; whether it is alone,
+-- and then by shard its place
 pub record DeskState : Type 0 where
   pub board : List ℕ
   pub who : ℕ
@@ -40,7 +43,8 @@ pub record DeskState : Type 0 where
 abbrev pub starting_layout : Config → Laid
 starting_layout config = record { bits = config.bits; parts = contiguous config.bits config.parts }
 
--- a desk that is alone, before all its calls: nothing seen, no front, no pin, each shard before the first entry in the starting layout
+-- a desk that is alone, before all its calls: nothing seen, no front, no pin, each shard before the
+-- first entry in the starting layout
 abbrev pub new_desk : Config → DeskState
 new_desk config = record {
   board = [];
@@ -86,7 +90,8 @@ seen_history desk = cut_history desk.config.bits desk.seen
 abbrev pub IsOwnFront : DeskState → FrontState → Type 0
 IsOwnFront desk front = live_at desk.fronts front.id ≡ Some (front.who, position_of front)
 
--- a shard of a desk that is alone doesn't stand beyond what was seen, it was left where it stands, and its layout is of the desk's bits
+-- a shard of a desk that is alone doesn't stand beyond what was seen, it was left where it stands,
+-- and its layout is of the desk's bits
 pub record IsPlace (desk : DeskState) (shard : ℕ) : Type 0 where
   pub within : (place_at desk shard).0 ≤ length desk.seen
   pub left : left_at desk shard ≡ (place_at desk shard).0
@@ -107,11 +112,13 @@ pub record IsDesk (words : ℕ) (desk : DeskState) : Type 0 where
   pub places : desk.alone ≡ true → length desk.places ≡ desk.config.shards
   pub each : desk.alone ≡ true → (shard : ℕ) → shard < desk.config.shards → IsPlace desk shard
 
--- a version of a shard at a position of what the desk has seen: the shard's rows of so many entries, in codes of the desk's bits
+-- a version of a shard at a position of what the desk has seen: the shard's rows of so many
+-- entries, in codes of the desk's bits
 pub record IsVersionOf (desk : DeskState) (shard position : ℕ) (version : Contents) : Type 0 where
   pub sound : IsVersion version
   pub shard_is : version.shard ≡ shard
   pub shards_are : version.shards ≡ desk.config.shards
   pub bits_are : version.layout.bits ≡ desk.config.bits
   pub at : version.at ≡ position
-  pub rows : version.rows ≡ shard_rows shard desk.config.shards (rows_of (take position (seen_history desk)))
+  pub rows : version.rows ≡ shard_rows shard desk.config.shards
+      (rows_of (take position (seen_history desk)))

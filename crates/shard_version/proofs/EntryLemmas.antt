@@ -11,7 +11,8 @@ use Rattle.hamming_model.specs.History.{code_at}
 use Rattle.part_layout.specs.Laid.{Laid}
 use Rattle.search_model.specs.Reading.{unpadded}
 use Rattle.shard_version.specs.Contents.{Contents}
-use Rattle.shard_version.specs.Kept.{AreChanged, EachHas, EachTakes, AgreesWithRows, IsPlace, Lost, Taken, contents_of, next_with, with_added, with_deleted}
+use Rattle.shard_version.specs.Kept.{AgreesWithRows, IsPlace, contents_of, next_with, with_added, with_deleted}
+use Rattle.shard_version.specs.KeptParts.{AreChanged, EachHas, EachTakes, Lost, Taken}
 use Rattle.shard_version.specs.declared.part_table.PartTable.{PartTable}
 use Rattle.shard_version.proofs.PartLemmas.{AddsValue, CountsValue, RemovesValue}
 use Rattle.shard_version.proofs.KeptLemmas.{CountsAll, each_has, each_takes, kept_with_row, kept_without_row, place_has, place_inside, rows_with_row, rows_without_row, stands_own, stands_unpadded, stored_ascend}

@@ -1,5 +1,5 @@
 -- A version as it is kept: empty, and with one row more or less.
-use Rattle.std.proofs.Common.{◌≡◌, ◌≢◌, ℕ, zero, suc, ◌+◌, ◌*◌, ◌%◌, ◌^◌, ◌<◌, ◌≤◌, nat_lt, min, Bool, true, false, cond, List, [], ◌∷◌, ◌++◌, length, map, get_or, replicate, take, drop, refl, sym, ap, subst, ◌∙◌, arith, eqb-true, take-append-drop, All}
+use Rattle.std.proofs.Common.{◌≡◌, ◌≢◌, ℕ, zero, suc, ◌+◌, ◌*◌, ◌%◌, ◌^◌, ◌<◌, ◌≤◌, nat_lt, Bool, true, false, cond, List, [], ◌∷◌, ◌++◌, length, map, get_or, replicate, take, drop, refl, sym, ap, subst, ◌∙◌, arith, eqb-true, take-append-drop, All}
 use Rattle.std.specs.Prelude.{None, Some, is_some}
 use Rattle.std.specs.List.{AllByRecursion, take-map}
 use Rattle.std.specs.List.Sorted.{IsStrictlySortedBy}
@@ -20,7 +20,8 @@ use Rattle.search_model.specs.Reading.{HasSame, unpadded}
 use Rattle.search_model.proofs.SameLemmas.{all_front, all_back}
 use Rattle.shard_version.specs.Contents.{Contents, IsVersion, empty_of}
 use Rattle.shard_version.specs.Tables.{AreStored, HasTables, counts_of, part_values}
-use Rattle.shard_version.specs.Kept.{AreChanged, AreEmpty, EachHas, EachTakes, AgreesWithRows, IsPartTable, IsPlace, Lost, Taken, TakesRow, HasRow, contents_of, next_with, no_rows, tabled_of}
+use Rattle.shard_version.specs.Kept.{AgreesWithRows, IsPartTable, IsPlace, contents_of, next_with, tabled_of}
+use Rattle.shard_version.specs.KeptParts.{AreChanged, AreEmpty, EachHas, EachTakes, Lost, Taken, TakesRow, HasRow, no_rows}
 use Rattle.shard_version.specs.declared.part_table.PartTable.{PartTable}
 use Rattle.shard_version.proofs.PlaceLemmas.{above_absent, above_first, all_append, all_mapped, all_weaker, ascend_from, code_behind, cut_here, drop_here, inserted_between, removed_between, stands_here, stands_nowhere}
 use Rattle.shard_version.proofs.PartLemmas.{AddsValue, CountsValue, RemovesValue, counted_row, counts_lost, counts_taken, key_absent, key_present, list_short, postings_lost, postings_taken, value_fits, values_in_width}

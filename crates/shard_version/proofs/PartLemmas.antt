@@ -1,5 +1,5 @@
 -- The tables of one part, when a row comes or goes.
-use Rattle.std.proofs.Common.{◌≡◌, ◌≢◌, ℕ, ◌+◌, ◌^◌, ◌<◌, ◌≤◌, ◌==◌, Bool, true, false, cond, List, [], ◌∷◌, ◌++◌, length, map, filter, get_or, count_by, nat_lt, sum_by, take, refl, sym, ap, subst, ◌∙◌, arith, eq-eqb, eqb-true, All}
+use Rattle.std.proofs.Common.{◌≡◌, ◌≢◌, ℕ, ◌+◌, ◌^◌, ◌<◌, ◌≤◌, ◌==◌, Bool, true, false, cond, List, [], ◌∷◌, ◌++◌, length, map, filter, count_by, nat_lt, sum_by, take, refl, sym, ap, subst, ◌∙◌, arith, eq-eqb, eqb-true, All}
 use Rattle.std.specs.List.{AllByRecursion}
 use Rattle.std.specs.List.Sorted.{IsPermutation}
 use Rattle.std.proofs.lemmas.Bool.{ne_eqb, eqb-false}

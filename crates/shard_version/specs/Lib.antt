@@ -1,5 +1,6 @@
 pub mod Contents
 pub mod Kept
+pub mod KeptParts
 pub mod KeptRows
 pub mod Prefixes
 pub mod Tables

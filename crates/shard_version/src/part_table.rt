@@ -2,7 +2,7 @@
 
 ghost use Rattle.std.specs.Prelude.{◌≡◌, ◌≤◌, IfOk, OnOk};
 ghost use Rattle.hamming_model.specs.declared.limits.TheConstants.{PART_WIDTH_MOST};
-ghost use Rattle.shard_version.specs.Kept.{HasRow, LosesRow, TakesRow, no_rows, with_row};
+ghost use Rattle.shard_version.specs.KeptParts.{HasRow, LosesRow, TakesRow, no_rows, with_row};
 
 use count_table::Counts;
 use gph_codes::Code;

@@ -2,7 +2,7 @@
 
 ghost use Rattle.std.specs.Prelude.{◌≡◌, ◌*◌, ◌≤◌, length, take, IfOk, OnOk};
 ghost use Rattle.hamming_model.specs.Codes.{StandsFor};
-ghost use Rattle.shard_version.specs.Kept.{AreChanged, AreEmpty, EachHas, EachTakes, Lost, Taken};
+ghost use Rattle.shard_version.specs.KeptParts.{AreChanged, AreEmpty, EachHas, EachTakes, Lost, Taken};
 
 use crate::part_table::PartTable;
 use gph_codes::Code;

@@ -2,6 +2,7 @@
 use Rattle.std.specs.Prelude.{◌≡◌, ℕ, ◌+◌, ◌*◌, ◌^◌, ◌<◌, ◌≤◌, ℤ, List, [], length, map, sum}
 use Rattle.std.specs.Prelude.{slice_index, slice_index_or}
 use Rattle.std.specs.List.{range_with_len}
+use Rattle.hamming_model.specs.declared.limits.TheConstants.{PARTS_MOST}
 use Rattle.threshold_model.specs.Bounds.{IsPlanAt}
 use Rattle.threshold_model.specs.Splits.{threshold_of, units_total}
 use Rattle.threshold_dp.specs.Table.{pick_rows, follow}
@@ -35,7 +36,7 @@ plans_of tau parts picks costs = record {
 
 -- a table has the rows of all parts, each split of which has all its units
 pub record HasPlans (tau parts : ℕ) (picks costs : List ℕ) : Type 0 where
-  pub few : parts ≤ 64
+  pub few : parts ≤ PARTS_MOST
   pub near : tau ≤ 512
   pub wide : parts * (tau + 2) ≤ length picks
   pub costs_are : length costs ≡ tau + 2

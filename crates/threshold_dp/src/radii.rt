@@ -1,6 +1,7 @@
 //! The threshold vectors of all radii.
 
 ghost use Rattle.std.specs.Prelude.{◌≡◌, ◌<◌, ◌≤◌, [], IfOk, slice_index, slice_index_or};
+ghost use Rattle.hamming_model.specs.declared.limits.TheConstants.{PARTS_MOST};
 ghost use Rattle.threshold_dp.specs.Radii.{PlansRadii};
 
 use crate::part_counts::PartCounts;
@@ -44,7 +45,7 @@ impl Radii {
         counts: &C,
     ) -> Result<Radii, NoMemory>
         requires some { 0 < parts }
-        requires few { parts ≤ 64 }
+        requires few { parts ≤ PARTS_MOST }
         requires counted { parts ≤ C.parts counts.now }
         requires near { tau ≤ 512 }
         ensures plans { IfOk result (λ radii. PlansRadii (C.counts counts.now) tau parts radii) }

@@ -2,55 +2,43 @@
 use Rattle.std.proofs.Common.{◌≡◌, ◌∙◌, arith, subst, sym}
 use Rattle.query_protocol.specs.Replies.{reply_line}
 use Rattle.query_protocol.specs.Replies as reply
-use Rattle.scatter_gather.specs.Moves.{Gave}
 use Rattle.open_queries.proofs.GivingLemmas.{gave_number, gave_last, gave_part, gave_more}
 use Rattle.open_queries.proofs.giving.give_hits.Goals as goal
 
 pub returns-in_default-clause-gives : goal.returns-in_default-clause-gives
 returns-in_default-clause-gives g c =
     let laws = g.met.H.HitSource g.world.𝓛 g.world.𝓜 g.world.𝓡 ((λ s x. x), (λ x. x), (λ x. x), λ x. x) in
-    let asks = g.H.HitSource.asked in
-    let stands = g.H.HitSource.standing in
-    let gave = subst (Gave asks stands c.loop-given.gather c.next.new.self c.loop-given.meters c.next.new.meters)
-    c.in_default.is c.next.ensures.gave in
-    gave_last asks stands laws.lawful c.args.tag.now c.args.count c.loop-given.given c.args.gather.now
-    c.loop-given.gather c.next.new.self _ _ c.args.meters.now c.loop-given.meters c.next.new.meters
-    c.loop-given.invariant.has c.loop-given.invariant.few gave (sym c.in_default.is ∙ c.next.ensures.gives)
-    c.next.ensures.within
+    gave_last g.H.HitSource.asked g.H.HitSource.standing laws.lawful c.args.tag.now c.args.count c.loop-given.given
+    c.args.gather.now c.loop-given.gather c.next.new.self _ _ c.args.meters.now c.loop-given.meters c.next.new.meters
+    c.loop-given.invariant.has c.loop-given.invariant.few c.next.result c.in_default.is c.next.ensures.gave
+    c.next.ensures.gives c.next.ensures.within
 
 pub loop-given-preserved : goal.loop-given-preserved
 loop-given-preserved g c =
     let laws = g.met.H.HitSource g.world.𝓛 g.world.𝓜 g.world.𝓡 ((λ s x. x), (λ x. x), (λ x. x), λ x. x) in
-    let asks = g.H.HitSource.asked in
-    let stands = g.H.HitSource.standing in
-    let gave = subst (Gave asks stands c.loop-given.gather c.next.new.self c.loop-given.meters c.next.new.meters)
-    c.in-Some.is c.next.ensures.gave in
     let piece : c.bytes.result.now ≡ reply_line (reply.Hit c.args.tag.now c.in-Some.hit.dist c.in-Some.hit.key) =
     ◌∙◌ {c = reply_line (reply.Hit c.args.tag.now c.in-Some.hit.dist c.in-Some.hit.key)} c.bytes.ensures.value
     c.write_hit.ensures in
     record {
       few = omega (arith, c.loop-given-test.true);
-      has = gave_more asks stands laws.lawful c.args.tag.now c.args.count c.loop-given.given c.args.gather.now
-          c.loop-given.gather c.next.new.self _ _ c.args.meters.now c.loop-given.meters c.next.new.meters
-          c.loop-given.invariant.has c.in-Some.hit gave (sym c.in-Some.is ∙ c.next.ensures.gives)
-          c.next.ensures.within _ c.bytes.result.now piece c.in-Ok.ensures.written;
+      has = gave_more g.H.HitSource.asked g.H.HitSource.standing laws.lawful c.args.tag.now c.args.count c.loop-given.given
+          c.args.gather.now c.loop-given.gather c.next.new.self _ _ c.args.meters.now c.loop-given.meters c.next.new.meters
+          c.loop-given.invariant.has c.next.result c.in-Some.hit c.in-Some.is c.next.ensures.gave
+          c.next.ensures.gives c.next.ensures.within _ c.bytes.result.now piece c.in-Ok.ensures.written;
       steady = c.in-Ok.ensures.cause ∙ c.loop-given.invariant.steady;
     }
 
 pub returns-in-Err-clause-gives : goal.returns-in-Err-clause-gives
 returns-in-Err-clause-gives g c =
     let laws = g.met.H.HitSource g.world.𝓛 g.world.𝓜 g.world.𝓡 ((λ s x. x), (λ x. x), (λ x. x), λ x. x) in
-    let asks = g.H.HitSource.asked in
-    let stands = g.H.HitSource.standing in
-    let gave = subst (Gave asks stands c.loop-given.gather c.next.new.self c.loop-given.meters c.next.new.meters)
-    c.in-Some.is c.next.ensures.gave in
     let piece : c.bytes.result.now ≡ reply_line (reply.Hit c.args.tag.now c.in-Some.hit.dist c.in-Some.hit.key) =
     ◌∙◌ {c = reply_line (reply.Hit c.args.tag.now c.in-Some.hit.dist c.in-Some.hit.key)} c.bytes.ensures.value
     c.write_hit.ensures in
-    gave_part asks stands laws.lawful c.args.tag.now c.args.count c.loop-given.given c.args.gather.now
-    c.loop-given.gather c.next.new.self _ _ c.args.meters.now c.loop-given.meters c.next.new.meters
-    c.loop-given.invariant.has c.in-Some.hit gave (sym c.in-Some.is ∙ c.next.ensures.gives)
-    c.next.ensures.within (omega (arith, c.loop-given-test.true)) _ _ c.bytes.result.now piece c.in-Err.ensures.written
+    gave_part g.H.HitSource.asked g.H.HitSource.standing laws.lawful c.args.tag.now c.args.count c.loop-given.given
+    c.args.gather.now c.loop-given.gather c.next.new.self _ _ c.args.meters.now c.loop-given.meters c.next.new.meters
+    c.loop-given.invariant.has c.next.result c.in-Some.hit c.in-Some.is c.next.ensures.gave
+    c.next.ensures.gives c.next.ensures.within (omega (arith, c.loop-given-test.true)) _ _ c.bytes.result.now piece
+    c.in-Err.ensures.written
 
 pub returns-clause-gives : goal.returns-clause-gives
 returns-clause-gives g c =

@@ -50,5 +50,6 @@ returns-clause-gives g c =
     c.position-position.ensures.front) in
     let sound : IsVersion version = subst (λ (each : Tabled). IsVersion each.contents) c.deref.ensures c.at-at.ensures.version in
     one_given journal c.advance.new.self (position_of front) version rule c.in_ok-version.ensures
-    (c.shards_keep_the_rule.ensures.given (positions_of journal.live) journal.history c.advance.new.self (position_of front) version rule c.in_ok-version.ensures)
+    (c.shards_keep_the_rule.ensures.given (positions_of journal.live) journal.history c.advance.new.self
+    (position_of front) version rule c.in_ok-version.ensures)
     sound

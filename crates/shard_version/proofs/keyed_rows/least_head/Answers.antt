@@ -1,4 +1,4 @@
-use Rattle.std.proofs.Common.{rules, ◌≡◌, ◌≤◌, ◌<◌, ◌∙◌, ap, arith, length, get_or, List, [], ℕ}
+use Rattle.std.proofs.Common.{◌≡◌, ◌<◌, ◌∙◌, ap, arith, length, get_or, List, [], ℕ}
 use Rattle.shard_version.specs.KeptRows.{head_key, key_from, row_buckets_of}
 use Rattle.shard_version.proofs.HeadLemmas.{better, bucket_seen, no_better}
 use Rattle.shard_version.proofs.keyed_rows.least_head.Goals as goal

@@ -1,4 +1,4 @@
-use Rattle.shard_version.specs.Kept.{AreEmpty}
+use Rattle.shard_version.specs.KeptParts.{AreEmpty}
 use Rattle.shard_version.proofs.tables.empty_tables.Given as goal
 
 abbrev pub invariant-loop-part : goal.invariant-loop-part

@@ -1,5 +1,5 @@
 use Rattle.std.proofs.Common.{take}
-use Rattle.shard_version.specs.Kept.{AreChanged, Lost}
+use Rattle.shard_version.specs.KeptParts.{AreChanged, Lost}
 use Rattle.shard_version.proofs.tables.remove_from_each.Given as goal
 
 abbrev pub invariant-loop-part : goal.invariant-loop-part

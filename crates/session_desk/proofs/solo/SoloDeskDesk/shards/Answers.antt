@@ -6,4 +6,5 @@ use Rattle.session_desk.proofs.SoloLemmas.{solo_is_desk}
 use Rattle.session_desk.proofs.solo.SoloDeskDesk.shards.Goals as goal
 
 pub returns-clause-desk : goal.returns-clause-desk
-returns-clause-desk g c = subst (λ (s : SoloState). IsDesk g.row.W (desk_of s)) c.self.view_is (solo_is_desk g.row.W _ c.self.invariant c.length-length.ensures.journal)
+returns-clause-desk g c = subst (λ (s : SoloState). IsDesk g.row.W (desk_of s)) c.self.view_is
+    (solo_is_desk g.row.W _ c.self.invariant c.length-length.ensures.journal)

@@ -28,5 +28,6 @@ invariant_of-self g c =
 pub returns-in-Ok-clause-swapped : goal.returns-in-Ok-clause-swapped
 returns-in-Ok-clause-swapped g c =
     now_swaps g.row.W _ c.args.self.now c.self.invariant c.self.view_is c.args.shard c.requires.shard c.index_mut.result.now c.index_mut.ensures.value
-    c.swap_shard-swapped.new.shard c.swap_shard-swapped.ensures.keeps false (contents_at c.args.prepared.version) c.one_more-self-inside.result c.self.inside.late
+    c.swap_shard-swapped.new.shard c.swap_shard-swapped.ensures.keeps false
+    (contents_at c.args.prepared.version) c.one_more-self-inside.result c.self.inside.late
     (ap (λ (shard : ShardState). shard.current.layout) c.in-Ok.ensures.swapped) c.in-Ok.ensures.moved c.one_more-self-inside.ensures refl

@@ -1,9 +1,9 @@
 -- The rows of least key, taken one by one.
-use Rattle.std.proofs.Common.{rules, ◌≡◌, ◌+◌, ◌<◌, ◌≤◌, ◌∙◌, ap, sym, arith, length, get_or, List, [], ℕ}
+use Rattle.std.proofs.Common.{rules, ◌≡◌, ◌<◌, ◌∙◌, ap, arith, length, get_or, List, ℕ}
 use Rattle.std.proofs.lemmas.List.{get_or_default, length-map}
 use Rattle.std.specs.Arc.{arc_value}
 use Rattle.shard_version.specs.KeptRows.{IsLeastHead, bucket_at, row_buckets_of, rows_in}
-use Rattle.shard_version.proofs.HeadLemmas.{bucket_seen, head_inside, head_low, head_row, least_own, taken_more, taken_none}
+use Rattle.shard_version.proofs.HeadLemmas.{bucket_seen, head_inside, head_low, head_row, least_own, taken_more}
 use Rattle.shard_version.proofs.keyed_rows.KeyedRows.first.Goals as goal
 
 pub row-requires : goal.row-requires

@@ -1,4 +1,4 @@
-use Rattle.std.proofs.Common.{rules, ◌≡◌, ◌≤◌, ◌∙◌, arith, ap, List, ℕ}
+use Rattle.std.proofs.Common.{rules, ◌∙◌, arith, ap, List, ℕ}
 use Rattle.std.specs.Prelude.{is_some}
 use Rattle.hamming_model.specs.History.{code_at}
 use Rattle.shard_version.proofs.SharedLemmas.{IsBucketOf, own_ascend, own_code}

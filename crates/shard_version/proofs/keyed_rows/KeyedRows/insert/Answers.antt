@@ -1,4 +1,4 @@
-use Rattle.std.proofs.Common.{rules, ◌∙◌, arith, ap}
+use Rattle.std.proofs.Common.{rules, ◌∙◌}
 use Rattle.shard_version.proofs.SharedLemmas.{bucket_of_key, kept_added, kept_same, own_ascend, own_code, seen_added}
 use Rattle.shard_version.proofs.keyed_rows.KeyedRows.insert.Goals as goal
 

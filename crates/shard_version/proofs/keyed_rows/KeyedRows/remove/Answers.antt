@@ -1,4 +1,4 @@
-use Rattle.std.proofs.Common.{rules, ◌∙◌, arith, ap, sym}
+use Rattle.std.proofs.Common.{rules, ◌∙◌, ap, sym}
 use Rattle.std.specs.Prelude.{is_some}
 use Rattle.shard_version.proofs.SharedLemmas.{bucket_of_key, kept_removed, kept_same, own_ascend, own_code, seen_removed}
 use Rattle.shard_version.proofs.keyed_rows.KeyedRows.remove.Goals as goal

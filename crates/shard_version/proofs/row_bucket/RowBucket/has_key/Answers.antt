@@ -1,4 +1,4 @@
-use Rattle.std.proofs.Common.{rules, ◌≡◌, subst, sym, List, ℕ}
+use Rattle.std.proofs.Common.{rules}
 use Rattle.shard_version.proofs.row_bucket.RowBucket.has_key.Goals as goal
 
 pub place_of-requires : goal.place_of-requires

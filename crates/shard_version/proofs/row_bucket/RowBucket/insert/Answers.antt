@@ -1,8 +1,4 @@
-use Rattle.std.proofs.Common.{◌≡◌, ◌∙◌, sym, subst, List, ℕ}
-use Rattle.std.specs.Prelude.{None}
-use Rattle.std.specs.BTreeMap.{insert_entry}
-use Rattle.std.specs.Ordering.{nat_cmp}
-use Rattle.hamming_model.specs.History.{code_at}
+use Rattle.std.proofs.Common.{◌∙◌}
 use Rattle.shard_version.proofs.BucketLemmas.{added_in_place}
 use Rattle.shard_version.proofs.row_bucket.RowBucket.insert.Goals as goal
 

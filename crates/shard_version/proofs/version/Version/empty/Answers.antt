@@ -2,7 +2,7 @@
 use Rattle.std.proofs.Common.{length, subst}
 use Rattle.std.specs.Arc.{arc_value}
 use Rattle.part_layout.specs.Laid.{IsLaid, Laid}
-use Rattle.shard_version.specs.Kept.{AreEmpty}
+use Rattle.shard_version.specs.KeptParts.{AreEmpty}
 use Rattle.shard_version.proofs.KeptLemmas.{kept_empty}
 use Rattle.shard_version.proofs.version.Version.empty.Goals as goal
 
