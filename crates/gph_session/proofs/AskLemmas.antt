@@ -173,10 +173,17 @@ module _ {A : Type 0} {W : ℕ} (p : Here W) (after : Option (List ℕ)) (result
         (subst (λ d. Spends p.old.desk d p.old.ledgers.upkeep p.old.ledgers.upkeep vain) (sym desk)
         (spends_still p.old.desk p.old.ledgers.upkeep vain)))
         (all_replaced (IsSettled p.config p.history) tag closed s.queries p.stands.settled
-        (record { within = settled.within; bounded = record { number = settled.bounded.number;
-        within = λ shard lt. record { bound = (settled.bounded.within shard lt).bound;
-        is_bound = (settled.bounded.within shard lt).is_bound;
-        within = (settled.bounded.within shard lt).within } } }))
+        (record {
+          within = settled.within;
+          bounded = record {
+            number = settled.bounded.number;
+            within = λ shard lt. record {
+              bound = (settled.bounded.within shard lt).bound;
+              is_bound = (settled.bounded.within shard lt).is_bound;
+              within = (settled.bounded.within shard lt).within;
+            };
+          };
+        }))
         (subst (λ d. Means p.config d p.history t) (sym desk)
         (means_to p.config p.old.desk p.old.desk p.history s t p.stands.means (desk_keeps p.old.desk)
         refl refl refl refl refl))

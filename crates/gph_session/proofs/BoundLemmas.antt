@@ -292,8 +292,12 @@ module _ {W : ℕ} (config : Config) (history : List JournalEntry) (cursor : Cur
       let few = sum_few query.reads ENTRIES_MOST (λ shard lt.
       let within : shard < config.shards = subst (λ n. shard < n) settled.bounded.number lt in
       let one = settled.bounded.within shard within in
-      omega (arith, one.within, bound_few query.ask (rows_at config history query shard) (layout_at query.pinned shard) _
-      (keeps.each_asks shard first within) (some_parts shard within) _ one.bound one.is_bound)) in
+      omega (
+        arith,
+        one.within,
+        bound_few query.ask (rows_at config history query shard) (layout_at query.pinned shard) _
+            (keeps.each_asks shard first within) (some_parts shard within) _ one.bound one.is_bound,
+      )) in
       subst (λ n. sum_of query.reads ≤ n * ENTRIES_MOST) settled.bounded.number few
 
 -- ---- what a settled query has read
@@ -327,4 +331,3 @@ pub all_settled_later : (config : Config) (history later : List JournalEntry) (q
 all_settled_later config history later [] all = tt
 all_settled_later config history later (query ∷ queries) all =
     (settled_later config history later query all.0, all_settled_later config history later queries all.1)
-

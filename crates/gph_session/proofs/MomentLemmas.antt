@@ -58,7 +58,7 @@ pub vain_more : (shards : ℕ) (exchanges : List Exchange) (e : Exchange)
 vain_more shards exchanges e =
     let Vain = λ (e : Exchange). vain_steps shards e.replies e.seen in
     let both : sum_of (map Vain (exchanges ++ e ∷ []))
-        ≡ sum_of (map Vain exchanges) + sum_of (Vain e ∷ []) =
+    ≡ sum_of (map Vain exchanges) + sum_of (Vain e ∷ []) =
     ap sum_of (map-append Vain exchanges (e ∷ [])) ∙ sum_append (map Vain exchanges) (Vain e ∷ []) in
     omega (arith, both)
 

@@ -141,19 +141,31 @@ module _ {A : Type 0} {W : ℕ} (p : Here W) (after : Option (List ℕ)) (result
         ≡ slice_index p.old.ledgers.reads ledger + slice_index (reads_in is) ledger
     read_by first ledger true is_here =
         let lt : ledger < shards = ltb-true ledger shards is_here in
-        omega (arith, gives.ledgers.at ledger first (omega (arith, lt, old_sources)), read_old ledger first lt,
-        read_new ledger first lt)
+        omega (
+          arith,
+          gives.ledgers.at ledger first (omega (arith, lt, old_sources)),
+          read_old ledger first lt,
+          read_new ledger first lt,
+        )
     read_by first ledger false is_here =
         let le : shards ≤ ledger = ltb-false ledger shards is_here in
-        omega (arith, gives.ledgers.beyond ledger (omega (arith, le, old_sources)), none_old ledger le,
-        none_new ledger le)
+        omega (
+          arith,
+          gives.ledgers.beyond ledger (omega (arith, le, old_sources)),
+          none_old ledger le,
+          none_new ledger le,
+        )
 
     no_less_by : (first : RangeTask W) (shard : ℕ) (here : Bool) → nat_lt shard shards ≡ here
         → slice_index query.reads shard ≤ slice_index (reads_in is) shard
     no_less_by first shard true is_here =
         let lt : shard < shards = ltb-true shard shards is_here in
-        omega (arith, gives.ledgers.rises shard first (omega (arith, lt, old_sources)), read_old shard first lt,
-        read_new shard first lt)
+        omega (
+          arith,
+          gives.ledgers.rises shard first (omega (arith, lt, old_sources)),
+          read_old shard first lt,
+          read_new shard first lt,
+        )
     no_less_by first shard false is_here =
         omega (arith, none_old shard (ltb-false shard shards is_here))
 
@@ -165,8 +177,11 @@ module _ {A : Type 0} {W : ℕ} (p : Here W) (after : Option (List ℕ)) (result
     reads_to = record {
       number = number;
       each = λ ledger lt.
-          omega (arith, read_replaced ledger tag query this p.s.queries found,
-          read_by first ledger (nat_lt ledger shards) refl);
+          omega (
+            arith,
+            read_replaced ledger tag query this p.s.queries found,
+            read_by first ledger (nat_lt ledger shards) refl,
+          );
     }
 
     reads_on : ReadsOn query (reads_in is)

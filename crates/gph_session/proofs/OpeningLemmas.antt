@@ -1,19 +1,22 @@
 -- Lemmas on an opening over a desk that is alone.
 use Rattle.std.proofs.Common.{◌≡◌, ℕ, zero, suc, ◌+◌, ◌-◌, ◌*◌, ◌≤◌, ◌<◌, true, false, List, [], ◌∷◌, ◌++◌}
 use Rattle.std.proofs.Common.{length, map, replicate, slice_index_or, Option, Some, None}
-use Rattle.std.proofs.Common.{refl, sym, ap, ◌∙◌, subst, arith, append-nil}
+use Rattle.std.proofs.Common.{refl, sym, ap, ◌∙◌, subst, arith, append-nil, inl}
 use Rattle.std.specs.List.{AllByRecursion}
 use Rattle.std.proofs.lemmas.List.{length-map}
-use Rattle.hit_source.specs.Sources.{Asked, Standing}
+use Rattle.hit_source.specs.Sources.{Asked, Standing, IsFresh}
 use Rattle.part_layout.specs.declared.config.Config.{Config}
 use Rattle.shard_query.specs.declared.range_task.RangeTask.{RangeTask}
 use Rattle.session_desk.specs.Desks.{DeskState, IsDesk, Pin, Place, no_place, pin_position, pinned_at, place_at, IsVersionOf}
 use Rattle.session_model.specs.Upkeep.{entries_beyond}
+use Rattle.scatter_gather.specs.Gathering.{Gathered, gathered}
 use Rattle.scatter_gather.specs.Kept.{AreOneLength}
 use Rattle.query_opening.specs.Pinning.{ComesOn, behind}
 use Rattle.query_opening.specs.Opening.{OpensRange}
 use Rattle.gph_session.specs.Sessions.{KeepsDesk, layouts_of, pins_of}
-use Rattle.gph_session.specs.Opening.{OpensAll, OpensNone, OpensShard}
+use Rattle.gph_session.specs.Opening.{OpensAll, OpensNone, IsGathered}
+use Rattle.gph_session.specs.Cursors.{asks, stands}
+use Rattle.gph_session.proofs.BoundLemmas.{first_of_some}
 
 -- ---- lists by place
 
@@ -42,11 +45,6 @@ all_places P f [] d each = tt
 all_places P f (x ∷ xs) d each =
     (each zero (omega arith), all_places P f xs d (λ i lt. each (suc i) (omega (arith, lt))))
 
-all_of_map : {S B : Type 0} (P : B → Type 0) (f : S → B) (xs : List S) → AllByRecursion P (map f xs)
-    → AllByRecursion (λ x. P (f x)) xs
-all_of_map P f [] all = tt
-all_of_map P f (x ∷ xs) all = (all.0, all_of_map P f xs all.1)
-
 -- ---- how far pins are behind
 
 behind_first : (pin : Option Pin) (pins : List (Option Pin)) (position number : ℕ)
@@ -74,8 +72,11 @@ beyond_less [] [] most same each = omega arith
 beyond_less [] (y ∷ new) most same each = absurd (omega (arith, same))
 beyond_less (x ∷ old) [] most same each = absurd (omega (arith, same))
 beyond_less (x ∷ old) (y ∷ new) most same each =
-    omega (arith, each zero (omega arith),
-    beyond_less old new most (omega (arith, same)) (λ i lt. each (suc i) (omega (arith, lt))))
+    omega (
+      arith,
+      each zero (omega arith),
+      beyond_less old new most (omega (arith, same)) (λ i lt. each (suc i) (omega (arith, lt))),
+    )
 
 -- ---- a desk that is alone
 
@@ -123,17 +124,22 @@ module _ (words : ℕ) (old new : DeskState) (is_old : IsDesk words old) (is_new
     seen = seen_same;
     keeps = keeps;
     pins = λ most le. beyond_less old.pins new.pins most comes.number (λ i lt. comes.rises i (pin_within i lt));
-    steps = omega (arith, steps, behind_here (length new.seen),
-        subst (λ n. entries_beyond (pins_of old) (length new.seen) ≤ n * length new.seen) pins_number
-        (beyond_most (pins_of old) (length new.seen)));
+    steps = omega (
+      arith,
+      steps,
+      behind_here (length new.seen),
+      subst (λ n. entries_beyond (pins_of old) (length new.seen) ≤ n * length new.seen) pins_number
+          (beyond_most (pins_of old) (length new.seen)),
+    );
   }
 
   pub opens_all : {S : Type 0} (asks : S → Asked) (stands : S → Standing) (sources : List S)
-      (position rows : ℕ) (code : List ℕ) (tau room from to : ℕ) (some : S)
+      (position rows : ℕ) (code : List ℕ) (tau room from to : ℕ)
       → OpensRange asks stands old new position rows code tau room sources
       → to ≤ from + behind old.pins (length new.seen) old.config.shards
       → OpensAll asks stands old new sources position code tau room from to
-  opens_all asks stands sources position rows code tau room from to some opens steps =
+  opens_all asks stands sources position rows code tau room from to opens steps =
+      let some = first_of_some sources (omega (arith, opens.number, is_old.config.some_shards)) in
       let at : position ≡ length new.seen = omega (arith, opens.after, opens.within, ap length seen_same) in
       record {
         position_is = at;
@@ -168,16 +174,33 @@ pub one_length : (asked : List Asked) (bits : ℕ) → AllByRecursion (λ a. a.f
 one_length [] bits all = tt
 one_length (a ∷ asked) bits all = all_far (a ∷ asked) bits all a.farthest all.0
 
-module _ {S : Type 0} (asks : S → Asked) (stands : S → Standing) (old new : DeskState) (sources : List S)
-    (position : ℕ) (code : List ℕ) (tau room from to : ℕ) (some : S)
-    (opens : OpensAll asks stands old new sources position code tau room from to) where
-  pub same_length : AreOneLength (map asks sources)
-  same_length = one_length (map asks sources) new.config.bits
-      (all_places (λ a. a.farthest ≡ new.config.bits) asks sources some (λ i lt.
+-- the gathering of what was opened has given nothing
+module _ {W : ℕ} (words : ℕ) (old new : DeskState) (sources : List (RangeTask W)) (position : ℕ) (code : List ℕ)
+    (tau room from to : ℕ) (is_old : IsDesk words old)
+    (opens : OpensAll (asks {W = W}) (stands {W = W}) old new sources position code tau room from to) where
+  some : RangeTask W
+  some = first_of_some sources (omega (arith, opens.number, is_old.config.some_shards))
+
+  pub same_length : AreOneLength (map (asks {W = W}) sources)
+  same_length = one_length (map (asks {W = W}) sources) new.config.bits
+      (all_places (λ a. a.farthest ≡ new.config.bits) (asks {W = W}) sources some (λ i lt.
       let one = opens.each i some (omega (arith, lt, opens.number)) in
       one.asks.farthest ∙ one.version_is.bits_are))
 
-  pub none_near : AllByRecursion (λ source. (asks source).near ≡ false) sources
-  none_near = all_of_map (λ a. a.near ≡ false) asks sources
-      (all_places (λ a. a.near ≡ false) asks sources some (λ i lt.
-      (opens.each i some (omega (arith, lt, opens.number))).asks.near))
+  none_near : AllByRecursion (λ (a : Asked). a.near ≡ false) (map (asks {W = W}) sources)
+  none_near = all_places (λ (a : Asked). a.near ≡ false) (asks {W = W}) sources some (λ i lt.
+      (opens.each i some (omega (arith, lt, opens.number))).asks.near)
+
+  pub is_gathered : (gather : Gathered (RangeTask W)) → gather ≡ gathered sources 18446744073709551615 0 None
+      → AllByRecursion (λ source. IsFresh (stands {W = W} source)) sources → IsGathered gather
+  is_gathered gather same fresh =
+      subst (λ g. IsGathered {W = W} g) (sym same) (record {
+        limit = refl;
+        given = refl;
+        untouched = record {
+          is_new = refl;
+          fresh = fresh;
+          one_length = same_length;
+          one_kind = inl none_near;
+        };
+      })

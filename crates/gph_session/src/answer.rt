@@ -13,8 +13,8 @@ ghost use Rattle.gph_session.specs.Moments.{moment_of};
 
 use crate::asking::{cancel, cost, layout, next, plan};
 use crate::commits::{add, delete, get};
-use crate::opening::range;
 use crate::open_session::Session;
+use crate::opening::range;
 use crate::turn::Turn;
 use line_io::{Cut, Cutter, Failed, Sink};
 use open_queries::say;

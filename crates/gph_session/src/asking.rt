@@ -1,9 +1,10 @@
 //! `next`, `cost`, `plan`, `cancel` and `layout`: the requests on open queries and on shards.
 
-ghost use Rattle.std.specs.Prelude.{◌≡◌, ◌<◌, ℕ, List, true};
+ghost use Rattle.std.specs.Prelude.{◌≡◌, ◌<◌, ◌≤◌, ℕ, List, true};
 ghost use Rattle.std.specs.Thread.{IsSync};
 ghost use Rattle.query_protocol.specs.Requests.{Next, Cost, Plan, Cancel, Layout};
 ghost use Rattle.open_queries.specs.Writing.{IsCaused};
+ghost use Rattle.open_queries.specs.Queries.{HaveShard};
 ghost use Rattle.gph_session.specs.Meaning.{IsReady, HaveShards};
 ghost use Rattle.session_desk.specs.Desks.{DeskState};
 ghost use Rattle.gph_session.specs.Flow.{AnswersRequest};
@@ -11,12 +12,13 @@ ghost use Rattle.gph_session.specs.Moments.{moment_of};
 
 use crate::open_session::Session;
 use line_io::{Failed, Sink};
-use open_queries::{say, send};
+use open_queries::{OpenQueries, say, send};
 use part_layout::Config;
 use query_protocol::{Tag, write_layout};
 use read_meter::Meters;
 use scatter_gather::Gate;
 use session_desk::Desk;
+use shard_query::RangeTask;
 use std::thread::Threads;
 
 /// Answers the next hits of the query of a tag.
@@ -91,9 +93,22 @@ pub(crate) fn plan<const W: usize, K: Sink>(
     ensures shards { HaveShards config.now.shards session.new.queries }
     ensures cause { IsCaused (K.faults sink.old) (K.faults sink.new) result }
 {
+    every_query_has_shard(config, &session.queries, shard);
     session.queries.plan(tag, shard, &mut session.out);
     send(&session.out, sink)
 }
+
+// A source stands behind each query for the shard.
+fn every_query_has_shard<const W: usize>(
+    config: &Config,
+    queries: &OpenQueries<RangeTask<W>>,
+    shard: u32,
+)
+    requires few_words { W ≤ 8 }
+    requires shard { shard < config.now.shards }
+    requires shards { HaveShards config.now.shards queries.now }
+    ensures { HaveShard queries.now shard }
+{}
 
 /// Ends the query of a tag, and answers how many hits it gave.
 pub(crate) fn cancel<const W: usize, K: Sink>(

@@ -11,8 +11,8 @@ ghost use Rattle.gph_session.specs.Moments.{moment_of};
 ghost use Rattle.gph_session.specs.Serving.{EndsAs};
 
 use crate::block::{answer_block, answer_end};
-use crate::report::Status;
 use crate::open_session::Session;
+use crate::report::Status;
 use crate::turn::Turn;
 use line_io::{Failed, Sink, Source};
 use part_layout::Config;

@@ -8,9 +8,9 @@ ghost use Rattle.session_model.specs.Outcomes.{IsInputLimit, EndsWith, ends};
 ghost use Rattle.gph_session.specs.Sessions.{IsServed};
 ghost use Rattle.gph_session.specs.Serving.{EndsOrDidNothing};
 
+use crate::open_session::new_session;
 use crate::report::{Report, Status};
 use crate::serve::serve;
-use crate::open_session::new_session;
 use line_io::{Sink, Source};
 use part_layout::Config;
 use read_meter::{Meters, NoMemory, Steps};

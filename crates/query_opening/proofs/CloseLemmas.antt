@@ -5,7 +5,7 @@ use Rattle.std.specs.FinMap.{get, insert, remove, get-insert, get-remove, same_m
 use Rattle.shard_version.specs.Contents.{Contents}
 use Rattle.commit_journal.specs.Fronts.{FrontState, Live, live_at, position_of}
 use Rattle.session_desk.specs.Calls.{ClosesFront, KeepsKnown, Learns, OnlyLearns, OpensFront}
-use Rattle.session_desk.specs.Desks.{DeskState, IsOwnFront, Pin, place_at}
+use Rattle.session_desk.specs.Desks.{DeskState, IsOwnFront, Pin, pinned_at, place_at}
 use Rattle.query_opening.specs.Pinning.{ComesOn, PinsAll, PinsFirst, behind}
 use Rattle.query_opening.proofs.PinLemmas.{learns_both, learns_length, version_stays}
 
@@ -50,6 +50,10 @@ only_learned old new only = record {
   done = ap (λ (d : DeskState). d.done) only.after;
   late = ap (λ (d : DeskState). d.late) only.after;
   alone = ap (λ (d : DeskState). d.alone) only.after;
+  number = ap (λ (d : DeskState). length d.pins) only.after;
+  rises = λ shard within.
+      let same : pinned_at new shard ≡ pinned_at old shard = ap (λ (d : DeskState). pinned_at d shard) only.after in
+      omega (arith, same);
   layouts = λ is shard. ap (λ (d : DeskState). (place_at d shard).1) only.after;
 }
 
@@ -79,6 +83,11 @@ module _ (old start mid new : DeskState) (front : FrontState) (opens : OpensFron
     done = ap (λ (d : DeskState). d.done) closes.after ∙ comes.done ∙ ap (λ (d : DeskState). d.done) opens.after;
     late = ap (λ (d : DeskState). d.late) closes.after ∙ comes.late ∙ ap (λ (d : DeskState). d.late) opens.after;
     alone = ap (λ (d : DeskState). d.alone) closes.after ∙ comes.alone ∙ start_alone;
+    number = ap (λ (d : DeskState). length d.pins) closes.after ∙ comes.number ∙ ap (λ (d : DeskState). length d.pins) opens.after;
+    rises = λ shard within.
+        let first : pinned_at start shard ≡ pinned_at old shard = ap (λ (d : DeskState). pinned_at d shard) opens.after in
+        let last : pinned_at new shard ≡ pinned_at mid shard = ap (λ (d : DeskState). pinned_at d shard) closes.after in
+        omega (arith, first, last, comes.rises shard (omega (arith, first, within, learns_length old start.seen opens.learns)));
     layouts = λ is shard.
         ap (λ (d : DeskState). (place_at d shard).1) closes.after ∙ comes.layouts (start_alone ∙ is) shard
         ∙ ap (λ (d : DeskState). (place_at d shard).1) opens.after;

@@ -1,7 +1,7 @@
 -- A desk whose shards are pinned one after the other.
 use Rattle.std.proofs.Common.{◌≡◌, ◌≢◌, ◌⊎◌, inl, inr, ℕ, zero, suc, ◌+◌, ◌-◌, ◌<◌, ◌≤◌, List, [], ◌∷◌, ◌++◌, length, take, get_or, set, Option, Some, None, refl, sym, ap, subst, ◌∙◌, arith}
 use Rattle.std.specs.List.{AllByRecursion}
-use Rattle.std.proofs.lemmas.Bool.{cases_lt}
+use Rattle.std.proofs.lemmas.Bool.{cases_eq, cases_lt}
 use Rattle.std.proofs.lemmas.List.{append_assoc, append-nil, get_or-set_other, get_or-set_same, length-append, length-map, length-set, map-append, take-append-le}
 use Rattle.hamming_model.specs.History.{JournalEntry, rows_of, shard_rows}
 use Rattle.hamming_model.specs.Recoded.{cut_entry, cut_history}
@@ -77,12 +77,15 @@ none_came desk = record {
   done = refl;
   late = refl;
   alone = refl;
+  number = refl;
+  rises = λ shard within. omega arith;
   layouts = λ _ _. refl;
 }
 
 -- one shard more came on
-pub one_came : (old mid new : DeskState) (shard : ℕ) (pins : List (Option Pin)) → ComesOn old mid → Comes mid new shard pins → ComesOn old new
-one_came old mid new shard pins first second = record {
+one_came : (old mid new : DeskState) (shard : ℕ) (pins : List (Option Pin)) → ComesOn old mid → Comes mid new shard pins → length pins ≡ length mid.pins
+    → ((other : ℕ) → pinned_at old other ≤ length old.seen → pinned_at old other ≤ pinned_at new other) → ComesOn old new
+one_came old mid new shard pins first second same further = record {
   learns = learns_both old mid new.seen first.learns second.learns first.who first.alone;
   board = ap (λ (d : DeskState). d.board) second.after ∙ first.board;
   who = ap (λ (d : DeskState). d.who) second.after ∙ first.who;
@@ -91,10 +94,18 @@ one_came old mid new shard pins first second = record {
   done = ap (λ (d : DeskState). d.done) second.after ∙ first.done;
   late = ap (λ (d : DeskState). d.late) second.after ∙ first.late;
   alone = ap (λ (d : DeskState). d.alone) second.after ∙ first.alone;
+  number = ap (λ (d : DeskState). length d.pins) second.after ∙ same ∙ first.number;
+  rises = further;
   layouts = λ is other.
       ap (λ (places : List Place). (get_or places other no_place).1) (second.places (first.alone ∙ is))
       ∙ layout_kept mid.places shard other (left_at new shard) ∙ first.layouts is other;
 }
+
+-- one shard more came nearer, and its pin stayed
+pub failed_came : (old mid new : DeskState) (shard : ℕ) → ComesOn old mid → Comes mid new shard mid.pins → ComesOn old new
+failed_came old mid new shard first second = one_came old mid new shard mid.pins first second refl (λ other within.
+    let same : pinned_at new other ≡ pinned_at mid other = ap (λ (d : DeskState). pinned_at d other) second.after in
+    omega (arith, first.rises other within, same))
 
 pub last_of : {A : Type 0} (items : List A) (item none : A) → get_or (items ++ item ∷ []) (length items) none ≡ item
 last_of [] item none = refl
@@ -122,9 +133,25 @@ module _ (old mid new : DeskState) (front : FrontState) (versions : List Content
       ap (λ (each : List (Option Pin)). get_or each shard None) new_pins
       ∙ get_or-set_other mid.pins number shard (Some (position_of front, layout_text version.layout.parts)) None apart
 
+  pinned_here : pinned_at new number ≡ position_of front
+  pinned_here = ap pin_position (ap (λ (each : List (Option Pin)). get_or each number None) new_pins
+      ∙ get_or-set_same mid.pins number (Some (position_of front, layout_text version.layout.parts)) None (omega (arith, low, first.all)))
+
+  further_by : (other : ℕ) → pinned_at old other ≤ length old.seen → (other ≡ number) ⊎ (other ≢ number) → pinned_at old other ≤ pinned_at new other
+  further_by other within (inl here) = omega (arith, within, ap (pinned_at new) here, pinned_here, first.whole)
+  further_by other within (inr apart) =
+      let same : pinned_at new other ≡ pinned_at mid other = ap pin_position (others_stay other apart) in
+      omega (arith, first.comes.rises other within, same)
+
+  -- the shard came on, with its pin
+  pub came : ComesOn old new
+  came = one_came old mid new number _ first.comes pins.comes
+      (length-set mid.pins number (Some (position_of front, layout_text version.layout.parts)))
+      (λ other within. further_by other within (cases_eq other number))
+
   pub pins_more : PinsFirst old new (position_of front) (versions ++ version ∷ []) (number + 1)
   pins_more = record {
-    comes = one_came old mid new number _ first.comes pins.comes;
+    comes = came;
     last = ap (λ (d : DeskState). d.last) pins.comes.after ∙ first.last;
     whole = first.whole;
     all = ap length new_pins ∙ length-set mid.pins number (Some (position_of front, layout_text version.layout.parts)) ∙ first.all;

@@ -7,7 +7,7 @@ use Rattle.shard_version.specs.Contents.{Contents}
 use Rattle.shard_version.specs.Tables.{Tabled}
 use Rattle.versioned_shard.specs.Shards.{contents_at}
 use Rattle.session_desk.specs.Calls.{Learns}
-use Rattle.session_desk.specs.Desks.{DeskState, IsVersionOf, Pin, pin_position, place_at}
+use Rattle.session_desk.specs.Desks.{DeskState, IsVersionOf, Pin, pin_position, pinned_at, place_at}
 
 -- how many entries the first so many shards are behind a position, counted from their last pins
 abbrev pub behind : List (Option Pin) → ℕ → ℕ → ℕ
@@ -30,6 +30,8 @@ pub record ComesOn (old new : DeskState) : Type 0 where
   pub done : new.done ≡ old.done
   pub late : new.late ≡ old.late
   pub alone : new.alone ≡ old.alone
+  pub number : length new.pins ≡ length old.pins
+  pub rises : (shard : ℕ) → pinned_at old shard ≤ length old.seen → pinned_at old shard ≤ pinned_at new shard
   pub layouts : old.alone ≡ true → (shard : ℕ) → (place_at new shard).1 ≡ (place_at old shard).1
 
 -- a shard was pinned at a position: its version there, the desk's last pin of it, and where the

@@ -30,8 +30,14 @@ returns-clause-answers g c = λ desk upkeep alone line asked history s stands'.
     ap (λ l. take (length told) (l ++ drop (length l) told)) last.ensures.value
     ∙ take_at told (drop (length told) told) (length told) refl in
     let number : length end ≡ length m =
-    omega (arith, ap length same_end, first.ensures.sixteen, ap length first.ensures.value, last.ensures.sixteen,
-    ap length last.ensures.value) in
+    omega (
+      arith,
+      ap length same_end,
+      first.ensures.sixteen,
+      ap length first.ensures.value,
+      last.ensures.sixteen,
+      ap length last.ensures.value,
+    ) in
     let from_here = subst (λ from. GivesAs (asks {W = g.row.W}) (stands {W = g.row.W}) c.args.session.now.queries
     c.args.tag.now c.args.n (held c.args.sink.now) (held c.next-said.new.sink) from told
     c.next-said.result c.next-said.new.self) same c.next-said.ensures.gives in

@@ -5,10 +5,9 @@ use Rattle.open_queries.specs.Writing.{Writes}
 use Rattle.gph_session.specs.Moments.{moment_of}
 use Rattle.gph_session.proofs.Here.{here_of}
 use Rattle.gph_session.proofs.AskLemmas.{plan_step}
-use Rattle.open_queries.specs.Queries.{HaveShard}
 use Rattle.open_queries.specs.Answers.{IsPlan}
 use Rattle.gph_session.specs.Cursors.{asks, stands}
-use Rattle.gph_session.proofs.FrameLemmas.{told_shards, have_shard}
+use Rattle.gph_session.proofs.FrameLemmas.{told_shards}
 use Rattle.gph_session.proofs.asking.plan.Goals as goal
 
 pub returns-clause-answers : goal.returns-clause-answers
@@ -21,12 +20,6 @@ returns-clause-answers g c = λ desk reads upkeep alone line asked history s sta
     c.args.shard c.plan.ensures.this asked c.plan.ensures.tells
     (subst (Writes (held c.args.sink.now) (held c.send.new.sink) c.send.result) c.plan.ensures.is_line
     c.send.ensures.written)
-
-pub plan-requires : goal.plan-requires
-plan-requires g c =
-    let have : HaveShard c.args.session.now.queries c.args.shard =
-    have_shard c.args.config.now.shards c.args.session.now.queries c.args.shard c.requires.shard c.requires.shards in
-    search (rules, have)
 
 pub returns-clause-shards : goal.returns-clause-shards
 returns-clause-shards g c =

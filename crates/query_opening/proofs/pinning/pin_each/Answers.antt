@@ -6,12 +6,12 @@ use Rattle.commit_journal.specs.Fronts.{live_at, position_of}
 use Rattle.versioned_shard.specs.Shards.{contents_at}
 use Rattle.session_desk.specs.Desks.{DeskState, IsOwnFront}
 use Rattle.query_opening.specs.Pinning.{PinsFirst, contents_of_all}
-use Rattle.query_opening.proofs.PinLemmas.{behind_all, behind_more, one_came, pins_more}
+use Rattle.query_opening.proofs.PinLemmas.{behind_all, behind_more, came, failed_came, pins_more}
 use Rattle.query_opening.proofs.pinning.pin_each.Goals as goal
 
 pub returns-in_err-version-clause-comes : goal.returns-in_err-version-clause-comes
 returns-in_err-version-clause-comes g c =
-    one_came (g.D.Desk.desk c.args.desk.now) (g.D.Desk.desk c.loop-shard.desk) (g.D.Desk.desk c.pin.new.self) c.loop-shard.shard _
+    failed_came (g.D.Desk.desk c.args.desk.now) (g.D.Desk.desk c.loop-shard.desk) (g.D.Desk.desk c.pin.new.self) c.loop-shard.shard
     c.loop-shard.invariant.0.comes c.in_err-version.ensures.comes
 
 pub returns-in_err-version-clause-upkeep : goal.returns-in_err-version-clause-upkeep
@@ -22,8 +22,9 @@ returns-in_err-version-clause-upkeep g c =
 
 pub returns-in_default-clause-comes : goal.returns-in_default-clause-comes
 returns-in_default-clause-comes g c =
-    one_came (g.D.Desk.desk c.args.desk.now) (g.D.Desk.desk c.loop-shard.desk) (g.D.Desk.desk c.pin.new.self) c.loop-shard.shard _
-    c.loop-shard.invariant.0.comes c.in_ok-version.ensures.pinned.comes
+    came (g.D.Desk.desk c.args.desk.now) (g.D.Desk.desk c.loop-shard.desk) (g.D.Desk.desk c.pin.new.self) c.args.front.now
+    (contents_of_all c.loop-shard.versions.items) c.loop-shard.shard (contents_at c.in_ok-version.version)
+    c.loop-shard.invariant.0 c.in_ok-version.ensures.pinned (omega (arith, c.loop-shard-test.true, c.shards-shard-end.ensures.shards))
 
 pub returns-in_default-clause-upkeep : goal.returns-in_default-clause-upkeep
 returns-in_default-clause-upkeep g c =
