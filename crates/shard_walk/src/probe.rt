@@ -6,7 +6,7 @@ ghost use Rattle.std.specs.Arc.{arc_value};
 ghost use Rattle.hamming_model.specs.Codes.{distance};
 ghost use Rattle.hamming_model.specs.declared.limits.TheConstants.{PARTS_MOST, WORDS_MOST};
 ghost use Rattle.hamming_model.specs.Layouts.{part_distance, part_value};
-ghost use Rattle.ball_walk.specs.Balls.{ball};
+ghost use Rattle.ball_walk.specs.Balls.{ball, ring};
 ghost use Rattle.threshold_model.specs.Vectors.{units_of};
 ghost use Rattle.shard_walk.specs.Probed.{KeepsCode, IsProbed, probed_of};
 ghost use Rattle.shard_walk.specs.Probed.{parts_in, part_in, code_in, counts_round, probed_list};
@@ -89,6 +89,14 @@ impl<const W: usize> Probe<W> {
         self.version.rows()
     }
 
+    /// How many bits a code has.
+    pub(crate) fn bits(&self) -> u32
+        ensures bits { result ≡ self.now.version.contents.layout.bits }
+        ensures few { result ≤ 512 }
+    {
+        self.version.layout().bits()
+    }
+
     /// How many rows are nearer to the query at a part than each number of units.
     pub(crate) fn levels(&self, part: usize, out: &mut [u32])
         requires { part < length (parts_in self.now.version) }
@@ -114,6 +122,18 @@ impl<const W: usize> Probe<W> {
     {
         let width = self.version.layout().width(part as u32);
         Ball::new(self.values[part], width, radius)
+    }
+
+    /// The values of a part at one distance from the query's.
+    pub(crate) fn ring(&self, part: usize, apart: u32) -> Ball
+        requires part { part < length (parts_in self.now.version) }
+        ensures values { let positions = part_in self.now.version part in
+            result ≡ ring (part_value (code_in self.now.version self.now.stored) positions)
+            (length positions) apart }
+        ensures in_width { All (λ value. value < 2 ^ length (part_in self.now.version part)) result }
+    {
+        let width = self.version.layout().width(part as u32);
+        Ball::ring(self.values[part], width, apart)
     }
 
     /// How long the posting list of a part's value is.

@@ -1,8 +1,8 @@
 //! The counts of a version's rows round a query.
 
-ghost use Rattle.std.specs.Prelude.{◌≡◌, ◌+◌, ◌≤◌, length, IfOk, pos, negsuc, ◌≤ℤ◌};
+ghost use Rattle.std.specs.Prelude.{◌≡◌, ◌+◌, ◌<◌, ◌≤◌, length, IfOk, pos, negsuc, ◌≤ℤ◌};
 ghost use Rattle.threshold_model.specs.Vectors.{units_of};
-ghost use Rattle.shard_walk.specs.Counted.{HasCounts, IsTable};
+ghost use Rattle.shard_walk.specs.Counted.{HasCounts, IsTable, count_in};
 ghost use Rattle.shard_walk.specs.Probed.{counts_round, parts_in};
 
 use crate::probe::Probe;
@@ -51,6 +51,15 @@ impl RadiusCounts {
         }
         Ok(RadiusCounts { tau, parts, counts })
     }
+
+    /// The count of a part, where more units than tau + 1 count as many as these.
+    pub(crate) fn at(&self, part: usize, units: usize) -> u32
+        requires { part < self.now.parts }
+        ensures { result ≡ count_in self.now.counts.items self.now.tau part units }
+    {
+        let most = self.tau as usize + 1;
+        self.counts[part * (most + 1) + units.min(most)]
+    }
 }
 
 impl PartCounts for RadiusCounts {
@@ -65,8 +74,7 @@ impl PartCounts for RadiusCounts {
     ghost rises = { λ table part less. table.lawful.rises part less };
 
     fn count(&self, part: usize, radius: i32) -> u32 {
-        let most = self.tau as usize + 1;
-        self.counts[part * (most + 1) + units_within(radius).min(most)]
+        self.at(part, units_within(radius))
     }
 }
 
