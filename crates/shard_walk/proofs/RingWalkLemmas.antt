@@ -13,6 +13,7 @@ use Rattle.std.proofs.lemmas.Bool.{ne_eqb}
 use Rattle.std.proofs.lemmas.Nat.{pow_pos}
 use Rattle.search_model.specs.Reading.{HasSame}
 use Rattle.ring_model.proofs.RingLemmas.{ring_same, ring_number, raised_sum, start_sum, met_by_none}
+use Rattle.hamming_model.specs.declared.limits.TheConstants.{PARTS_MOST}
 use Rattle.hamming_model.specs.Codes.{distance}
 use Rattle.hamming_model.specs.Layouts.{part_distance}
 use Rattle.hamming_model.specs.Scan.{hit_of}
@@ -182,7 +183,7 @@ module _ (words : ℕ) (p : NearPlanned) (plan : IsNearPlanned words p) (old : R
         }
 
 -- a walk that has begun no ring
-pub rings_start : (words : ℕ) (p : NearPlanned) → IsNearPlanned words p → length (near_parts p) ≤ 64 → (ball : List ℕ) → ball ≡ []
+pub rings_start : (words : ℕ) (p : NearPlanned) → IsNearPlanned words p → length (near_parts p) ≤ PARTS_MOST → (ball : List ℕ) → ball ≡ []
     → StartsRings p (record {
       units = replicate (length (near_parts p)) 0;
       part = 0;

@@ -3,6 +3,7 @@ use Rattle.std.specs.Prelude.{◌≡◌, ℕ, ◌+◌, ◌^◌, ◌<◌, ◌≤�
 use Rattle.std.specs.Prelude.{length, take, drop, sum, slice_index, Option, Some, None, All}
 use Rattle.std.specs.List.{flat_map}
 use Rattle.hamming_model.specs.declared.hit.Hit.{Hit}
+use Rattle.hamming_model.specs.declared.limits.TheConstants.{PARTS_MOST}
 use Rattle.hamming_model.specs.Scan.{hit_of}
 use Rattle.ring_model.specs.Rings.{is_met, hits_met, hits_new, units_raised, rows_apart}
 use Rattle.ring_model.specs.Rings.{ring_cost, IsCheapest}
@@ -50,7 +51,7 @@ new_hit plan units row =
 
 -- a place in the ring of a part
 pub record IsRingPlace (plan : NearPlanned) (place : RingPlace) : Type 0 where
-  pub few_parts : length (near_parts plan) ≤ 64
+  pub few_parts : length (near_parts plan) ≤ PARTS_MOST
   pub units_are : length place.units ≡ length (near_parts plan)
   pub total : sum (units_after place) ≡ place.begun
   pub part : place.part < length (near_parts plan)

@@ -3,6 +3,7 @@
 ghost use Rattle.std.specs.Prelude.{◌≡◌, ℕ, ◌+◌, ◌^◌, ◌<◌, ◌≤◌, ◌⊎◌, List, [], All, IfOk};
 ghost use Rattle.std.specs.Prelude.{length, take, sum, slice_index, slice_index_or};
 ghost use Rattle.std.specs.Arc.{arc_value};
+ghost use Rattle.hamming_model.specs.declared.limits.TheConstants.{PARTS_MOST, WORDS_MOST};
 ghost use Rattle.threshold_model.specs.Finding.{part_distances};
 ghost use Rattle.ring_model.specs.Rings.{IsCheapest, is_below_some, ring_cost};
 ghost use Rattle.shard_walk.specs.Probed.{KeepsCode, code_in};
@@ -67,7 +68,7 @@ impl<const W: usize> NearPlan<W> {
         version: Arc<Version<W>>,
         query: Code<W>,
     ) -> Result<NearPlan<W>, NoMemory>
-        requires few_words { W ≤ 8 }
+        requires few_words { W ≤ WORDS_MOST }
         requires query { KeepsCode W (arc_value version) query }
         ensures { IfOk result (λ plan. PlansNear (arc_value version.entry) query.entry plan) }
     {
@@ -86,7 +87,7 @@ impl<const W: usize> NearPlan<W> {
     /// The number of parts.
     pub fn parts(&self) -> usize
         ensures parts { result ≡ length (near_parts self.now) }
-        ensures few { result ≤ 64 }
+        ensures few { result ≤ PARTS_MOST }
         ensures plan { IsNearPlanned W self.now }
     {
         self.probe.parts()

@@ -130,7 +130,8 @@ impl<const W: usize> Probe<W> {
         ensures values { let positions = part_in self.now.version part in
             result ≡ ring (part_value (code_in self.now.version self.now.stored) positions)
             (length positions) apart }
-        ensures in_width { All (λ value. value < 2 ^ length (part_in self.now.version part)) result }
+        ensures in_width { All (λ value.
+            value < 2 ^ length (part_in self.now.version part)) result }
     {
         let width = self.version.layout().width(part as u32);
         Ball::ring(self.values[part], width, apart)
