@@ -43,7 +43,8 @@ pub fn open_range<const W: usize, D: Desk<W>, M>(
     room: usize,
     steps: &mut Steps<M>,
 ) -> Result<Opened<W>, NoMemory>
-    requires code { StandsFor W (D.desk desk.old).config.bits query (take (D.desk desk.old).config.bits query) }
+    requires code { StandsFor W (D.desk desk.old).config.bits query
+        (take (D.desk desk.old).config.bits query) }
     requires near { tau ≤ (D.desk desk.old).config.bits }
     requires some_room { 1 ≤ room }
     requires small_room { room ≤ ROOM_MOST }

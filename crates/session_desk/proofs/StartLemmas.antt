@@ -22,7 +22,7 @@ use Rattle.commit_journal.specs.Journals.{JournalState, empty_journal}
 use Rattle.versioned_shard.specs.Rule.{KeepsRule}
 use Rattle.versioned_shard.specs.Shards.{ShardState, shard_with}
 use Rattle.session_desk.specs.Desks.{Pin, Place, new_desk, pin_position, starting_layout}
-use Rattle.session_desk.specs.Solos.{AreFirstShards, IsSoloDesk, desk_of, first_of, no_shard, place_of, solo_of}
+use Rattle.session_desk.specs.Solos.{AreFirstShards, IsSoloDesk, desk_of, first_shard_of, no_shard, place_of, solo_of}
 
 -- ---- the codes of rows
 
@@ -68,7 +68,7 @@ none_more (pin ∷ pins) none (suc i) = none_more pins (λ j. none (suc j)) i
 -- one shard more
 pub first_more : (config : Config) (shards : List ShardState) (pins : List (Option Pin)) (number : ℕ) (new : ShardState)
     → AreFirstShards config shards pins number
-    → new ≡ first_of config number → AreFirstShards config (shards ++ new ∷ []) (pins ++ None ∷ []) (number + 1)
+    → new ≡ first_shard_of config number → AreFirstShards config (shards ++ new ∷ []) (pins ++ None ∷ []) (number + 1)
 first_more config shards pins number new first is = record {
   shards_are = length-append shards (new ∷ []) ∙ omega (arith, first.shards_are);
   pins_are = length-append pins (None ∷ []) ∙ omega (arith, first.pins_are);
@@ -76,12 +76,12 @@ first_more config shards pins number new first is = record {
   none = none_more pins first.none;
 }
   where
-    go : (i : ℕ) → i < number + 1 → (i < number) ⊎ (number ≤ i) → get_or (shards ++ new ∷ []) i no_shard ≡ first_of config i
+    go : (i : ℕ) → i < number + 1 → (i < number) ⊎ (number ≤ i) → get_or (shards ++ new ∷ []) i no_shard ≡ first_shard_of config i
     go i low (inl below) = before_last shards new no_shard i (omega (arith, below, first.shards_are)) ∙ first.each i below
     go i low (inr last) =
         let here : i ≡ number = omega arith in
         ap (λ (n : ℕ). get_or (shards ++ new ∷ []) n no_shard) (here ∙ sym first.shards_are) ∙ last_of shards new no_shard ∙ is
-        ∙ ap (first_of config) (sym here)
+        ∙ ap (first_shard_of config) (sym here)
 
 all_same : {A B : Type 0} (f : A → B) (items : List A) (none : A) (value : B) → ((i : ℕ) → i < length items → f (get_or items i none) ≡ value)
     → map f items ≡ replicate (length items) value

@@ -26,8 +26,12 @@ made_follows s number version made = record {
 }
   where
     at_is : version.at ≡ length (first_entries s version.at version.layout.bits)
-    at_is = omega (arith, made.within, length-take version.at (cut_history version.layout.bits s.journal.history),
-        length-map s.journal.history (cut_entry version.layout.bits))
+    at_is = omega (
+      arith,
+      made.within,
+      length-take version.at (cut_history version.layout.bits s.journal.history),
+      length-map s.journal.history (cut_entry version.layout.bits),
+    )
 
     rows_are : version.rows ≡ shard_rows version.shard version.shards (rows_of (first_entries s version.at version.layout.bits))
     rows_are =
@@ -54,9 +58,16 @@ module _ (words : ℕ) (s now : SoloState) (solo : IsSoloDesk words s) (is : s �
       × ((prepared.layout.bits ≡ found.current.layout.bits) × Follows s.journal.history prepared)))
   swap_needs prepared made =
       let made_here = subst (λ (t : SoloState). IsMadeFor (desk_of t) number prepared) (sym is) made in
-      let is_version = made_here.version_is in
-      (own.rule, (is_version.shard_is ∙ sym own.shard_is, (is_version.shards_are ∙ sym own.shards_are,
-      (is_version.bits_are ∙ sym own.bits_are, made_follows s number prepared made_here))))
+      let is_version = made_here.version_is in (
+        own.rule,
+        (
+          is_version.shard_is ∙ sym own.shard_is,
+          (
+            is_version.shards_are ∙ sym own.shards_are,
+            (is_version.bits_are ∙ sym own.bits_are, made_follows s number prepared made_here),
+          ),
+        ),
+      )
 
   module _ (new : ShardState) (swapped : IsSwapped s.journal found new) where
     -- the desk after it

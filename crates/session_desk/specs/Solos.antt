@@ -147,13 +147,13 @@ pub record IsSwapped (journal : JournalState) (old new : ShardState) : Type 0 wh
   pub at_is : new.current.at ≡ old.current.at
 
 -- the shard of a number before the first entry
-abbrev pub first_of : Config → ℕ → ShardState
-first_of config number = shard_with (empty_of number config.shards (starting_layout config)) []
+abbrev pub first_shard_of : Config → ℕ → ShardState
+first_shard_of config number = shard_with (empty_of number config.shards (starting_layout config)) []
 
 -- the first so many shards before the first entry, none of them pinned
 pub record AreFirstShards (config : Config) (shards : List ShardState) (pins : List (Option Pin))
     (number : ℕ) : Type 0 where
   pub shards_are : length shards ≡ number
   pub pins_are : length pins ≡ number
-  pub each : (i : ℕ) → i < number → slice_index_or shards i no_shard ≡ first_of config i
+  pub each : (i : ℕ) → i < number → slice_index_or shards i no_shard ≡ first_shard_of config i
   pub none : (i : ℕ) → slice_index_or pins i None ≡ None

@@ -49,7 +49,8 @@ pub trait Desk<const W: usize> {
     /// `NoMemory` where there is none for one entry more.
     fn commit(&mut self, op: Op<W>) -> Result<Decided, NoMemory>
         requires { IsStoredOperation W (desk self.old).config.bits (kept_operation op) }
-        ensures decided { IfOk result (λ decided. CommitsAt (desk self.old) (desk self.new) (kept_operation op.entry) decided) }
+        ensures decided { IfOk result (λ decided. CommitsAt (desk self.old) (desk self.new)
+            (kept_operation op.entry) decided) }
         ensures unchanged { OnErr result (OnlyLearns (desk self.old) (desk self.new)) }
         ensures known { KeepsKnown (desk self.new) (knows self.old) (knows self.new) };
 
@@ -103,8 +104,10 @@ pub trait Desk<const W: usize> {
         requires shard { shard < (desk self.old).config.shards }
         ensures pinned { IfOk result (λ version.
             PinsVersion (desk self.old) (desk self.new) front.now shard (contents_at version)) }
-        ensures comes { OnErr result (Comes (desk self.old) (desk self.new) shard (desk self.old).pins) }
-        ensures upkeep { steps.new ≤ steps.old + (position_of front.now - pinned_at (desk self.old) shard) }
+        ensures comes { OnErr result (Comes (desk self.old) (desk self.new) shard
+            (desk self.old).pins) }
+        ensures upkeep { steps.new ≤ steps.old +
+            (position_of front.now - pinned_at (desk self.old) shard) }
         ensures known { KeepsKnown (desk self.new) (knows self.old) (knows self.new) };
 
     /// The text of a shard's present layout.
@@ -121,7 +124,8 @@ pub trait Desk<const W: usize> {
     fn swap(&mut self, shard: u32, prepared: Prepared<W>) -> Result<(), Moved<W>>
         requires shard { shard < (desk self.old).config.shards }
         requires made { IsMadeFor (desk self.old) shard (contents_at prepared.version) }
-        ensures swapped { Swaps (desk self.old) (desk self.new) shard (contents_at prepared.entry.version) (is_err result) }
+        ensures swapped { Swaps (desk self.old) (desk self.new) shard
+            (contents_at prepared.entry.version) (is_err result) }
         ensures at { IfErr result (λ moved. moved.shard_at ≡ left_at (desk self.new) shard) }
         ensures back { IfErr result (λ moved. moved.prepared ≡ prepared.entry) }
         ensures known { KeepsKnown (desk self.new) (knows self.old) (knows self.new) };

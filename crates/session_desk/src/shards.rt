@@ -51,7 +51,8 @@ pub fn first_shard<const W: usize>(
     requires room { (arc_value layout.now).bits ≤ 64 * W }
     requires config { IsConfig config.now }
     requires own { shard < config.now.shards }
-    ensures { IfOk result (λ first. first ≡ shard_with (empty_of shard config.now.shards (arc_value layout.now)) []) }
+    ensures { IfOk result (λ first. first ≡ shard_with
+        (empty_of shard config.now.shards (arc_value layout.now)) []) }
 {
     let Ok(own) = layout.clone() else {
         return Err(NoMemory);
@@ -72,7 +73,8 @@ pub fn pin_shard<const W: usize, M>(
     requires live { IsLive journal.now front.now }
     requires known { KnowsFront journal.now front.now }
     ensures comes { ComesTo journal.now (position_of front.now) shard.old shard.new }
-    ensures reached { OnOk result (shard.new.current.at ≡ max shard.old.current.at (position_of front.now)) }
+    ensures reached { OnOk result (shard.new.current.at ≡ max shard.old.current.at
+        (position_of front.now)) }
     ensures gives { IfOk result (λ version.
         GivesVersion journal.now.history (position_of front.now) shard.new (contents_at version)) }
     ensures upkeep { steps.new ≤ steps.old + (position_of front.now - shard.old.current.at) }
@@ -105,8 +107,10 @@ pub fn swap_shard<const W: usize>(
     requires bits_are { (contents_at prepared.version).layout.bits ≡ shard.old.current.layout.bits }
     requires follows { Follows journal.now.history (contents_at prepared.version) }
     ensures keeps { IsSwapped journal.now shard.old shard.new }
-    ensures swapped { OnOk result (shard.new ≡ with_layout shard.old (contents_at prepared.entry.version).layout) }
-    ensures moved { IsErr result ↔ ((contents_at prepared.entry.version).at ≢ shard.old.current.at) }
+    ensures swapped { OnOk result (shard.new ≡ with_layout shard.old
+        (contents_at prepared.entry.version).layout) }
+    ensures moved { IsErr result ↔ ((contents_at prepared.entry.version).at ≢
+        shard.old.current.at) }
     ensures at { IfErr result (λ moved. moved.shard_at ≡ shard.old.current.at) }
     ensures back { IfErr result (λ moved. moved.prepared ≡ prepared.entry) }
     ensures unchanged { OnErr result (shard.new ≡ shard.old) }

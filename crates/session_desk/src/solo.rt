@@ -59,7 +59,8 @@ impl<const W: usize> SoloDesk<W> {
         requires config { IsConfig config.now }
         requires few_words { W ≤ WORDS_MOST }
         requires room { config.now.bits ≤ 64 * W }
-        ensures begins { IfOk result (λ desk. ⟦<SoloDesk<W> as Desk<W>>⟧.desk desk ≡ new_desk config.now) }
+        ensures begins { IfOk result (λ desk. ⟦<SoloDesk<W> as Desk<W>>⟧.desk desk ≡ new_desk
+            config.now) }
     {
         shards_keep_the_rule();
         let journal = Journal::new(alloc, config.entries)?;
@@ -107,7 +108,8 @@ impl<const W: usize> Desk<W> for SoloDesk<W> {
         ensures decided { IfOk result (λ decided.
             CommitsAt (desk_of self.old) (desk_of self.new) (kept_operation op.entry) decided) }
         ensures unchanged { OnErr result (OnlyLearns (desk_of self.old) (desk_of self.new)) }
-        ensures known { KeepsKnown (desk_of self.new) (KnowsFront self.old.journal) (KnowsFront self.new.journal) }
+        ensures known { KeepsKnown (desk_of self.new) (KnowsFront self.old.journal)
+            (KnowsFront self.new.journal) }
     {
         journals_keep_the_rule();
         self.journal.commit(0, op)
@@ -132,7 +134,8 @@ impl<const W: usize> Desk<W> for SoloDesk<W> {
         requires own { IsOwnFront (desk_of self.old) front }
         requires knows { KnowsFront self.old.journal front }
         ensures closed { ClosesFront (desk_of self.old) (desk_of self.new) front.entry }
-        ensures known { KeepsKnown (desk_of self.new) (KnowsFront self.old.journal) (KnowsFront self.new.journal) }
+        ensures known { KeepsKnown (desk_of self.new) (KnowsFront self.old.journal)
+            (KnowsFront self.new.journal) }
     {
         journals_keep_the_rule();
         self.journal.close_front(front);
@@ -157,10 +160,12 @@ impl<const W: usize> Desk<W> for SoloDesk<W> {
     fn swap(&mut self, shard: u32, prepared: Prepared<W>) -> Result<(), Moved<W>>
         requires shard { shard < self.old.config.shards }
         requires made { IsMadeFor (desk_of self.old) shard (contents_at prepared.version) }
-        ensures swapped { Swaps (desk_of self.old) (desk_of self.new) shard (contents_at prepared.entry.version) (is_err result) }
+        ensures swapped { Swaps (desk_of self.old) (desk_of self.new) shard
+            (contents_at prepared.entry.version) (is_err result) }
         ensures at { IfErr result (λ moved. moved.shard_at ≡ left_at (desk_of self.new) shard) }
         ensures back { IfErr result (λ moved. moved.prepared ≡ prepared.entry) }
-        ensures known { KeepsKnown (desk_of self.new) (KnowsFront self.old.journal) (KnowsFront self.new.journal) }
+        ensures known { KeepsKnown (desk_of self.new) (KnowsFront self.old.journal)
+            (KnowsFront self.new.journal) }
     {
         let position = prepared.version.at();
         let swapped = swap_shard(&self.journal, &mut self.shards[shard as usize], prepared);

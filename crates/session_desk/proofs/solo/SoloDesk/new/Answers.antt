@@ -4,7 +4,7 @@ use Rattle.part_layout.specs.Laid.{IsLaid, Laid}
 use Rattle.shard_version.specs.Contents.{empty_of}
 use Rattle.versioned_shard.specs.Shards.{ShardState, shard_with}
 use Rattle.session_desk.specs.Desks.{Pin}
-use Rattle.session_desk.specs.Solos.{AreFirstShards, first_of}
+use Rattle.session_desk.specs.Solos.{AreFirstShards, first_shard_of}
 use Rattle.session_desk.proofs.StartLemmas.{begins_new, begins_solo, first_more}
 use Rattle.session_desk.proofs.solo.SoloDesk.new.Goals as goal
 
@@ -12,7 +12,7 @@ pub loop-number-preserved : goal.loop-number-preserved
 loop-number-preserved g c =
     let config = c.args.config.now in
     let n = c.loop-number.number in
-    let is : c.in_ok-shard.shard ≡ first_of config n = c.in_ok-shard.ensures
+    let is : c.in_ok-shard.shard ≡ first_shard_of config n = c.in_ok-shard.ensures
     ∙ ap (λ (layout : Laid). shard_with (empty_of n config.shards layout) []) c.in_ok-layout.ensures.layout in
     subst (λ (shards : List ShardState). AreFirstShards config shards c.push-in-loop-number.new.self.items (n + 1)) (sym c.in-Ok.ensures.items)
     (subst (λ (pins : List (Option Pin)). AreFirstShards config (c.loop-number.shards.items ++ c.in_ok-shard.shard ∷ []) pins (n + 1))
