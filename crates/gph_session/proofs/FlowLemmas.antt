@@ -31,7 +31,7 @@ use Rattle.gph_session.specs.Sessions.{IsServed, KeepsDesk, state_of, pins_of}
 use Rattle.gph_session.specs.Moments.{Moment, ReadsTo, Spends}
 use Rattle.gph_session.specs.Meaning.{Means, IsSettled, AllKeep}
 use Rattle.gph_session.specs.Flow.{OneLine, Start, HasRun, GoesOn, HasServed, HasEnded, WasRefused}
-use Rattle.gph_session.specs.Flow.{Stands, counted, history_after}
+use Rattle.gph_session.specs.Flow.{Stands, requests_with, history_after}
 use Rattle.gph_session.proofs.MomentLemmas.{reads_then, spends_then, vain_more, as_long}
 
 -- ---- what a state's queries have read
@@ -183,7 +183,7 @@ module _ {W : ℕ} (config : Config) (start : Start) (now : Moment W) (exchanges
     settled = subst (λ h. AllByRecursion (IsSettled config h) one.step.state.queries) (sym same_history)
         one.step.settled;
     keeps = keeps_then start.desk now.desk next.desk ran.keeps one.step.keeps;
-    requests = one.requests ∙ ap (counted (reading config line)) ran.requests
+    requests = one.requests ∙ ap (requests_with (reading config line)) ran.requests
         ∙ counted_once (is_answered (reading config line)) (requests_of config exchanges)
         ∙ ap (λ n. min n 18446744073709551615) (sym (requests_more config exchanges one.step.exchange line one.step.is_line));
     position = one.step.position;

@@ -15,7 +15,7 @@ use Rattle.query_protocol.specs.Requests.{Get, Layout}
 use Rattle.query_protocol.specs.Replies.{text, reply_line, LineReply}
 use Rattle.query_protocol.specs.Replies as reply
 use Rattle.session_desk.specs.Calls.{OnlyLearns, TellsLayout}
-use Rattle.session_desk.specs.Desks.{DeskState, Place, place_at, no_place, seen_history}
+use Rattle.session_desk.specs.Desks.{DeskState, ShardPlace, place_at, no_place, seen_history}
 use Rattle.session_model.specs.State.{State, open_queries}
 use Rattle.session_model.specs.Ledger.{layout_at}
 use Rattle.session_model.specs.Entries.{Gets, code_reply}
@@ -120,7 +120,7 @@ module _ {A : Type 0} {W : ℕ} (p : Here W) (after : Option (List ℕ)) (result
     told_here : told ≡ layout_text (layout_at p.s.layouts shard)
     told_here =
         tells.text ∙ ap (λ (l : Laid). layout_text l.parts) (tells.alone p.stands.means.alone).0
-        ∙ ap layout_text (sym (get_or-map (λ (place : Place). place.1.parts) p.old.desk.places shard no_place))
+        ∙ ap layout_text (sym (get_or-map (λ (place : ShardPlace). place.1.parts) p.old.desk.places shard no_place))
         ∙ ap (λ l. layout_text (layout_at l shard)) (sym p.stands.means.layouts)
 
     pub layout_step : Writes p.before after result (reply_line (reply.Layout shard told)) → StepTo p after result new

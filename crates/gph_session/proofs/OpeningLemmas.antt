@@ -7,7 +7,7 @@ use Rattle.std.proofs.lemmas.List.{length-map}
 use Rattle.hit_source.specs.Sources.{Asked, Standing, IsFresh}
 use Rattle.part_layout.specs.declared.config.Config.{Config}
 use Rattle.shard_query.specs.declared.range_task.RangeTask.{RangeTask}
-use Rattle.session_desk.specs.Desks.{DeskState, IsDesk, Pin, Place, no_place, pin_position, pinned_at, place_at, IsVersionOf}
+use Rattle.session_desk.specs.Desks.{DeskState, IsDesk, Pin, ShardPlace, no_place, pin_position, pinned_at, place_at, IsVersionOf}
 use Rattle.session_model.specs.Upkeep.{entries_beyond}
 use Rattle.scatter_gather.specs.Gathering.{Gathered, gathered}
 use Rattle.scatter_gather.specs.Kept.{AreOneLength}
@@ -97,7 +97,7 @@ module _ (words : ℕ) (old new : DeskState) (is_old : IsDesk words old) (is_new
     done = comes.done;
     late = comes.late;
     alone = comes.alone;
-    layouts = same_list (λ (place : Place). place.1.parts) new.places old.places no_place
+    layouts = same_list (λ (place : ShardPlace). place.1.parts) new.places old.places no_place
         (is_new.places (comes.alone ∙ alone) ∙ shards_same ∙ sym (is_old.places alone))
         (λ i lt. ap (λ l. l.parts) (comes.layouts alone i));
   }

@@ -21,7 +21,7 @@ use Rattle.scatter_gather.specs.Gathering.{Gathered}
 use Rattle.query_protocol.specs.Requests.{Range, bad}
 use Rattle.query_protocol.specs.Replies.{text, reply_line, LineReply}
 use Rattle.query_protocol.specs.Replies as reply
-use Rattle.session_desk.specs.Desks.{DeskState, Place, place_at, no_place, seen_history}
+use Rattle.session_desk.specs.Desks.{DeskState, ShardPlace, place_at, no_place, seen_history}
 use Rattle.session_model.specs.State.{Query, State, query_of, open_queries}
 use Rattle.session_model.specs.Entries.{Exchange}
 use Rattle.session_model.specs.Ledger.{column, readings_of, layout_at, rows_at, sum_of, IsBounded, answer_to}
@@ -199,7 +199,7 @@ module _ {A : Type 0} {W : ℕ} (p : Here W) (after : Option (List ℕ)) (result
     -- a shard's layout, by the desk
     layout_here : (shard : ℕ) → (place_at new.desk shard).1.parts ≡ layout_at p.s.layouts shard
     layout_here shard =
-        sym (get_or-map (λ (place : Place). place.1.parts) new.desk.places shard no_place)
+        sym (get_or-map (λ (place : ShardPlace). place.1.parts) new.desk.places shard no_place)
         ∙ ap (λ l. layout_at l shard) (sym means_new.layouts)
 
     -- what a source is asked for is its shard's rows

@@ -14,7 +14,7 @@ use Rattle.hamming_model.specs.Layouts.{IsLayout}
 use Rattle.part_layout.specs.declared.config.Config.{Config}
 use Rattle.part_layout.specs.Laid.{Laid}
 use Rattle.part_layout.specs.Contiguous.{contiguous}
-use Rattle.session_desk.specs.Desks.{DeskState, IsDesk, IsPlace, Place, new_desk, no_place, pin_position, place_at}
+use Rattle.session_desk.specs.Desks.{DeskState, IsDesk, IsShardPlace, ShardPlace, new_desk, no_place, pin_position, place_at}
 use Rattle.session_desk.specs.Desks.{seen_history, starting_layout}
 use Rattle.session_model.specs.declared.outcome.Outcome.{Outcome}
 use Rattle.session_model.specs.declared.outcome.Outcome.TheVariants.{Done, Usage, NoMemory}
@@ -29,7 +29,7 @@ use Rattle.session_model.specs.Outcomes.{IsDone, IsReadFault, IsWriteFault, IsIn
 use Rattle.gph_session.specs.Sessions.{IsServed, KeepsDesk, layouts_of, pins_of, state_of}
 use Rattle.gph_session.specs.Moments.{Moment}
 use Rattle.gph_session.specs.Meaning.{AllKeep, IsReady, Means}
-use Rattle.gph_session.specs.Flow.{GoesOn, HasBegun, start_at}
+use Rattle.gph_session.specs.Flow.{GoesOn, HasBegunWith, start_at}
 use Rattle.gph_session.specs.declared.report.Status.{Status}
 use Rattle.gph_session.specs.Serving.{EndsAs, ServedAs}
 use Rattle.gph_session.proofs.MomentLemmas.{reads_still, spends_still, as_long}
@@ -37,9 +37,9 @@ use Rattle.gph_session.proofs.Here.{desk_keeps}
 
 -- ---- a session before its first byte
 
-layouts_by : (bits : ℕ) (places : List Place) → ((i : ℕ) → i < length places
+layouts_by : (bits : ℕ) (places : List ShardPlace) → ((i : ℕ) → i < length places
     → IsLayout bits (slice_index_or places i no_place).1.parts)
-    → AllByRecursion (IsLayout bits) (map (λ (place : Place). place.1.parts) places)
+    → AllByRecursion (IsLayout bits) (map (λ (place : ShardPlace). place.1.parts) places)
 layouts_by bits [] each = tt
 layouts_by bits (place ∷ places) each =
     (each zero (omega arith), layouts_by bits places (λ i lt. each (suc i) (omega (arith, lt))))
@@ -50,7 +50,7 @@ are_layouts : (words : ℕ) (config : Config) (desk : DeskState) → IsDesk word
 are_layouts words config desk is alone same =
     let number : length desk.places ≡ desk.config.shards = is.places alone in
     subst (λ c. AreLayouts c (layouts_of desk)) same (record {
-      number = length-map desk.places (λ (place : Place). place.1.parts) ∙ number;
+      number = length-map desk.places (λ (place : ShardPlace). place.1.parts) ∙ number;
       each = layouts_by desk.config.bits desk.places (λ i lt.
           let place = is.each alone i (omega (arith, lt, number)) in
           subst (λ bits. IsLayout bits (slice_index_or desk.places i no_place).1.parts) place.bits place.laid.layout);
@@ -58,7 +58,7 @@ are_layouts words config desk is alone same =
 
 pub begun_session : {W : ℕ} (words : ℕ) (config : Config) (now : Moment W) (begun : Option (List ℕ))
     → IsDesk words now.desk → now.desk.alone ≡ true → now.desk.config ≡ config → now.cursors ≡ []
-    → now.requests ≡ 0 → now.position ≡ length now.desk.seen → begun ≡ held_of [] → HasBegun config now begun
+    → now.requests ≡ 0 → now.position ≡ length now.desk.seen → begun ≡ held_of [] → HasBegunWith config now begun
 begun_session {W} words config now begun is alone same none requests position nothing =
     let desk = now.desk in
     let before = seen_history desk in
@@ -121,7 +121,7 @@ module _ (config : Config) (desk desk' : DeskState) (requests position : ℕ) (n
 
   state_is : state_of desk ≡ first_session config
   state_is = ap state_of new
-      ∙ ap (new_session 0 0) (map_replicate (λ (place : Place). place.1.parts) config.shards (0, starting_layout config))
+      ∙ ap (new_session 0 0) (map_replicate (λ (place : ShardPlace). place.1.parts) config.shards (0, starting_layout config))
 
   pins_are : pins_of desk ≡ replicate config.shards 0
   pins_are = ap pins_of new ∙ map_replicate pin_position config.shards None

@@ -14,7 +14,7 @@ use Rattle.gph_session.specs.declared.turn.Turn.{Turn}
 use Rattle.gph_session.specs.declared.turn.Turn.TheVariants.{Goes}
 use Rattle.gph_session.specs.Moments.{Moment}
 use Rattle.gph_session.specs.Meaning.{AllKeep}
-use Rattle.gph_session.specs.Flow.{OneStep, OneLine, TurnIs, turned, counted}
+use Rattle.gph_session.specs.Flow.{OneStep, OneLine, TurnIs, turn_after, requests_with}
 use Rattle.gph_session.proofs.Here.{Here, StepTo, asked_here, exchange_here, quiet, writes_one}
 
 -- a step with the requests counted
@@ -74,7 +74,7 @@ failed_step p after failed new step = record {
 }
 
 counted_here : (asked : LineReading) (before requests : ℕ) → is_answered asked ≡ true
-    → requests ≡ min (before + 1) 18446744073709551615 → requests ≡ counted asked before
+    → requests ≡ min (before + 1) 18446744073709551615 → requests ≡ requests_with asked before
 counted_here asked before requests answers is =
     is ∙ sym (ap (λ b. cond b (min (before + 1) 18446744073709551615) before) answers)
 
@@ -82,7 +82,7 @@ counted_here asked before requests answers is =
 pub turn_of : {W : ℕ} (p : Here W) (after : Option (List ℕ)) (result : Result (Unit {0}) Failed) (mid : Moment W)
     (requests : ℕ) → StepTo p after result mid → requests ≡ min (mid.requests + 1) 18446744073709551615
     → mid.requests ≡ p.old.requests → is_answered (asked_here p) ≡ true
-    → TurnIs (turned result) W p.config p.history p.s p.line p.before after p.old (record mid { requests = requests })
+    → TurnIs (turn_after result) W p.config p.history p.s p.line p.before after p.old (record mid { requests = requests })
 turn_of p after (Ok unit) mid requests step is same answers = record {
   step = turned_step p after unit (record mid { requests = requests }) (counted_step p after (Ok unit) mid requests step);
   requests = counted_here (asked_here p) p.old.requests requests answers
@@ -109,11 +109,11 @@ pub nothing_turn : {W : ℕ} (p : Here W) (after : Option (List ℕ)) → asked_
 nothing_turn p after is wrote = record {
   step = quiet p after (Ok Goes) p.old (Ok None) [] is refl refl refl refl p.stands.keep
       (λ later. record { said_is = refl; position = refl; same = refl }) wrote;
-  requests = sym (ap (λ asked. counted asked p.old.requests) is);
+  requests = sym (ap (λ asked. requests_with asked p.old.requests) is);
 }
 
 -- the cause of a failure stays
 pub caused_turn : (before after : ℕ) (result : Result (Unit {0}) Failed) → IsCaused before after result
-    → IsCaused before after (turned result)
+    → IsCaused before after (turn_after result)
 caused_turn before after (Ok unit) cause = cause
 caused_turn before after (Err failed) cause = cause

@@ -29,8 +29,8 @@ use Rattle.gph_session.specs.Meaning.{Means, AllKeep, IsSettled}
 use Rattle.gph_session.specs.Sessions.{IsServed, KeepsDesk, state_of}
 
 -- one answered line more, if it is one: the count stays at the greatest number
-abbrev pub counted : LineReading → ℕ → ℕ
-counted asked requests =
+abbrev pub requests_with : LineReading → ℕ → ℕ
+requests_with asked requests =
     if is_answered asked then min (requests + 1) 18446744073709551615 else requests
 
 -- one line was answered by one step of a session that is alone, which leads from one moment to the
@@ -61,7 +61,7 @@ pub record OneLine {A : Type 0} (W : ℕ) (config : Config) (history : List Jour
     (line : List ℕ) (before after : Option (List ℕ)) (result : Result A Failed)
     (old new : Moment W) : Type 0 where
   pub step : OneStep W config history s line before after result old new
-  pub requests : new.requests ≡ counted (reading config line) old.requests
+  pub requests : new.requests ≡ requests_with (reading config line) old.requests
 
 -- a moment means a state, in the history so far
 pub record Stands {W : ℕ} (config : Config) (now : Moment W) (history : List JournalEntry)
@@ -198,10 +198,10 @@ abbrev pub start_at : {W : ℕ} → Moment W → Start
 start_at now = record { desk = now.desk; ledgers = now.ledgers }
 
 -- a session that has read nothing goes on
-abbrev pub HasBegun : {W : ℕ} → Config → Moment W → Option (List ℕ) → Type 0
-HasBegun config now begun = GoesOn config (start_at now) now [] [] begun
+abbrev pub HasBegunWith : {W : ℕ} → Config → Moment W → Option (List ℕ) → Type 0
+HasBegunWith config now begun = GoesOn config (start_at now) now [] [] begun
 
 -- how a session goes on after a reply
-abbrev pub turned : Result (Unit {0}) Failed → Result Turn Failed
-turned (Ok unit) = Ok Goes
-turned (Err failed) = Err failed
+abbrev pub turn_after : Result (Unit {0}) Failed → Result Turn Failed
+turn_after (Ok unit) = Ok Goes
+turn_after (Err failed) = Err failed

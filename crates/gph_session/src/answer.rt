@@ -8,7 +8,7 @@ ghost use Rattle.query_protocol.specs.Lines.{reading};
 ghost use Rattle.query_protocol.specs.Stored.{unstored, IsFit, IsFitReading, NamesShard, ReadsAs};
 ghost use Rattle.open_queries.specs.Writing.{IsCaused};
 ghost use Rattle.gph_session.specs.Meaning.{IsReady, HaveShards, IsAnswered};
-ghost use Rattle.gph_session.specs.Flow.{AnswersAs, AnswersRequest, turned};
+ghost use Rattle.gph_session.specs.Flow.{AnswersAs, AnswersRequest, turn_after};
 ghost use Rattle.gph_session.specs.Moments.{moment_of};
 
 use crate::asking::{cancel, cost, layout, next, plan};
@@ -74,7 +74,7 @@ pub(crate) fn answer<const W: usize, D: Desk<W>, K: Sink, R: Threads + Sync, G: 
 
 // How a session goes on after a reply.
 fn goes_on(answered: Result<(), Failed>) -> Result<Turn, Failed>
-    ensures { result ≡ turned answered }
+    ensures { result ≡ turn_after answered }
 {
     match answered {
         Ok(()) => Ok(Turn::Goes),

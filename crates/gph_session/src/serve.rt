@@ -6,7 +6,7 @@ ghost use Rattle.session_model.specs.declared.limits.TheConstants.{BLOCK_MOST};
 ghost use Rattle.session_model.specs.Ledger.{ledgers};
 ghost use Rattle.session_model.specs.Outcomes.{ends};
 ghost use Rattle.gph_session.specs.Meaning.{IsReady, HaveShards};
-ghost use Rattle.gph_session.specs.Flow.{HasBegun};
+ghost use Rattle.gph_session.specs.Flow.{HasBegunWith};
 ghost use Rattle.gph_session.specs.Moments.{moment_of};
 ghost use Rattle.gph_session.specs.Serving.{EndsAs};
 
@@ -52,7 +52,7 @@ pub(crate) fn serve<
     requires config { (D.desk desk.old).config ≡ config.now }
     requires shards { HaveShards config.now.shards session.old.queries }
     requires room { length block.old ≡ BLOCK_MOST }
-    requires new { HasBegun config.now
+    requires new { HasBegunWith config.now
         (moment_of (D.desk desk.old) session.old meters.old upkeep.old) session.old.cutter.held }
     ensures { EndsAs result config.now (D.desk desk.old) (D.desk desk.new)
         session.new.requests session.new.position

@@ -10,7 +10,7 @@ use Rattle.part_layout.specs.declared.config.Config.{Config}
 use Rattle.shard_version.specs.Contents.{Contents}
 use Rattle.commit_journal.specs.Fronts.{FrontState, position_of}
 use Rattle.session_desk.specs.Calls.{Comes, Learns, PinsVersion}
-use Rattle.session_desk.specs.Desks.{DeskState, IsVersionOf, Pin, Place, left_at, no_place, pin_position, pinned_at}
+use Rattle.session_desk.specs.Desks.{DeskState, IsVersionOf, Pin, ShardPlace, left_at, no_place, pin_position, pinned_at}
 use Rattle.query_opening.specs.Pinning.{ComesOn, IsPinnedShard, PinsFirst, behind}
 
 all_both : (P : JournalEntry → Type 0) (first second : List JournalEntry) → AllByRecursion P first → AllByRecursion P second
@@ -57,7 +57,7 @@ version_stays old new shard position version learns config within is = record {
 }
 
 -- a shard that moves keeps every layout
-layout_kept : (places : List Place) (shard other at : ℕ)
+layout_kept : (places : List ShardPlace) (shard other at : ℕ)
     → (get_or (set places shard (at, (get_or places shard no_place).1)) other no_place).1 ≡ (get_or places other no_place).1
 layout_kept [] zero other at = refl
 layout_kept [] (suc shard) other at = refl
@@ -97,7 +97,7 @@ one_came old mid new shard pins first second same further = record {
   number = ap (λ (d : DeskState). length d.pins) second.after ∙ same ∙ first.number;
   rises = further;
   layouts = λ is other.
-      ap (λ (places : List Place). (get_or places other no_place).1) (second.places (first.alone ∙ is))
+      ap (λ (places : List ShardPlace). (get_or places other no_place).1) (second.places (first.alone ∙ is))
       ∙ layout_kept mid.places shard other (left_at new shard) ∙ first.layouts is other;
 }
 

@@ -13,7 +13,7 @@ use Rattle.commit_journal.specs.Journals.{IsJournal, JournalState, without_front
 use Rattle.versioned_shard.specs.Rule.{KeepsJournalRule}
 use Rattle.versioned_shard.specs.Shards.{ShardState}
 use Rattle.session_desk.specs.Calls.{Comes, Learns, PinsVersion, TellsLayout}
-use Rattle.session_desk.specs.Desks.{DeskState, IsDesk, IsPlace, IsVersionOf, Pin, Place, left_at, pin_position, place_at}
+use Rattle.session_desk.specs.Desks.{DeskState, IsDesk, IsShardPlace, IsVersionOf, Pin, ShardPlace, left_at, pin_position, place_at}
 use Rattle.session_desk.specs.Solos.{ComesTo, GivesVersion, IsShardOf, IsSoloDesk, SoloState, desk_of, no_shard, place_of, solo_of}
 
 -- the shard of a number
@@ -43,14 +43,14 @@ solo_is_desk words s solo journal = record {
   each = λ alone number low. placed number low;
 }
   where
-    placed : (number : ℕ) → number < s.config.shards → IsPlace (desk_of s) number
+    placed : (number : ℕ) → number < s.config.shards → IsShardPlace (desk_of s) number
     placed number low =
         let each = solo.each number low in
         let there = placed_there s number in
-        let layout = ap (λ (place : Place). place.1) there in
+        let layout = ap (λ (place : ShardPlace). place.1) there in
         record {
-          within = omega (arith, each.rule.within, ap (λ (place : Place). place.0) there);
-          left = left_there s number ∙ sym (ap (λ (place : Place). place.0) there);
+          within = omega (arith, each.rule.within, ap (λ (place : ShardPlace). place.0) there);
+          left = left_there s number ∙ sym (ap (λ (place : ShardPlace). place.0) there);
           laid = subst IsLaid (sym layout) each.rule.laid;
           bits = ap (λ (laid : Laid). laid.bits) layout ∙ each.bits_are;
         }
@@ -176,8 +176,8 @@ module _ (words : ℕ) (s : SoloState) (solo : IsSoloDesk words s) where
         places = λ alone. changed_places ∙ ap (set (map place_of s.shards) number)
             (ap (λ (at : ℕ). (at, new.current.layout)) (sym (changed_left pins s.last s.done s.late))
             ∙ ap (λ (laid : Laid). (left_at (desk_of (solo_of s.config s.journal s.last (set s.shards number new) pins s.done s.late)) number, laid))
-            (comes.layout_is ∙ sym (ap (λ (place : Place). place.1) (placed_there s number))));
-        never_back = λ alone. omega (arith, comes.never_back, changed_left pins s.last s.done s.late, ap (λ (place : Place). place.0) (placed_there s number));
+            (comes.layout_is ∙ sym (ap (λ (place : ShardPlace). place.1) (placed_there s number))));
+        never_back = λ alone. omega (arith, comes.never_back, changed_left pins s.last s.done s.late, ap (λ (place : ShardPlace). place.0) (placed_there s number));
       }
 
       -- the rows of a version that it gives
@@ -219,8 +219,8 @@ module _ (words : ℕ) (s : SoloState) (solo : IsSoloDesk words s) where
               comes = subst (λ (p : Pin). Comes (desk_of s) after number (set s.pins number (Some p))) is (came pins);
               version_is = subst (λ (n : ℕ). IsVersionOf after number n version) (sym here) (given_version pins);
               reached = omega (arith, reached, here, changed_left pins s.last s.done s.late);
-              alone = λ alone. omega (arith, reached, here, changed_left pins s.last s.done s.late, ap (λ (each : Place). each.0) place);
-              layout = λ alone whole. gives.layout_is (sym here ∙ whole) ∙ comes.layout_is ∙ sym (ap (λ (each : Place). each.1) place);
+              alone = λ alone. omega (arith, reached, here, changed_left pins s.last s.done s.late, ap (λ (each : ShardPlace). each.0) place);
+              layout = λ alone whole. gives.layout_is (sym here ∙ whole) ∙ comes.layout_is ∙ sym (ap (λ (each : ShardPlace). each.1) place);
             }
 
   -- the text of the layout in which a shard stands
@@ -238,7 +238,7 @@ module _ (words : ℕ) (s : SoloState) (solo : IsSoloDesk words s) where
         bits = own.bits_are;
         text = is;
         pinned = omega (arith, own.pinned, left_there s number);
-        alone = λ alone. (sym (ap (λ (each : Place). each.1) place), left_there s number ∙ sym (ap (λ (each : Place). each.0) place));
+        alone = λ alone. (sym (ap (λ (each : ShardPlace). each.1) place), left_there s number ∙ sym (ap (λ (each : ShardPlace). each.0) place));
       }
 
 -- the shard that is found at its place, whatever stands for none

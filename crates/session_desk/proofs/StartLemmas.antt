@@ -21,7 +21,7 @@ use Rattle.commit_journal.specs.Fronts.{positions_of}
 use Rattle.commit_journal.specs.Journals.{JournalState, empty_journal}
 use Rattle.versioned_shard.specs.Rule.{KeepsRule}
 use Rattle.versioned_shard.specs.Shards.{ShardState, shard_with}
-use Rattle.session_desk.specs.Desks.{Pin, Place, new_desk, pin_position, starting_layout}
+use Rattle.session_desk.specs.Desks.{Pin, ShardPlace, new_desk, pin_position, starting_layout}
 use Rattle.session_desk.specs.Solos.{AreFirstShards, IsSoloDesk, desk_of, first_shard_of, no_shard, place_of, solo_of}
 
 -- ---- the codes of rows
@@ -107,7 +107,7 @@ module _ (config : Config) (journal : JournalState) (shards : List ShardState) (
       ∙ ap (λ (left : List ℕ). (record (new_desk config) { left = left; places = map place_of shards }))
       (all_same (λ (shard : ShardState). shard.current.at) shards no_shard 0
       (λ i low. ap (λ (shard : ShardState). shard.current.at) (first.each i (omega (arith, low, first.shards_are)))) ∙ as_many 0)
-      ∙ ap (λ (places : List Place). (record (new_desk config) { places = places }))
+      ∙ ap (λ (places : List ShardPlace). (record (new_desk config) { places = places }))
       (all_same place_of shards no_shard (0, starting_layout config)
       (λ i low. ap place_of (first.each i (omega (arith, low, first.shards_are)))) ∙ as_many (0, starting_layout config))
 

@@ -10,7 +10,7 @@ use Rattle.versioned_shard.specs.Along.{Follows}
 use Rattle.versioned_shard.specs.Rule.{KeepsJournalRule}
 use Rattle.versioned_shard.specs.Shards.{ShardState}
 use Rattle.session_desk.specs.Calls.{IsMadeFor, Swaps, is_late, one_more}
-use Rattle.session_desk.specs.Desks.{DeskState, Place, left_at, place_at}
+use Rattle.session_desk.specs.Desks.{DeskState, ShardPlace, left_at, place_at}
 use Rattle.session_desk.specs.Solos.{IsShardOf, IsSoloDesk, IsSwapped, SoloState, desk_of, no_shard, place_of, solo_of}
 use Rattle.session_desk.proofs.SoloLemmas.{changed_left, changed_lefts, changed_places, learns_nothing, placed_there, shard_found, shard_of, solo_with}
 
@@ -89,17 +89,17 @@ module _ (words : ℕ) (s now : SoloState) (solo : IsSoloDesk words s) (is : s �
     places_after true prepared layout =
         changed_places words s solo number low_here new
         ∙ ap (set (map place_of s.shards) number)
-        (ap (λ (each : ℕ). let place : Place = (each, new.current.layout) in place) (swapped.at_is ∙ ap (λ (shard : ShardState). shard.current.at) here)
-        ∙ ap (λ (laid : Laid). let place : Place = ((shard_of s number).current.at, laid) in place)
+        (ap (λ (each : ℕ). let place : ShardPlace = (each, new.current.layout) in place) (swapped.at_is ∙ ap (λ (shard : ShardState). shard.current.at) here)
+        ∙ ap (λ (laid : Laid). let place : ShardPlace = ((shard_of s number).current.at, laid) in place)
         (layout ∙ ap (λ (shard : ShardState). shard.current.layout) here)
         ∙ sym (placed_there s number))
         ∙ set-get_or (map place_of s.shards) number (place_of no_shard)
     places_after false prepared layout =
         changed_places words s solo number low_here new
         ∙ ap (set (map place_of s.shards) number)
-        (ap (λ (each : ℕ). let place : Place = (each, new.current.layout) in place)
-        (swapped.at_is ∙ ap (λ (shard : ShardState). shard.current.at) here ∙ sym (ap (λ (place : Place). place.0) (placed_there s number)))
-        ∙ ap (λ (laid : Laid). let place : Place = ((place_at (desk_of s) number).0, laid) in place) layout)
+        (ap (λ (each : ℕ). let place : ShardPlace = (each, new.current.layout) in place)
+        (swapped.at_is ∙ ap (λ (shard : ShardState). shard.current.at) here ∙ sym (ap (λ (place : ShardPlace). place.0) (placed_there s number)))
+        ∙ ap (λ (laid : Laid). let place : ShardPlace = ((place_at (desk_of s) number).0, laid) in place) layout)
 
     -- what it did
     pub now_swaps : (moved : Bool) (prepared : Contents) (done late : ℕ) → new.current.layout ≡ (if moved then found.current.layout else prepared.layout)
@@ -125,7 +125,7 @@ module _ (words : ℕ) (s now : SoloState) (solo : IsSoloDesk words s) (is : s �
               (subst (λ (n : ℕ). late ≡ (if moved && is_late s.last prepared.at n then one_more s.late else s.late)) (sym (stays_at done late)) late_is);
           places = λ alone. places_after moved prepared layout;
           stays = λ alone. stays_at done late ∙ ap (λ (shard : ShardState). shard.current.at) here
-              ∙ sym (ap (λ (place : Place). place.0) (placed_there s number));
+              ∙ sym (ap (λ (place : ShardPlace). place.0) (placed_there s number));
         })
       where
         after : DeskState

@@ -16,8 +16,8 @@ abbrev pub Pin : Type 0
 Pin = ℕ × List ℕ
 
 -- where a shard stands, and in which layout
-abbrev pub Place : Type 0
-Place = ℕ × Laid
+abbrev pub ShardPlace : Type 0
+ShardPlace = ℕ × Laid
 
 -- a desk: its board, empty where it has none; its number; the Config; the entries that it has seen,
 -- their codes as words keep them;
@@ -37,7 +37,7 @@ pub record DeskState : Type 0 where
   pub done : ℕ
   pub late : ℕ
   pub alone : Bool
-  pub places : List Place
+  pub places : List ShardPlace
 
 -- the contiguous layout that a Config asks for
 abbrev pub starting_layout : Config → Laid
@@ -62,7 +62,7 @@ new_desk config = record {
 }
 
 -- no place: that of a shard which there isn't
-abbrev pub no_place : Place
+abbrev pub no_place : ShardPlace
 no_place = (0, record { bits = 0; parts = [] })
 
 -- the position of a pin, 0 where there is none
@@ -79,7 +79,7 @@ abbrev pub left_at : DeskState → ℕ → ℕ
 left_at desk shard = slice_index desk.left shard
 
 -- where a shard of a desk that is alone stands, and in which layout
-abbrev pub place_at : DeskState → ℕ → Place
+abbrev pub place_at : DeskState → ℕ → ShardPlace
 place_at desk shard = slice_index_or desk.places shard no_place
 
 -- the entries that the desk has seen, in codes of its bits
@@ -92,7 +92,7 @@ IsOwnFront desk front = live_at desk.fronts front.id ≡ Some (front.who, positi
 
 -- a shard of a desk that is alone doesn't stand beyond what was seen, it was left where it stands,
 -- and its layout is of the desk's bits
-pub record IsPlace (desk : DeskState) (shard : ℕ) : Type 0 where
+pub record IsShardPlace (desk : DeskState) (shard : ℕ) : Type 0 where
   pub within : (place_at desk shard).0 ≤ length desk.seen
   pub left : left_at desk shard ≡ (place_at desk shard).0
   pub laid : IsLaid (place_at desk shard).1
@@ -110,7 +110,7 @@ pub record IsDesk (words : ℕ) (desk : DeskState) : Type 0 where
   pub left : length desk.left ≡ desk.config.shards
   pub pinned : (shard : ℕ) → shard < desk.config.shards → pinned_at desk shard ≤ left_at desk shard
   pub places : desk.alone ≡ true → length desk.places ≡ desk.config.shards
-  pub each : desk.alone ≡ true → (shard : ℕ) → shard < desk.config.shards → IsPlace desk shard
+  pub each : desk.alone ≡ true → (shard : ℕ) → shard < desk.config.shards → IsShardPlace desk shard
 
 -- a version of a shard at a position of what the desk has seen: the shard's rows of so many
 -- entries, in codes of the desk's bits

@@ -12,7 +12,7 @@ use Rattle.commit_journal.specs.Journals.{JournalState, journal_code}
 use Rattle.versioned_shard.specs.Along.{version_at}
 use Rattle.versioned_shard.specs.Rule.{KeepsJournalRule}
 use Rattle.versioned_shard.specs.Shards.{ShardState, shard_code, shard_with}
-use Rattle.session_desk.specs.Desks.{DeskState, Pin, Place, no_place, pin_position, starting_layout}
+use Rattle.session_desk.specs.Desks.{DeskState, Pin, ShardPlace, no_place, pin_position, starting_layout}
 
 -- the Config, the journal, the position of the front that was opened last, the shards with their
 -- last pins, and the two counts
@@ -65,7 +65,7 @@ solo_code =
     (λ t. solo_of t.0 t.1.0 t.1.1.0 t.1.1.1.0 t.1.1.1.1.0 t.1.1.1.1.1.0 t.1.1.1.1.1.1) (λ _. refl)
 
 -- where a shard stands, and in which layout
-abbrev pub place_of : ShardState → Place
+abbrev pub place_of : ShardState → ShardPlace
 place_of shard = (shard.current.at, shard.current.layout)
 
 -- a solo desk has seen the whole history of its journal, and left each shard where it stands

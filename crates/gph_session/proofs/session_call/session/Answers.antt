@@ -9,7 +9,7 @@ use Rattle.gph_session.specs.declared.open_session.Session.{Session}
 use Rattle.gph_session.specs.declared.report.Status.TheVariants as status
 use Rattle.gph_session.specs.Meaning.{IsReady, HaveShards}
 use Rattle.gph_session.specs.Moments.{moment_of}
-use Rattle.gph_session.specs.Flow.{HasBegun}
+use Rattle.gph_session.specs.Flow.{HasBegunWith}
 use Rattle.gph_session.proofs.Here.{learns_nothing}
 use Rattle.gph_session.proofs.TopLemmas.{begun_session, is_ready, ended_as}
 use Rattle.gph_session.proofs.session_call.session.Goals as goal
