@@ -243,8 +243,8 @@ fn a_session_over_steady_ends_is_done(rt: HostRuntime) -> Result<(), Fail> {
     let mut meters: Meters<Postings> = Meters::new(&rt, rt.alloc())?;
     let mut kept: Steps<Upkeep> = upkeep(&rt);
     let outcome = run(
-        rt.alloc(),
         &rt,
+        rt.alloc(),
         words.as_slice(),
         &mut source,
         &mut SteadySink::new(),

@@ -49,8 +49,8 @@ pub(crate) fn compare<R: Abort + Env + Threads + Sync>(
     let mut meters: Meters<Postings> = Meters::new(rt, alloc)?;
     let mut kept: Steps<Upkeep> = upkeep(rt);
     let ended = run(
-        alloc,
         rt,
+        alloc,
         words.as_slice(),
         &mut source,
         &mut sink,

@@ -66,8 +66,8 @@ fn outcome_of<R: Env + Alloc<A = Global> + Threads + Sync>(
     let mut sink = GatheredWriter::new(&gathered);
     let mut steps = upkeep::<Upkeep, _>(rt);
     let outcome = run(
-        rt.alloc(),
         rt,
+        rt.alloc(),
         words.as_slice(),
         &mut source,
         &mut sink,

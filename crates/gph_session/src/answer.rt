@@ -28,8 +28,8 @@ use std::thread::Threads;
 
 /// Answers the line that was cut last, unless it ends the session.
 pub(crate) fn answer<const W: usize, D: Desk<W>, K: Sink, R: Threads + Sync, G: Gate, L: Send, M>(
-    alloc: Global,
     rt: &R,
+    alloc: Global,
     config: &Config,
     session: &mut Session<W>,
     desk: &mut D,
@@ -59,7 +59,7 @@ pub(crate) fn answer<const W: usize, D: Desk<W>, K: Sink, R: Threads + Sync, G: 
         Ok(Some(Request::Quit)) => Ok(Turn::Quits),
         Ok(Some(request)) => {
             let answered = meet(
-                alloc, rt, config, session, desk, request, sink, gate, upkeep, meters,
+                rt, alloc, config, session, desk, request, sink, gate, upkeep, meters,
             );
             session.requests = session.requests.saturating_add(1);
             goes_on(answered)
@@ -84,8 +84,8 @@ fn goes_on(answered: Result<(), Failed>) -> Result<Turn, Failed>
 
 // Meets a request that doesn't end the session.
 fn meet<const W: usize, D: Desk<W>, K: Sink, R: Threads + Sync, G: Gate, L: Send, M>(
-    alloc: Global,
     rt: &R,
+    alloc: Global,
     config: &Config,
     session: &mut Session<W>,
     desk: &mut D,

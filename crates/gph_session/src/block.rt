@@ -28,8 +28,8 @@ pub(crate) fn answer_block<
     L: Send,
     M,
 >(
-    alloc: Global,
     rt: &R,
+    alloc: Global,
     config: &Config,
     session: &mut Session<W>,
     desk: &mut D,
@@ -57,8 +57,8 @@ pub(crate) fn answer_block<
     let mut done = 0;
     while done < block.len() {
         let (taken, turn) = answer_line(
-            alloc,
             rt,
+            alloc,
             config,
             session,
             desk,
@@ -79,8 +79,8 @@ pub(crate) fn answer_block<
 
 // Takes the bytes up to and with the next LF, or all, and answers the line that they end: how many bytes, and how it goes on.
 fn answer_line<const W: usize, D: Desk<W>, K: Sink, R: Threads + Sync, G: Gate, L: Send, M>(
-    alloc: Global,
     rt: &R,
+    alloc: Global,
     config: &Config,
     session: &mut Session<W>,
     desk: &mut D,
@@ -113,7 +113,7 @@ fn answer_line<const W: usize, D: Desk<W>, K: Sink, R: Threads + Sync, G: Gate, 
         Some(cut) => (
             taken,
             answer(
-                alloc, rt, config, session, desk, cut, sink, gate, upkeep, meters,
+                rt, alloc, config, session, desk, cut, sink, gate, upkeep, meters,
             ),
         ),
     }
@@ -129,8 +129,8 @@ pub(crate) fn answer_end<
     L: Send,
     M,
 >(
-    alloc: Global,
     rt: &R,
+    alloc: Global,
     config: &Config,
     session: &mut Session<W>,
     desk: &mut D,
@@ -153,7 +153,7 @@ pub(crate) fn answer_end<
     match session.cutter.finish() {
         None => Ok(Turn::Goes),
         Some(cut) => answer(
-            alloc, rt, config, session, desk, cut, sink, gate, upkeep, meters,
+            rt, alloc, config, session, desk, cut, sink, gate, upkeep, meters,
         ),
     }
 }

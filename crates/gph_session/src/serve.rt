@@ -34,8 +34,8 @@ pub(crate) fn serve<
     L: Send,
     M,
 >(
-    alloc: Global,
     rt: &R,
+    alloc: Global,
     config: &Config,
     session: &mut Session<W>,
     desk: &mut D,
@@ -69,7 +69,7 @@ pub(crate) fn serve<
             Err(Failed) => return Status::ReadFault,
             Ok(0) => {
                 return match answer_end(
-                    alloc, rt, config, session, desk, sink, gate, upkeep, meters,
+                    rt, alloc, config, session, desk, sink, gate, upkeep, meters,
                 ) {
                     Ok(_) => Status::Done,
                     Err(Failed) => Status::WriteFault,
@@ -81,8 +81,8 @@ pub(crate) fn serve<
                 }
                 taken += count as u64;
                 match answer_block(
-                    alloc,
                     rt,
+                    alloc,
                     config,
                     session,
                     desk,

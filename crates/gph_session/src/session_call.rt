@@ -31,8 +31,8 @@ pub fn session<
     L: Send,
     M,
 >(
-    alloc: Global,
     rt: &R,
+    alloc: Global,
     config: &Config,
     desk: &mut D,
     source: &mut S,
@@ -94,8 +94,8 @@ pub fn session<
         };
     };
     let status = serve(
-        alloc,
         rt,
+        alloc,
         config,
         &mut session,
         desk,

@@ -31,8 +31,8 @@ use std::thread::Threads;
 /// have much to read. It reads at most 4,096 bytes at a time, answers each whole line of a block before the next read, and offers
 /// each reply in one piece: of these no clause speaks, and tests show them.
 pub fn run<S: Source, K: Sink, R: Threads + Sync, G: Gate, L: Send, M>(
-    alloc: Global,
     rt: &R,
+    alloc: Global,
     words: &[String],
     source: &mut S,
     sink: &mut K,
@@ -81,15 +81,15 @@ pub fn run<S: Source, K: Sink, R: Threads + Sync, G: Gate, L: Send, M>(
         (ends (K.held sink.old) (K.faults sink.old)) (ends (K.held sink.new) (K.faults sink.new)) }
 {
     match read_words(words) {
-        Ok(config) => serve_any(alloc, rt, &config, source, sink, gate, upkeep, meters),
+        Ok(config) => serve_any(rt, alloc, &config, source, sink, gate, upkeep, meters),
         Err(word) => Outcome::Usage { word },
     }
 }
 
 // Serves a session over codes of any allowed number of bits.
 fn serve_any<S: Source, K: Sink, R: Threads + Sync, G: Gate, L: Send, M>(
-    alloc: Global,
     rt: &R,
+    alloc: Global,
     config: &Config,
     source: &mut S,
     sink: &mut K,
@@ -105,13 +105,13 @@ fn serve_any<S: Source, K: Sink, R: Threads + Sync, G: Gate, L: Send, M>(
         (ends (K.held sink.old) (K.faults sink.old)) (ends (K.held sink.new) (K.faults sink.new))
         (ledgers meters.old upkeep.old) (ledgers meters.new upkeep.new) }
 {
-    for_width!(config.bits, serve_width<_, _, _, _, _, _>, alloc, rt, config, source, sink, gate, upkeep, meters)
+    for_width!(config.bits, serve_width<_, _, _, _, _, _>, rt, alloc, config, source, sink, gate, upkeep, meters)
 }
 
 // Serves a session over codes of W words, over a new desk.
 fn serve_width<const W: usize, S: Source, K: Sink, R: Threads + Sync, G: Gate, L: Send, M>(
-    alloc: Global,
     rt: &R,
+    alloc: Global,
     config: &Config,
     source: &mut S,
     sink: &mut K,
@@ -133,7 +133,7 @@ fn serve_width<const W: usize, S: Source, K: Sink, R: Threads + Sync, G: Gate, L
         return Outcome::NoMemory;
     };
     let report = session(
-        alloc, rt, config, &mut desk, source, sink, gate, upkeep, meters,
+        rt, alloc, config, &mut desk, source, sink, gate, upkeep, meters,
     );
     match report.status {
         Status::Done => Outcome::Done,
