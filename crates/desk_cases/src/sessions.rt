@@ -87,9 +87,9 @@ fn serve<D: Desk<1>, R: Abort + Env + Threads + Sync>(
         &mut meters,
     );
     assert_eq!(rt; sink.bytes(), lines.told);
-    if report.status != Status::Done {
+    let Status::Done = report.status else {
         panic!(rt; "a session that isn't done");
-    }
+    };
     Ok(())
 }
 
