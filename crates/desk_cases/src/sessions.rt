@@ -76,8 +76,8 @@ fn serve<D: Desk<1>, R: Abort + Env + Threads + Sync>(
     let mut meters: Meters<Postings> = Meters::new(rt, alloc)?;
     let mut kept: Steps<Upkeep> = upkeep(rt);
     let report = session(
-        alloc,
         rt,
+        alloc,
         &CONFIG,
         desk,
         &mut source,
