@@ -26,8 +26,7 @@ pub fn digit(value: u8) -> u8 {
 }
 
 // The version of the one shard of 8 bits before any entry.
-fn empty<R: Abort>(rt: &R, alloc: Global, parts: u32) -> Version<1>
-{
+fn empty<R: Abort>(rt: &R, alloc: Global, parts: u32) -> Version<1> {
     let layout = Layout::contiguous(alloc, 8, parts).expect(rt, "a layout");
     let shared = Arc::new(alloc, layout).expect(rt, "memory for a layout");
     Version::empty(alloc, 0, 1, shared).expect(rt, "memory for no rows")
