@@ -6,10 +6,14 @@ use Rattle.knn_task.proofs.near_task.NearTask.begin.Goals as goal
 
 pub begin-requires : goal.begin-requires
 begin-requires g c =
-    let own = c.args.self.now in
-    (search rules, (c.requires.done,
-    radius_left (search_of own.rings.plan) (ring_at own.rings.plan own.rings.walk) own.rings.walk.begun own.window
-    own.mark own.reads own.kept own.rings.kept.ring c.requires.done c.requires.more))
+    let own = c.args.self.now in (
+      search rules,
+      (
+        c.requires.done,
+        radius_left (search_of own.rings.plan) (ring_at own.rings.plan own.rings.walk) own.rings.walk.begun own.window
+            own.mark own.reads own.kept own.rings.kept.ring c.requires.done c.requires.more,
+      ),
+    )
 
 pub invariant_of-self : goal.invariant_of-self
 invariant_of-self g c =

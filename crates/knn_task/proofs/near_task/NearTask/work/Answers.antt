@@ -36,10 +36,16 @@ begin-requires g c =
     let own = c.args.self.now in
     let p = search_of own.rings.plan in
     let few = ready_few p (ring_at own.rings.plan own.rings.walk) own.rings.walk.begun own.window own.mark own.reads own.kept.kept
-    own.rings.kept.ring in
-    (search rules, (omega (arith, c.left.ensures, c.if-left-gt0.false),
-    (unequal own.mark.ready c.rows.result (length p.rows) few c.rows.ensures c.if-self-rows.false,
-    (omega (arith, c.if-self-limit.false), c.requires.under))))
+    own.rings.kept.ring in (
+      search rules,
+      (
+        omega (arith, c.left.ensures, c.if-left-gt0.false),
+        (
+          unequal own.mark.ready c.rows.result (length p.rows) few c.rows.ensures c.if-self-rows.false,
+          (omega (arith, c.if-self-limit.false), c.requires.under),
+        ),
+      ),
+    )
 
 pub returns-then-is_full-clause-stops : goal.returns-then-is_full-clause-stops
 returns-then-is_full-clause-stops g c = λ e.
