@@ -5,7 +5,7 @@ use Rattle.std.proofs.Common.{refl, sym, ap, ◌∙◌, subst, arith, inl, inr, 
 use Rattle.std.specs.Io.KnownBytes.{Consumes}
 use Rattle.std.proofs.lemmas.List.{take_at}
 use Rattle.line_io.specs.Faults.{Rose}
-use Rattle.line_io.specs.Lines.{lines}
+use Rattle.byte_lines.specs.Lines.{lines}
 use Rattle.part_layout.specs.declared.config.Config.{Config}
 use Rattle.gph_serve.specs.declared.outcome.Outcome.{Outcome}
 use Rattle.gph_serve.specs.declared.outcome.Outcome.TheVariants.{Done, Usage, NoMemory}

@@ -5,7 +5,7 @@ use Rattle.std.proofs.Common.{refl, sym, ◌∙◌, subst, arith, append-nil}
 use Rattle.std.proofs.Common.{slice_index_or}
 use Rattle.std.specs.List.{AllByRecursion}
 use Rattle.std.proofs.lemmas.List.{length-map}
-use Rattle.line_io.specs.Cut.{held_of}
+use Rattle.byte_lines.specs.Cut.{held_of}
 use Rattle.hamming_model.specs.Layouts.{IsLayout}
 use Rattle.part_layout.specs.declared.config.Config.{Config}
 use Rattle.session_desk.specs.Desks.{DeskState, IsDesk, ShardPlace, no_place}

@@ -8,7 +8,8 @@ ghost use Rattle.open_queries.specs.Kept.{IsUntouched};
 
 use hamming_model::{BITS_MOST, Hit};
 use hit_source::{HitSource, ListedHits};
-use line_io::{LineBuf, MemorySink};
+use byte_lines::LineBuf;
+use line_io::MemorySink;
 use open_queries::{OpenQueries, say};
 use query_protocol::{Bad, Reply, Tag};
 use read_meter::Meters;
