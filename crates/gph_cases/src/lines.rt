@@ -1,7 +1,9 @@
 //! Lines, and the ends that bytes come from and go to.
 
 use byte_lines::{Cut, Cutter, LineBuf};
-use line_io::{Failed, FromReader, Gathered, GatheredReader, GatheredWriter, Sink, Source, ToWriter};
+use line_io::{
+    Failed, FromReader, Gathered, GatheredReader, GatheredWriter, Sink, Source, ToWriter,
+};
 use std::alloc::Global;
 use std::cell::RefCell;
 use std::io;

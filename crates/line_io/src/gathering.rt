@@ -6,9 +6,8 @@ ghost use Rattle.line_io.specs.Faults.{raised};
 ghost use Rattle.line_io.specs.Objects.{told_and_pending};
 ghost use Rattle.line_io.specs.GivingOut.{GoesOut};
 
-use crate::buffer::LineBuf;
-use crate::cutter::LINE_MOST;
 use crate::write_end::WriteEnd;
+use byte_lines::{LINE_MOST, LineBuf};
 use std::cell::BorrowMutError;
 use std::marker::Model;
 

@@ -7,9 +7,9 @@ ghost use Rattle.hamming_model.specs.declared.limits.TheConstants.{PARTS_MOST, W
 ghost use Rattle.query_protocol.specs.Replies as reply;
 
 use crate::Bad;
+use byte_lines::LineBuf;
 use gph_codes::Code;
 use line_forms::Tag;
-use byte_lines::LineBuf;
 use part_layout::LayoutText;
 
 // The greatest number of hexadecimal digits of a code.

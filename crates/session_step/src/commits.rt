@@ -15,10 +15,10 @@ ghost use Rattle.session_step.specs.Answering.{AnswersRequest};
 ghost use Rattle.session_step.specs.Moments.{moment_of};
 
 use crate::open_session::Session;
+use byte_lines::LineBuf;
 use commit_journal::Decided;
 use entry_log::{Decision, Op};
 use gph_codes::Code;
-use byte_lines::LineBuf;
 use line_io::{Failed, Sink};
 use open_queries::{say, send};
 use part_layout::Config;
