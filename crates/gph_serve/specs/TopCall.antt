@@ -7,7 +7,7 @@ use Rattle.gph_serve.specs.declared.outcome.Outcome.{Outcome}
 use Rattle.gph_serve.specs.declared.outcome.Outcome.TheVariants.{Done, Usage, NoMemory}
 use Rattle.session_model.specs.Ledger.{Ledgers, Rise}
 use Rattle.session_model.specs.Run.{IsRunAlone}
-use Rattle.session_model.specs.Outcomes.{Ends, EndsWith, Untouched}
+use Rattle.session_model.specs.Outcomes.{Ends, EndsWith, Untouched, IsWithin}
 use Rattle.session_model.specs.Outcomes.{IsDone, IsReadFault, IsWriteFault, IsInputLimit}
 use Rattle.gph_serve.specs.declared.outcome.Outcome.TheVariants as outcome
 

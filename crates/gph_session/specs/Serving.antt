@@ -7,7 +7,6 @@ use Rattle.session_desk.specs.Desks.{DeskState}
 use Rattle.session_model.specs.Ledger.{Ledgers}
 use Rattle.session_model.specs.Outcomes.{Ends, EndsWith, Untouched}
 use Rattle.session_model.specs.Outcomes.{IsDone, IsReadFault, IsWriteFault, IsInputLimit}
-use Rattle.gph_serve.specs.declared.outcome.Outcome.TheVariants as outcome
 use Rattle.gph_session.specs.declared.report.Status.{Status}
 use Rattle.gph_session.specs.declared.report.Status.TheVariants.{Done, ReadFault, WriteFault}
 use Rattle.gph_session.specs.declared.report.Status.TheVariants.{NoMemory, InputLimit}

@@ -21,7 +21,7 @@ use Rattle.session_step.specs.KeptDesk.{KeepsDesk}
 use Rattle.session_step.specs.Moments.{Moment, ReadsTo, Spends}
 use Rattle.session_step.specs.Meaning.{Means, AllKeep, IsSettled}
 use Rattle.session_step.specs.Answering.{OneStep, Stands}
-use Rattle.session_step.proofs.MomentLemmas.{reads_still, spends_still}
+use Rattle.session_step.proofs.MomentLemmas.{reads_still, spends_still, desk_keeps}
 
 -- a line, and the session that meets it: what it was asked to be, the moment and the state that it
 -- means, and what the sink had before

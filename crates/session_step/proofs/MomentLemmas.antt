@@ -1,14 +1,15 @@
 -- Lemmas on what a session has read and spent from one moment to another.
 use Rattle.std.proofs.Common.{◌≡◌, ℕ, ◌+◌, ◌-◌, ◌≤◌, List, [], ◌∷◌, ◌++◌, length, map}
-use Rattle.std.proofs.Common.{refl, ap, ◌∙◌, arith}
+use Rattle.std.proofs.Common.{true, refl, ap, ◌∙◌, arith, append-nil}
 use Rattle.std.proofs.lemmas.List.{map-append, length-map}
 use Rattle.hamming_model.specs.History.{JournalEntry}
 use Rattle.session_desk.specs.Desks.{DeskState, seen_history}
+use Rattle.session_desk.specs.Calls.{OnlyLearns}
 use Rattle.session_model.specs.State.{Query}
 use Rattle.session_model.specs.Entries.{Exchange}
 use Rattle.session_model.specs.Ledger.{sum_of}
 use Rattle.session_model.specs.Upkeep.{entries_beyond, vain_steps, all_vain_steps}
-use Rattle.session_step.specs.KeptDesk.{pins_of}
+use Rattle.session_step.specs.KeptDesk.{KeepsDesk, pins_of}
 use Rattle.session_step.specs.Moments.{ReadsTo, Spends}
 
 -- ---- the ledgers of the queries
