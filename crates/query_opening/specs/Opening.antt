@@ -1,5 +1,5 @@
 -- What a query is opened on: for each shard a source over its rows at one position.
-use Rattle.std.specs.Prelude.{◌≡◌, ℕ, ◌<◌, ◌≤◌, List, length, take, slice_index_or}
+use Rattle.std.specs.Prelude.{◌≡◌, ℕ, ◌<◌, ◌≤◌, Bool, true, false, List, length, take, slice_index_or}
 use Rattle.hamming_model.specs.Codes.{StandsFor}
 use Rattle.hamming_model.specs.History.{rows_of}
 use Rattle.shard_version.specs.Contents.{Contents}
@@ -15,6 +15,11 @@ use Rattle.query_opening.specs.declared.wanted.Wanted.TheVariants.{Within, Neare
 abbrev pub radius_of : Wanted → ℕ
 radius_of (Within tau) = tau
 radius_of Nearest = 0
+
+-- whether all rows are wanted, nearest first
+abbrev pub is_nearest : Wanted → Bool
+is_nearest (Within tau) = false
+is_nearest Nearest = true
 
 -- what a query that wants this is asked of a version, where so many hits may wait
 abbrev pub AsksWanted : Wanted → Contents → List ℕ → ℕ → Asked → Type 0
