@@ -1,7 +1,7 @@
 ghost use Rattle.std.specs.Prelude.{◌≡◌, ◌≤◌, take};
 ghost use Rattle.std.specs.Thread.{IsSync};
 ghost use Rattle.hamming_model.specs.Codes.{StandsFor};
-ghost use Rattle.query_opening.specs.Opening.{radius_of};
+ghost use Rattle.query_opening.specs.Opening.{wanted_radius};
 
 use crate::rows::{digit, plain_row};
 use entry_log::Op;
@@ -99,7 +99,7 @@ fn compare<R: Abort + Env + Threads + Sync, D: Desk<1>>(
 ) -> Result<(), Fail>
     requires sync { IsSync R.row }
     requires bits { (D.desk desk.old).config.bits ≡ 8 }
-    requires near { radius_of wanted ≤ 8 }
+    requires near { wanted_radius wanted ≤ 8 }
     requires some_room { 1 ≤ room }
     requires small_room { room ≤ 256 }
     requires budget { 1 ≤ budget }

@@ -17,7 +17,7 @@ use Rattle.hit_source.specs.Sources.{Asked, IsFresh, Standing}
 use Rattle.shard_query.specs.Opening.{opened_code}
 use Rattle.scatter_gather.specs.Kept.{AreOneLength}
 use Rattle.session_desk.specs.Desks.{DeskState, seen_history}
-use Rattle.query_opening.specs.Opening.{AreSourcesOn, AsksWanted, BeginsWanted, IsSourceOn, MayBeAsked, OpensQuery, is_nearest, radius_of}
+use Rattle.query_opening.specs.Opening.{AreSourcesOn, AsksWanted, BeginsWanted, IsSourceOn, MayBeAsked, OpensSources, is_nearest, wanted_radius}
 use Rattle.query_opening.specs.declared.wanted.Wanted.{Wanted}
 use Rattle.query_opening.specs.declared.wanted.Wanted.TheVariants.{Within, Nearest}
 use Rattle.query_opening.specs.Pinning.{PinsAll, contents_of_all}
@@ -129,7 +129,7 @@ rows_more versions i found low is =
 module _ {S : Type 0} (asks : S → Asked) (stands : S → Standing) (words : ℕ) (old new : DeskState) (versions : List Contents) (position : ℕ)
     (pins : PinsAll old new position versions) (wanted : Wanted) (stored : List ℕ) (room : ℕ) where
   -- each version may be asked what the desk may be asked
-  pub each_asked : StandsFor words old.config.bits stored (take old.config.bits stored) → radius_of wanted ≤ old.config.bits
+  pub each_asked : StandsFor words old.config.bits stored (take old.config.bits stored) → wanted_radius wanted ≤ old.config.bits
       → (i : ℕ) (version : Contents) → i < length versions → MayBeAsked words stored wanted (get_or versions i version)
   each_asked code near i version low =
       let is = pins.each i version (omega (arith, low, pins.number)) in
@@ -156,7 +156,7 @@ module _ {S : Type 0} (asks : S → Asked) (stands : S → Standing) (words : �
       → rows ≡ sum (row_numbers versions)
       → (AreShardNumbers old.config.shards (rows_of (take position (seen_history new))) (row_numbers versions)
       → sum (row_numbers versions) ≡ length (rows_of (take position (seen_history new))))
-      → OpensQuery asks stands old new position rows wanted (take old.config.bits stored) room sources
+      → OpensSources asks stands old new position rows wanted (take old.config.bits stored) room sources
   opens_all sources rows some ranges rows_is law = record {
     last = pins.last;
     after = pins.after;

@@ -11,8 +11,8 @@ ghost use Rattle.shard_query.specs.Opening.{opened_code};
 ghost use Rattle.scatter_gather.specs.Kept.{AreOneLength};
 ghost use Rattle.session_desk.specs.Calls.{KeepsKnown};
 ghost use Rattle.session_desk.specs.Desks.{IsDesk};
-ghost use Rattle.query_opening.specs.Opening.{AreSourcesOn, IsSourceOn, MayBeAsked, OpensQuery};
-ghost use Rattle.query_opening.specs.Opening.{OpensRange, is_nearest, radius_of};
+ghost use Rattle.query_opening.specs.Opening.{AreSourcesOn, IsSourceOn, MayBeAsked, OpensSources};
+ghost use Rattle.query_opening.specs.Opening.{OpensRange, is_nearest, wanted_radius};
 ghost use Rattle.query_opening.specs.Pinning.{ComesOn, behind, contents_of_all};
 ghost use Rattle.query_opening.specs.declared.wanted.Wanted.TheVariants.{Within};
 
@@ -56,11 +56,11 @@ pub fn open_query<const W: usize, D: Desk<W>, M>(
 ) -> Result<Opened<Source<W>>, NoMemory>
     requires code { StandsFor W (D.desk desk.old).config.bits query
         (take (D.desk desk.old).config.bits query) }
-    requires near { radius_of wanted ≤ (D.desk desk.old).config.bits }
+    requires near { wanted_radius wanted ≤ (D.desk desk.old).config.bits }
     requires some_room { 1 ≤ room }
     requires small_room { room ≤ ROOM_MOST }
     // Every shard has a source at one position.
-    ensures opened { IfOk result (λ opened. OpensQuery
+    ensures opened { IfOk result (λ opened. OpensSources
         ⟦<Source<W> as HitSource>⟧.asked ⟦<Source<W> as HitSource>⟧.standing
         (D.desk desk.old) (D.desk desk.new) opened.position opened.rows
         wanted (take (D.desk desk.old).config.bits query.entry) room opened.sources.items) }
