@@ -23,8 +23,10 @@ use Rattle.hit_source.proofs.WorkLemmas.{polls_by_work}
 use Rattle.knn_task.specs.Rings.{Search, Ring, IsRing, all_hits, bound_of}
 use Rattle.knn_task.specs.Asking.{search_asked, near_answer}
 use Rattle.knn_task.specs.Near.{KeepsHits, IsOpen, IsNear, IsUnder, IsHeld, floor_of, search_standing, search_units, last_of}
-use Rattle.knn_task.specs.NearLaw.{floor_low, floor_own, floor_high, floor_none, floor_some, near_lawful, last_radii, ready_few}
-use Rattle.knn_task.specs.NearLaw.{ready_size, later_far, prefix, inside, ascending, first_of_take, take_inside}
+use Rattle.knn_task.specs.NearLists.{last_radii, first_of_take, take_inside}
+use Rattle.knn_task.specs.ReadyLaw.{floor_low, floor_own, floor_high, floor_none, floor_some, ready_few}
+use Rattle.knn_task.specs.ReadyLaw.{ready_size, later_far, prefix, inside, ascending}
+use Rattle.knn_task.specs.NearLaw.{near_lawful}
 use Rattle.knn_task.proofs.NearLemmas.{after_pop}
 use Rattle.knn_task.specs.declared.near_task.Mark.{Mark}
 

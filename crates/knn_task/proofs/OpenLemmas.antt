@@ -7,9 +7,9 @@ use Rattle.hamming_model.specs.Scan.{Near}
 use Rattle.threshold_model.specs.Bounds.{IsLeastUpTo, IsBoundOf, IsPlanOf, IsUnitsUpTo, IsUnitsOf, values_of_parts}
 use Rattle.threshold_model.specs.Vectors.{IsLeast}
 use Rattle.shard_version.specs.Tables.{Tabled}
-use Rattle.shard_walk.specs.NearPlanned.{NearPlanned, PlansNear, near_rows, near_bits, near_parts, near_query, near_counts}
-use Rattle.shard_walk.specs.RingWalks.{RingPlace, StartsRings}
-use Rattle.shard_walk.proofs.NearPlanLemmas.{sum_more}
+use Rattle.ring_walk.specs.NearPlanned.{NearPlanned, PlansNear, near_rows, near_bits, near_parts, near_query, near_counts}
+use Rattle.ring_walk.specs.RingWalks.{RingPlace, StartsRings}
+use Rattle.ring_walk.proofs.NearPlanLemmas.{sum_more}
 use Rattle.hit_source.specs.Sources.{IsAsked, radii_begun}
 use Rattle.hit_source.specs.Windows.{window_of}
 use Rattle.knn_task.specs.Asking.{plan_radius}

@@ -10,7 +10,7 @@ use Rattle.hamming_model.specs.Scan.{hit_of}
 use Rattle.search_model.proofs.HitLemmas.{order_size}
 use Rattle.ring_model.specs.Rings.{hits_nearer}
 use Rattle.ring_model.proofs.SplitLemmas.{all_nearer}
-use Rattle.knn_task.specs.NearLaw.{ready_size}
+use Rattle.knn_task.specs.ReadyLaw.{ready_size}
 use Rattle.hit_source.specs.Moves.{BeginsWithin}
 use Rattle.hit_source.specs.Windows.{Window}
 use Rattle.knn_task.specs.Rings.{Search, Ring, IsRing, Begins, all_hits, bound_of}
@@ -224,3 +224,35 @@ pub given_ready : (hits : Window) (mark : Mark) (limit : ℕ) → hits.given ≤
 given_ready hits mark limit behind moved under near =
     ⊎_elim (λ (low : hits.given < mark.ready). absurd (omega (arith, under.above low)))
     (λ (high : mark.ready ≤ hits.given). omega arith) (cases_lt hits.given mark.ready)
+
+-- a posting was read and the ring settled, by the names that the calls gave
+pub read_as : (p q : Search) (old new : Ring) (radii number : ℕ) (hits mid window : Window) (mark to : Mark) (reads : ℕ) → q ≡ p → number ≡ radii
+    → IsNear p old radii hits mark reads → IsRing p radii old → IsRing q number new → 0 < old.reads
+    → (limit from steps : ℕ) (kept : Option Hit) → IsUnder limit hits mark → old.hits ≡ option_to_list kept ++ new.hits
+    → old.reads ≡ new.reads + 1 → new.total ≡ old.total → new.values ≡ old.values → steps ≡ from + 1
+    → (rows bits begun left : ℕ) → rows ≡ length q.rows → bits ≡ q.bits → begun ≡ number → left ≡ new.reads → mid ≡ with_new hits kept
+    → SettlesRing (cond (length mid.found == rows) (bits + 1) begun) left mid window mark to
+    → Steps limit p q old new radii number hits window mark to reads (reads + 1) from steps
+read_as p q old new radii number hits mid window mark to reads same radii_are is ring after some limit from steps kept under of_hits of_reads of_total
+    of_values step rows bits begun left of_rows of_bits of_begun of_left of_mid settles =
+    steps_as limit p q old new radii radii number hits window mark to reads (reads + 1) from steps same radii_are
+    (read_step p old new radii hits window mark to reads is ring (ring_as p q new radii number same radii_are after) some
+    limit from steps kept under of_hits of_reads of_total of_values step
+    (settles_as p q radii rows bits begun number new.reads left mid (with_new hits kept) window mark to
+    same radii_are of_rows of_bits of_begun of_left of_mid settles))
+
+-- a radius was begun and its ring settled, by the names that the calls gave
+pub begin_as : (p q : Search) (old new : Ring) (radii number : ℕ) (hits window : Window) (mark to : Mark) (reads : ℕ) → q ≡ p → number ≡ radii + 1
+    → IsNear p old radii hits mark reads → IsRing p radii old → IsRing q number new
+    → (limit from : ℕ) → IsUnder limit hits mark → old.reads ≡ 0 → mark.ready < length p.rows → mark.settled ≤ limit → Begins p radii old new
+    → (rows bits begun left : ℕ) → rows ≡ length q.rows → bits ≡ q.bits → begun ≡ number → left ≡ new.reads
+    → SettlesRing (cond (length hits.found == rows) (bits + 1) begun) left hits window mark to
+    → Steps limit p q old new radii number hits window mark to reads reads from from
+begin_as p q old new radii number hits window mark to reads same radii_are is ring after limit from under none more near_limit begins
+    rows bits begun left of_rows of_bits of_begun of_left settles =
+    steps_as limit p q old new radii (radii + 1) number hits window mark to reads reads from from same radii_are
+    (begin_step p old new radii hits window mark to reads is ring (ring_as p q new (radii + 1) number same radii_are after) limit from under none
+    (radius_left p old radii hits mark reads is ring none more)
+    (given_ready hits mark limit is.kept.window.behind is.kept.moved under near_limit) more near_limit begins
+    (settles_as p q (radii + 1) rows bits begun number new.reads left hits hits window mark to
+    same radii_are of_rows of_bits of_begun of_left refl settles))

@@ -21,8 +21,8 @@ use Rattle.threshold_model.specs.Vectors.{IsLeast, NeverFalls}
 use Rattle.ring_model.specs.Rings.{is_met, hits_met, hits_new, units_raised, rows_apart, hits_nearer, IsCheapest, ring_cost}
 use Rattle.ring_model.proofs.RingLemmas.{near_hits_met, new_hits_far, met_few, met_all, ring_finds, cheapest_within}
 use Rattle.ring_model.proofs.SplitLemmas.{scan_all, all_nearer}
-use Rattle.shard_walk.specs.NearPlanned.{NearPlanned, IsNearPlanned, near_rows, near_bits, near_parts, near_part, near_query, near_counts, near_all}
-use Rattle.shard_walk.specs.RingWalks.{RingPlace, IsRingPlace, StartsRings, BeginsRing, rows_of_ring, hits_of_ring, found_after, units_after}
+use Rattle.ring_walk.specs.NearPlanned.{NearPlanned, IsNearPlanned, near_rows, near_bits, near_parts, near_part, near_query, near_counts, near_all}
+use Rattle.ring_walk.specs.RingWalks.{RingPlace, IsRingPlace, StartsRings, BeginsRing, rows_of_ring, hits_of_ring, found_after, units_after}
 use Rattle.knn_task.specs.Rings.{IsRing, Begins}
 use Rattle.knn_task.specs.Walked.{search_of, ring_at, IsNearQuery, IsWalked}
 

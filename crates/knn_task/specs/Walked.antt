@@ -5,10 +5,10 @@ use Rattle.hamming_model.specs.Layouts.{IsLayout}
 use Rattle.hamming_model.specs.Stored.{AreCodeRows}
 use Rattle.threshold_model.specs.Bounds.{values_of_parts}
 use Rattle.threshold_dp.specs.Radii.{PlansRadii}
-use Rattle.shard_walk.specs.NearPlanned.{NearPlanned, near_rows, near_bits, near_parts, near_query}
-use Rattle.shard_walk.specs.NearPlanned.{near_counts}
-use Rattle.shard_walk.specs.RingWalks.{RingPlace, IsRingPlace, rows_of_ring, hits_of_ring}
-use Rattle.shard_walk.specs.RingWalks.{found_after, units_after}
+use Rattle.ring_walk.specs.NearPlanned.{NearPlanned, near_rows, near_bits, near_parts, near_query}
+use Rattle.ring_walk.specs.NearPlanned.{near_counts}
+use Rattle.ring_walk.specs.RingWalks.{RingPlace, IsRingPlace, rows_of_ring, hits_of_ring}
+use Rattle.ring_walk.specs.RingWalks.{found_after, units_after}
 use Rattle.hit_source.specs.Sources.{Asked, Standing}
 use Rattle.hit_source.specs.Windows.{Window}
 use Rattle.knn_task.specs.Asking.{search_asked}

@@ -3,6 +3,8 @@
 #![tactic(auto)]
 
 #[cfg(test)]
+mod gathered;
+#[cfg(test)]
 mod near_tasks;
 #[cfg(test)]
 mod rows;

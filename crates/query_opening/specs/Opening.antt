@@ -1,5 +1,5 @@
 -- What a query is opened on: for each shard a source over its rows at one position.
-use Rattle.std.specs.Prelude.{◌≡◌, ℕ, ◌<◌, ◌≤◌, List, length, take, slice_index_or}
+use Rattle.std.specs.Prelude.{◌≡◌, ℕ, ◌<◌, ◌≤◌, Bool, true, false, List, length, take, slice_index_or}
 use Rattle.hamming_model.specs.Codes.{StandsFor}
 use Rattle.hamming_model.specs.History.{rows_of}
 use Rattle.shard_version.specs.Contents.{Contents}
@@ -12,9 +12,14 @@ use Rattle.query_opening.specs.declared.wanted.Wanted.{Wanted}
 use Rattle.query_opening.specs.declared.wanted.Wanted.TheVariants.{Within, Nearest}
 
 -- the radius that is wanted, and 0 where all rows are
-abbrev pub radius_of : Wanted → ℕ
-radius_of (Within tau) = tau
-radius_of Nearest = 0
+abbrev pub wanted_radius : Wanted → ℕ
+wanted_radius (Within tau) = tau
+wanted_radius Nearest = 0
+
+-- whether all rows are wanted, nearest first
+abbrev pub is_nearest : Wanted → Bool
+is_nearest (Within tau) = false
+is_nearest Nearest = true
 
 -- what a query that wants this is asked of a version, where so many hits may wait
 abbrev pub AsksWanted : Wanted → Contents → List ℕ → ℕ → Asked → Type 0
@@ -40,7 +45,7 @@ pub record IsSourceOfShard (old new : DeskState) (position shard : ℕ) (wanted 
   pub source_is : IsSourceOn wanted version query room a s
 
 -- every shard was pinned at one position, where there are so many rows, and has a source there
-pub record OpensQuery {S : Type 0} (asks : S → Asked) (stands : S → Standing) (old new : DeskState)
+pub record OpensSources {S : Type 0} (asks : S → Asked) (stands : S → Standing) (old new : DeskState)
     (position rows : ℕ) (wanted : Wanted) (query : List ℕ) (room : ℕ) (sources : List S)
     : Type 0 where
   pub last : new.last ≡ position
@@ -56,13 +61,13 @@ pub record OpensQuery {S : Type 0} (asks : S → Asked) (stands : S → Standing
 abbrev pub OpensRange : {S : Type 0} → (S → Asked) → (S → Standing) → DeskState → DeskState
     → ℕ → ℕ → List ℕ → ℕ → ℕ → List S → Type 0
 OpensRange asks stands old new position rows query tau room sources =
-    OpensQuery asks stands old new position rows (Within tau) query room sources
+    OpensSources asks stands old new position rows (Within tau) query room sources
 
 -- the words of a query stand for a code of a version's bits, and its radius isn't beyond them
 pub record MayBeAsked (words : ℕ) (stored : List ℕ) (wanted : Wanted) (version : Contents)
     : Type 0 where
   pub code : StandsFor words version.layout.bits stored (opened_code version stored)
-  pub near : radius_of wanted ≤ version.layout.bits
+  pub near : wanted_radius wanted ≤ version.layout.bits
 
 -- the first so many versions have a source each, a query for the code that words keep
 pub record AreSourcesOn {S : Type 0} (asks : S → Asked) (stands : S → Standing)

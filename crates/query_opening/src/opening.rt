@@ -8,10 +8,11 @@ ghost use Rattle.hamming_model.specs.declared.limits.TheConstants.{ROOM_MOST, SH
 ghost use Rattle.shard_version.specs.Contents.{Contents};
 ghost use Rattle.hit_source.specs.Sources.{IsFresh};
 ghost use Rattle.shard_query.specs.Opening.{opened_code};
+ghost use Rattle.scatter_gather.specs.Kept.{AreOneLength};
 ghost use Rattle.session_desk.specs.Calls.{KeepsKnown};
 ghost use Rattle.session_desk.specs.Desks.{IsDesk};
-ghost use Rattle.query_opening.specs.Opening.{AreSourcesOn, IsSourceOn, MayBeAsked, OpensQuery};
-ghost use Rattle.query_opening.specs.Opening.{OpensRange, radius_of};
+ghost use Rattle.query_opening.specs.Opening.{AreSourcesOn, IsSourceOn, MayBeAsked, OpensSources};
+ghost use Rattle.query_opening.specs.Opening.{OpensRange, is_nearest, wanted_radius};
 ghost use Rattle.query_opening.specs.Pinning.{ComesOn, behind, contents_of_all};
 ghost use Rattle.query_opening.specs.declared.wanted.Wanted.TheVariants.{Within};
 
@@ -55,16 +56,23 @@ pub fn open_query<const W: usize, D: Desk<W>, M>(
 ) -> Result<Opened<Source<W>>, NoMemory>
     requires code { StandsFor W (D.desk desk.old).config.bits query
         (take (D.desk desk.old).config.bits query) }
-    requires near { radius_of wanted ≤ (D.desk desk.old).config.bits }
+    requires near { wanted_radius wanted ≤ (D.desk desk.old).config.bits }
     requires some_room { 1 ≤ room }
     requires small_room { room ≤ ROOM_MOST }
     // Every shard has a source at one position.
-    ensures opened { IfOk result (λ opened. OpensQuery
+    ensures opened { IfOk result (λ opened. OpensSources
         ⟦<Source<W> as HitSource>⟧.asked ⟦<Source<W> as HitSource>⟧.standing
         (D.desk desk.old) (D.desk desk.new) opened.position opened.rows
         wanted (take (D.desk desk.old).config.bits query.entry) room opened.sources.items) }
     ensures fresh { IfOk result (λ opened.
         AllByRecursion (λ source. IsFresh (⟦<Source<W> as HitSource>⟧.standing source)) opened.sources.items) }
+    // The sources can be gathered.
+    ensures some { IfOk result (λ opened. 1 ≤ length opened.sources.items) }
+    ensures few { IfOk result (λ opened. length opened.sources.items ≤ SHARDS_MOST) }
+    ensures one_length { IfOk result (λ opened.
+        AreOneLength (map ⟦<Source<W> as HitSource>⟧.asked opened.sources.items)) }
+    ensures one_kind { IfOk result (λ opened. AllByRecursion (λ a. a.near ≡ is_nearest wanted)
+        (map ⟦<Source<W> as HitSource>⟧.asked opened.sources.items)) }
     // In any case the desk is as before but for what it saw and how far its shards came.
     ensures comes { ComesOn (D.desk desk.old) (D.desk desk.new) }
     ensures known { KeepsKnown (D.desk desk.new) (D.knows desk.old) (D.knows desk.new) }

@@ -1,7 +1,7 @@
 -- A hit was moved; or the next radius is above the limit; or it can be begun.
 use Rattle.std.proofs.Common.{◌≡◌, ◌+◌, ◌<◌, ◌≤◌, length, ◌∙◌, arith, inl, inr, sym, rules}
 use Rattle.knn_task.specs.Walked.{search_of, ring_at}
-use Rattle.knn_task.specs.NearLaw.{ready_few}
+use Rattle.knn_task.specs.ReadyLaw.{ready_few}
 use Rattle.knn_task.proofs.NearWorkLemmas.{full_waits, move_works, awaits}
 use Rattle.knn_task.proofs.NearLemmas.{after_move}
 use Rattle.knn_task.proofs.StepLemmas.{not_full, unequal}
