@@ -17,7 +17,7 @@ open_source-requires g c =
     c.in-Ok.ensures.cases in
     let may : MayBeAsked g.row.W c.args.query c.args.wanted version =
     subst (MayBeAsked g.row.W c.args.query c.args.wanted) (sym here) (c.requires.each c.loop-i.i version c.loop-i-test.true) in
-    (omega arith, (search rules, (search rules, (c.requires.few_words, (may, (c.requires.some_room, c.requires.small_room))))))
+    (omega arith, (search rules, (search rules, (search rules, (c.requires.few_words, (may, (c.requires.some_room, c.requires.small_room)))))))
 
 pub loop-i-preserved : goal.loop-i-preserved
 loop-i-preserved g c =
