@@ -1,5 +1,4 @@
--- The settled hits of a near query are the first of its answer, and its floor is that of the
-    answer.
+-- The settled hits of a near query are the first of its answer, and its floor is the answer's.
 -- No public clause cites this module.
 use Rattle.std.proofs.Common.{◌≡◌, ℕ, ◌+◌, ◌-◌, ◌<◌, ◌≤◌, ◌==◌, true, cond, List}
 use Rattle.std.proofs.Common.{◌++◌, length, map, take, drop, sym, ap, ◌∙◌, subst, arith}
