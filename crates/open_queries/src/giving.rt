@@ -20,7 +20,7 @@ use std::thread::Threads;
 
 /// How many units of work each source does at most in one poll, where polls go in threads: many, so that few threads are
 /// started.
-const BUDGET: u32 = 1_048_576;
+const BUDGET: u32 = 1_000_000;
 
 /// Gives the next hits of a query, and its end or that there are more. One that is done reads nothing.
 pub(crate) fn give_query<H: HitSource, R: Threads + Sync, G: Gate, K: Sink, L: Send>(
