@@ -1,13 +1,12 @@
 -- Lists with room: an entry placed, and the lists of all values dealt out to buckets.
-use Rattle.std.proofs.Common.{◌≡◌, ℕ, ◌+◌, ◌-◌, ◌*◌, ◌/◌, ◌%◌, ◌^◌, ◌<◌, ◌≤◌, inl, inr, min, List, [], ◌∷◌, ◌++◌, length, take, map, set, get_or, sum, replicate, refl, sym, ap, subst, ◌∙◌, arith, All, Vec, Global, length-append}
+use Rattle.std.proofs.Common.{◌≡◌, ℕ, ◌+◌, ◌-◌, ◌*◌, ◌/◌, ◌%◌, ◌^◌, ◌<◌, ◌≤◌, inl, inr, min, List, [], ◌∷◌, ◌++◌, length, take, set, get_or, sum, replicate, sym, ap, subst, ◌∙◌, arith, All, Vec, Global, length-append}
 use Rattle.std.specs.Arc.{arc_value}
 use Rattle.std.specs.declared.sync.Arc.{Arc}
 use Rattle.std.specs.Vec.{vec_capacity}
-use Rattle.std.specs.List.{range_with_len}
 use Rattle.std.proofs.Math.Pow.{pow_mono}
 use Rattle.std.proofs.lemmas.Nat.{pow-add}
 use Rattle.std.proofs.lemmas.Bool.{cases_lt}
-use Rattle.std.proofs.lemmas.List.{get_or-map, get_or-set_same, length-map, length-set, map-append, map-set, take_all}
+use Rattle.std.proofs.lemmas.List.{get_or-map, length-map, length-set, map-append, map-set, take_all}
 use Rattle.std.proofs.lemmas.List.Elements.{All-replicate, All-set}
 use Rattle.std.proofs.lemmas.List.FromFn.{fill_by_all, get_or-map-range_with_len, length-map-range_with_len, map-range_with_len_more}
 use Rattle.std.proofs.lemmas.List.Sums.{get_or-le-sum_by}
@@ -30,7 +29,7 @@ pub list_dealt : (all done : List (Vec (ℕ × List ℕ) Global)) (rest round at
     → held_by (done ++ copied ∷ []) ≡ lists_of_rest (held_by all) rest (round + 1)
 list_dealt all done rest round at own copied place below is same before =
     let item : copied.items ≡ get_or (held_by all) (round * 256 + rest) [] =
-        same ∙ ap items_of is ∙ sym (get_or-map items_of all at own [] below) ∙ ap (λ (n : ℕ). get_or (held_by all) n []) place in
+    same ∙ ap items_of is ∙ sym (get_or-map items_of all at own [] below) ∙ ap (λ (n : ℕ). get_or (held_by all) n []) place in
     map-append items_of done (copied ∷ [])
     ∙ ap (λ (lists : List (List (ℕ × List ℕ))). lists ++ copied.items ∷ []) before
     ∙ ap (λ (list : List (ℕ × List ℕ)). lists_of_rest (held_by all) rest round ++ list ∷ []) item
@@ -174,7 +173,7 @@ module _ (width : ℕ) (lists : List (Vec (ℕ × List ℕ) Global)) (reserved :
   pub placed_seen : reserved_of width (set lists value new) ≡ placed reserved value entry
   placed_seen =
       let held : held_by (set lists value new) ≡ (with_posting reserved.table value entry).lists =
-          map_changed items_of lists reserved.table.lists value own held_seen is new [] (λ list. list ++ entry ∷ []) in_table pushed in
+      map_changed items_of lists reserved.table.lists value own held_seen is new [] (λ list. list ++ entry ∷ []) in_table pushed in
       let rooms : rooms_of (set lists value new) ≡ reserved.room = map_kept room_of lists reserved.room value own rooms_seen is new same_room in
       ap (λ (number : ℕ). let r : Reserved = record { table = record { width = number; lists = held_by (set lists value new) }; room = rooms_of (set lists value new) } in r) width_seen
       ∙ ap (λ (one : List (List (ℕ × List ℕ))). let r : Reserved = record { table = record { width = reserved.table.width; lists = one }; room = rooms_of (set lists value new) } in r) held

@@ -87,7 +87,12 @@ impl<const W: usize> Postings<W> {
             return Err(NoMemory);
         };
         for rest in 0..number {
-            let bucket = Bucket::of_rest(alloc, lists, rest, (lists.len() + BUCKETS - 1) / BUCKETS)?;
+            let bucket = Bucket::of_rest(
+                alloc,
+                lists,
+                rest,
+                (lists.len() + BUCKETS - 1) / BUCKETS,
+            )?;
             let Ok(shared) = Arc::new(alloc, bucket) else {
                 return Err(NoMemory);
             };

@@ -39,7 +39,7 @@ module _ {W : ℕ} (shard shards at : ℕ) (old new : Laid) (rows : List (ℕ ×
   pub kept_relaid : IsLaid new → ArePartTables (in_layout version.contents new) relaid → AgreesWithRows (contents_of shard shards at new rows) rows relaid
   kept_relaid laid are =
       let own : ArePartTables (contents_of shard shards at new rows) relaid =
-          subst (λ (contents : Contents). ArePartTables contents relaid) (sym seen_relaid) are in
+      subst (λ (contents : Contents). ArePartTables contents relaid) (sym seen_relaid) are in
       record {
         sound = subst (λ (contents : Contents). IsVersion contents) (sym rows_kept)
             (version_relaid (contents_of shard shards at old rows) new same_bits laid kept.sound);

@@ -130,14 +130,14 @@ impl<const W: usize> Version<W> {
         ensures { IfOk result (λ version.
             version.contents ≡ in_layout self.now.contents (arc_value layout)) }
     {
-        let rows = self.rows.copy()?;
+        let same_rows = self.rows.copy()?;
         Ok(Version {
             shard: self.shard,
             shards: self.shards,
             at: self.at,
             layout,
             alloc: self.alloc,
-            rows,
+            rows: same_rows,
             tables,
         })
     }

@@ -1,4 +1,4 @@
-use Rattle.std.proofs.Common.{◌≡◌, ◌<◌, ◌+◌, ◌*◌, ◌∙◌, length, refl}
+use Rattle.std.proofs.Common.{◌+◌, ◌*◌, ◌∙◌, refl}
 use Rattle.posting_table.proofs.ListsLemmas.{list_dealt}
 use Rattle.posting_table.proofs.bucket.Bucket.of_rest.Goals as goal
 

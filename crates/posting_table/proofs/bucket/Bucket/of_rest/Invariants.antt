@@ -1,4 +1,4 @@
-use Rattle.std.proofs.Common.{◌≡◌, map}
+use Rattle.std.proofs.Common.{◌≡◌}
 use Rattle.posting_table.specs.KeptLists.{held_by, lists_of_rest}
 use Rattle.posting_table.proofs.bucket.Bucket.of_rest.Given as goal
 
