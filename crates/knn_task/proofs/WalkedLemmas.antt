@@ -23,8 +23,12 @@ use Rattle.ring_model.proofs.RingLemmas.{near_hits_met, new_hits_far, met_few, m
 use Rattle.ring_model.proofs.SplitLemmas.{scan_all, all_nearer}
 use Rattle.ring_walk.specs.NearPlanned.{NearPlanned, IsNearPlanned, near_rows, near_bits, near_parts, near_part, near_query, near_counts, near_all}
 use Rattle.ring_walk.specs.RingWalks.{RingPlace, IsRingPlace, StartsRings, BeginsRing, rows_of_ring, hits_of_ring, found_after, units_after}
+use Rattle.hit_source.specs.Sources.{IsLawful}
+use Rattle.hit_source.specs.Windows.{Window}
+use Rattle.knn_task.specs.NearLaw.{near_lawful}
 use Rattle.knn_task.specs.Rings.{IsRing, Begins}
-use Rattle.knn_task.specs.Walked.{search_of, ring_at, IsNearQuery, IsWalked}
+use Rattle.knn_task.specs.Walked.{search_of, ring_at, IsNearQuery, IsNearTask, IsWalked, near_asked, near_standing}
+use Rattle.knn_task.specs.declared.near_task.Mark.{Mark}
 
 few_kept : {X : Type 0} (test : X → Bool) (xs : List X) → length (filter test xs) ≤ length xs
 few_kept test xs = omega (arith, length-filter test xs, count_by-le-length test xs)
@@ -219,3 +223,9 @@ walked_starts p w room query starts wide =
       begun = below;
       room_is = wide;
     }
+
+-- a near query on a version is a lawful source of hits
+pub task_lawful : (plan : NearPlanned) (walk : RingPlace) (hits : Window) (mark : Mark) (reads left room : ℕ) → IsNearTask plan walk hits mark reads
+    → IsWalked plan walk left room → IsLawful (near_asked plan hits.room) (near_standing plan walk hits mark reads)
+task_lawful plan walk hits mark reads left room is walked =
+    near_lawful (search_of plan) (ring_at plan walk) walk.begun hits mark reads is.kept walked.ring

@@ -1,4 +1,5 @@
 pub mod Asking
+pub mod FloorLaw
 pub mod Near
 pub mod NearLaw
 pub mod NearLists

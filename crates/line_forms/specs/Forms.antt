@@ -4,7 +4,6 @@ use Rattle.std.specs.List.{list_all}
 use Rattle.std.specs.Char.{digit_value}
 use Rattle.std.specs.Str.Parse.{digits_value}
 use Rattle.hamming_model.specs.Codes.{hex_code}
-use Rattle.hamming_model.specs.declared.limits.TheConstants.{ENTRIES_MOST}
 use Rattle.line_forms.specs.declared.tag.TheConstants.{TAG_MOST}
 
 -- one to so many decimal digits
@@ -27,10 +26,6 @@ key_form word = number_of 20 0 (2 ^ 64 - 1) word
 -- a radius of codes of so many bits
 abbrev pub radius_of : ℕ → List ℕ → Option ℕ
 radius_of bits word = number_of 3 0 bits word
-
--- how many of the nearest rows are asked
-abbrev pub nearest_of : List ℕ → Option ℕ
-nearest_of word = number_of 7 1 ENTRIES_MOST word
 
 -- how many hits are asked
 abbrev pub count_of : List ℕ → Option ℕ

@@ -5,13 +5,12 @@ ghost use Rattle.std.specs.List.{list_all};
 ghost use Rattle.hamming_model.specs.Codes.{StandsFor};
 ghost use Rattle.hamming_model.specs.declared.limits.TheConstants.{WORDS_MOST};
 ghost use Rattle.gph_codes.specs.Allowed.{IsAllowed};
-ghost use Rattle.line_forms.specs.Forms.{key_form, radius_of, nearest_of, count_of, code_form, shard_form, is_letter_or_digit, is_tag};
+ghost use Rattle.line_forms.specs.Forms.{key_form, radius_of, count_of, code_form, shard_form, is_letter_or_digit, is_tag};
 ghost use Rattle.line_forms.specs.declared.tag.TheConstants.{TAG_MOST};
 
 use crate::decimals::number_of;
 use crate::tag::TAG_MOST;
 use gph_codes::Code;
-use hamming_model::ENTRIES_MOST;
 
 /// A key.
 pub fn key_of(word: &[u8]) -> Option<u64>
@@ -26,16 +25,6 @@ pub fn radius_of(bits: u32, word: &[u8]) -> Option<u32>
     ensures within { IfSome result (λ radius. radius ≤ bits) }
 {
     match number_of(3, 0, u64::from(bits), word) {
-        None => None,
-        Some(value) => Some(value as u32),
-    }
-}
-
-/// How many of the nearest rows are asked: at least one, and at most as many as there may be.
-pub fn nearest_of(word: &[u8]) -> Option<u32>
-    ensures { result ≡ nearest_of word.now }
-{
-    match number_of(7, 1, ENTRIES_MOST, word) {
         None => None,
         Some(value) => Some(value as u32),
     }

@@ -9,7 +9,7 @@ mod tag;
 mod words;
 
 pub use decimals::{is_decimal, number_of, value_of};
-pub use forms::{code_of, count_of, key_of, nearest_of, radius_of, shard_of};
+pub use forms::{code_of, count_of, key_of, radius_of, shard_of};
 pub use laws::words_of_joined;
 pub use tag::{TAG_MOST, Tag};
 pub use words::{is_printable, next_word};

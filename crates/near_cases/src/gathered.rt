@@ -119,7 +119,10 @@ fn compare<R: Abort + Env + Threads + Sync, D: Desk<1>>(
     }
     let is_done = !gather.more(rt, &NoGate, budget, &mut meters);
     let is_first = out.len() == count && want.starts_with(out.as_slice());
-    assert!(rt; is_first && is_done, "number {number} room {room} budget {budget}");
+    assert!(rt;
+        is_first && is_done,
+        "number {number} room {room} budget {budget}"
+    );
     Ok(())
 }
 
@@ -147,17 +150,54 @@ fn the_nearest_are_the_first_of_the_scan_where_all_are_on_one_shard(
     compare(&rt, alloc, &mut desk, Wanted::Nearest, 1, 1, 1, hits, 1)?;
     compare(&rt, alloc, &mut desk, Wanted::Nearest, 3, 1, 9999, hits, 3)?;
     compare(&rt, alloc, &mut desk, Wanted::Nearest, 4, 256, 1, hits, 4)?;
-    compare(&rt, alloc, &mut desk, Wanted::Nearest, 8, 256, 9999, hits, 8)?;
+    compare(
+        &rt,
+        alloc,
+        &mut desk,
+        Wanted::Nearest,
+        8,
+        256,
+        9999,
+        hits,
+        8,
+    )?;
     compare(&rt, alloc, &mut desk, Wanted::Nearest, 8, 1, 1, hits, 8)?;
     compare(&rt, alloc, &mut desk, Wanted::Nearest, 9, 2, 3, hits, 8)?;
-    compare(&rt, alloc, &mut desk, Wanted::Nearest, u64::MAX, 256, 1, hits, 8)?;
+    compare(
+        &rt,
+        alloc,
+        &mut desk,
+        Wanted::Nearest,
+        u64::MAX,
+        256,
+        1,
+        hits,
+        8,
+    )?;
     compare(&rt, alloc, &mut desk, Wanted::Within(1), 0, 1, 1, hits, 4)?;
-    compare(&rt, alloc, &mut desk, Wanted::Within(7), 0, 256, 9999, hits, 6)?;
+    compare(
+        &rt,
+        alloc,
+        &mut desk,
+        Wanted::Within(7),
+        0,
+        256,
+        9999,
+        hits,
+        6,
+    )?;
     Ok(())
 }
 
 // A tie over all three shards.
-static TIED: [(u64, u8); 6] = [(8, 0x34), (1, 0x34), (5, 0x34), (0, 0x34), (4, 0x34), (3, 0x34)];
+static TIED: [(u64, u8); 6] = [
+    (8, 0x34),
+    (1, 0x34),
+    (5, 0x34),
+    (0, 0x34),
+    (4, 0x34),
+    (3, 0x34),
+];
 
 #[test]
 fn a_tie_across_shards_goes_by_key_and_no_rows_give_none(rt: HostRuntime) -> Result<(), Fail> {
@@ -168,7 +208,17 @@ fn a_tie_across_shards_goes_by_key_and_no_rows_give_none(rt: HostRuntime) -> Res
     let hits = want.as_slice();
     add_all(&rt, &mut desk, &TIED);
     compare(&rt, alloc, &mut desk, Wanted::Nearest, 2, 1, 1, hits, 2)?;
-    compare(&rt, alloc, &mut desk, Wanted::Nearest, 6, 256, 9999, hits, 6)?;
+    compare(
+        &rt,
+        alloc,
+        &mut desk,
+        Wanted::Nearest,
+        6,
+        256,
+        9999,
+        hits,
+        6,
+    )?;
     compare(&rt, alloc, &mut desk, Wanted::Nearest, 7, 1, 9999, hits, 6)?;
     Ok(())
 }

@@ -124,21 +124,35 @@ rows_more versions i found low is =
     (omega (arith, low, length-map versions contents_at))
     ∙ ap (λ (version : Contents). length version.rows) (get_or-map contents_at versions i found (contents_at found) low ∙ ap contents_at (sym is)))
 
+pub low_contents : (versions : List (Arc Tabled Global)) (i : ℕ) → i < length versions → i < length (contents_of_all versions)
+low_contents versions i low = omega (arith, low, length-map versions contents_at)
+
 -- ---- the whole
 
-module _ {S : Type 0} (asks : S → Asked) (stands : S → Standing) (words : ℕ) (old new : DeskState) (versions : List Contents) (position : ℕ)
-    (pins : PinsAll old new position versions) (wanted : Wanted) (stored : List ℕ) (room : ℕ) where
+module _ (words : ℕ) (old new : DeskState) (items : List (Arc Tabled Global)) (position : ℕ) (pins : PinsAll old new position (contents_of_all items))
+    (wanted : Wanted) (stored : List ℕ) where
   -- each version may be asked what the desk may be asked
-  pub each_asked : StandsFor words old.config.bits stored (take old.config.bits stored) → wanted_radius wanted ≤ old.config.bits
-      → (i : ℕ) (version : Contents) → i < length versions → MayBeAsked words stored wanted (get_or versions i version)
+  each_asked : StandsFor words old.config.bits stored (take old.config.bits stored) → wanted_radius wanted ≤ old.config.bits
+      → (i : ℕ) (version : Contents) → i < length items → MayBeAsked words stored wanted (get_or (contents_of_all items) i version)
   each_asked code near i version low =
-      let is = pins.each i version (omega (arith, low, pins.number)) in
-      let bits : old.config.bits ≡ (get_or versions i version).layout.bits = sym (is.version_is.bits_are ∙ ap (λ config. config.bits) pins.comes.config) in
+      let is = pins.each i version (omega (arith, low_contents items i low, pins.number)) in
+      let bits : old.config.bits ≡ (get_or (contents_of_all items) i version).layout.bits =
+      sym (is.version_is.bits_are ∙ ap (λ config. config.bits) pins.comes.config) in
       record {
         code = subst (λ (n : ℕ). StandsFor words n stored (take n stored)) bits code;
         near = omega (arith, near, bits);
       }
 
+  -- so may each of those that were lent by another name
+  pub lent_asked : (lent : List (Arc Tabled Global)) → lent ≡ items → StandsFor words old.config.bits stored (take old.config.bits stored)
+      → wanted_radius wanted ≤ old.config.bits
+      → (i : ℕ) (version : Contents) → i < length lent → MayBeAsked words stored wanted (get_or (contents_of_all lent) i version)
+  lent_asked lent same code near =
+      subst (λ (list : List (Arc Tabled Global)). (i : ℕ) (version : Contents) → i < length list
+      → MayBeAsked words stored wanted (get_or (contents_of_all list) i version)) (sym same) (each_asked code near)
+
+module _ {S : Type 0} (asks : S → Asked) (stands : S → Standing) (words : ℕ) (old new : DeskState) (versions : List Contents) (position : ℕ)
+    (pins : PinsAll old new position versions) (wanted : Wanted) (stored : List ℕ) (room : ℕ) where
   numbers_are : 0 < old.config.shards → AreShardNumbers old.config.shards (rows_of (take position (seen_history new))) (row_numbers versions)
   numbers_are some = record {
     some = some;
@@ -200,6 +214,3 @@ pub shared_found : (versions : List (Arc Tabled Global)) (i : ℕ) (found copy :
     → arc_value copy ≡ arc_value found → contents_at copy ≡ get_or (contents_of_all versions) i (contents_at copy)
 shared_found versions i found copy low is same =
     ap (λ (version : Tabled). version.contents) same ∙ ap contents_at is ∙ sym (get_or-map contents_at versions i found (contents_at copy) low)
-
-pub low_contents : (versions : List (Arc Tabled Global)) (i : ℕ) → i < length versions → i < length (contents_of_all versions)
-low_contents versions i low = omega (arith, low, length-map versions contents_at)

@@ -1,7 +1,8 @@
 -- What the words after a request word ask, or their first fault. Codes have just their own bits.
 use Rattle.std.specs.Prelude.{ℕ, nat_lt, if◌then◌else◌, List, [], ◌∷◌}
 use Rattle.std.specs.Prelude.{Option, Some, None, Result, Ok, Err, ok_or}
-use Rattle.line_forms.specs.Forms.{key_form, radius_of, nearest_of, count_of, code_form}
+use Rattle.hamming_model.specs.declared.limits.TheConstants.{ENTRIES_MOST}
+use Rattle.line_forms.specs.Forms.{key_form, radius_of, count_of, code_form, number_of}
 use Rattle.line_forms.specs.Forms.{shard_form, tag_of}
 use Rattle.query_protocol.specs.declared.bad.Bad.{Bad}
 
@@ -30,6 +31,10 @@ bad number = record { number = number; word = 0 }
 -- the word that is the first not of its form
 abbrev pub bad_word : ℕ → Bad
 bad_word place = record { number = 5; word = place }
+
+-- how many of the nearest rows are asked: at most as many as there may be
+abbrev pub nearest_of : List ℕ → Option ℕ
+nearest_of word = number_of 7 1 ENTRIES_MOST word
 
 -- a key and a code, each where its word has the form
 abbrev pub add_of : Option ℕ → Option (List ℕ) → LineReading

@@ -6,12 +6,13 @@ ghost use Rattle.hamming_model.specs.declared.limits.TheConstants.{WORDS_MOST};
 ghost use Rattle.byte_lines.specs.declared.cutter.TheConstants.{LINE_MOST};
 ghost use Rattle.line_forms.specs.Words.{words};
 ghost use Rattle.query_protocol.specs.Lines.{reading, of_words, request_word, with_words};
-ghost use Rattle.query_protocol.specs.Requests.{add_asked, range_asked, near_asked, next_asked, plan_asked, layout_asked, quit_asked, key_alone, tag_alone, opening_words};
+ghost use Rattle.query_protocol.specs.Requests.{add_asked, range_asked, near_asked, next_asked, plan_asked, layout_asked, quit_asked, key_alone, tag_alone, opening_words, nearest_of};
 ghost use Rattle.query_protocol.specs.Stored.{ReadsAs, NamesShard};
 
 use crate::{Bad, Request, RequestWord};
+use hamming_model::ENTRIES_MOST;
 use line_forms::{
-    Tag, code_of, count_of, is_printable, key_of, nearest_of, next_word, radius_of, shard_of,
+    Tag, code_of, count_of, is_printable, key_of, next_word, number_of, radius_of, shard_of,
 };
 use part_layout::Config;
 
@@ -176,6 +177,16 @@ fn read_near<const W: usize>(bits: u32, after: &[u8]) -> Result<Option<Request<W
         return Err(Bad::of_word(4));
     };
     Ok(Some(Request::Near { tag, k, code }))
+}
+
+// How many of the nearest rows are asked.
+fn nearest_of(word: &[u8]) -> Option<u32>
+    ensures { result ≡ nearest_of word.now }
+{
+    match number_of(7, 1, ENTRIES_MOST, word) {
+        None => None,
+        Some(value) => Some(value as u32),
+    }
 }
 
 // The three words of a request that opens a query.

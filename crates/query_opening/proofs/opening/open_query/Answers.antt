@@ -1,13 +1,20 @@
 -- The sources on the versions of all shards, of either kind.
-use Rattle.std.proofs.Common.{◌≡◌, ap, sum, List, subst, arith}
+use Rattle.std.proofs.Common.{◌≡◌, ap, sum, List, subst, arith, rules}
 use Rattle.std.specs.declared.alloc.Global.{Global}
 use Rattle.std.specs.declared.sync.Arc.{Arc}
 use Rattle.shard_version.specs.Tables.{Tabled}
 use Rattle.query_opening.specs.Pinning.{contents_of_all}
 use Rattle.query_opening.specs.Sources.{source_asked, source_standing}
 use Rattle.query_opening.proofs.OpenLemmas.{all_fresh, gathers_one_kind, gathers_one_length}
-use Rattle.query_opening.proofs.OpenLemmas.{opens_all, row_numbers, sources_of}
+use Rattle.query_opening.proofs.OpenLemmas.{lent_asked, opens_all, row_numbers, sources_of}
 use Rattle.query_opening.proofs.opening.open_query.Goals as goal
+
+pub open_each-requires : goal.open_each-requires
+open_each-requires g c =
+    let each = lent_asked g.row.W (g.D.Desk.desk c.args.desk.now) (g.D.Desk.desk c.pin_all.new.desk) c.in_ok-pinned.pinned.versions.items
+    c.in_ok-pinned.pinned.position c.in_ok-pinned.ensures.pinned c.args.wanted c.args.query c.deref-2.result.now
+    c.deref-2.ensures.value c.requires.code c.requires.near in
+    (omega arith, (search rules, (search rules, (search rules, (search rules, (each, (c.requires.some_room, c.requires.small_room)))))))
 
 pub returns-clause-opened : goal.returns-clause-opened
 returns-clause-opened g c =
