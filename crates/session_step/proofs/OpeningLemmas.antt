@@ -18,13 +18,15 @@ use Rattle.session_model.specs.Upkeep.{entries_beyond}
 use Rattle.scatter_gather.specs.Gathering.{Gathered, gathered}
 use Rattle.scatter_gather.specs.Kept.{AreOneLength}
 use Rattle.query_opening.specs.Pinning.{ComesOn, behind}
-use Rattle.query_opening.specs.Opening.{AsksWanted, OpensSources, is_nearest, wanted_radius}
+use Rattle.query_opening.specs.Opening.{AsksWanted, OpensSources, is_nearest}
 use Rattle.query_opening.specs.declared.wanted.Wanted.{Wanted}
 use Rattle.query_opening.specs.declared.wanted.Wanted.TheVariants.{Within, Nearest}
 use Rattle.hamming_model.specs.Shards.{AreShardNumbers}
 use Rattle.hamming_model.proofs.ShardLemmas.{numbers_add_up}
 use Rattle.open_queries.specs.Kept.{AreOfOneKind}
-use Rattle.session_step.specs.Questions.{code_in, limit_in, radius_in, wanted_in}
+use Rattle.session_step.specs.Questions.{ask_of, code_in, limit_in, wanted_in}
+use Rattle.session_step.specs.declared.question.Question.{Question}
+use Rattle.session_step.specs.declared.question.Question.TheVariants as question
 use Rattle.session_step.specs.KeptDesk.{KeepsDesk, layouts_of, pins_of}
 use Rattle.session_step.specs.Opening.{OpensAll, OpensNone, OpensGathered}
 use Rattle.session_step.specs.Cursors.{Source, asks, stands}
@@ -177,10 +179,10 @@ module _ (words : ℕ) (old new : DeskState) (is_old : IsDesk words old) (is_new
 
 -- ---- a gathering of what was opened
 
--- the radius that is wanted is within that of all hits
-pub wanted_low : (bits : ℕ) (asked : Ask) → radius_in bits asked ≤ bits → wanted_radius (wanted_in asked) ≤ bits
-wanted_low bits (Range tau code) low = low
-wanted_low bits (Near number code) low = omega arith
+-- the code of a question is the one that it was made with
+pub code_of_ask : (asked : Question) (code : List ℕ) → code_in (ask_of asked code) ≡ code
+code_of_ask (question.Range tau) code = refl
+code_of_ask (question.Near number) code = refl
 
 -- each is near
 all_near : (asked : List Asked) → AllByRecursion (λ (a : Asked). a.near ≡ true) asked

@@ -14,7 +14,7 @@ ghost use Rattle.session_step.specs.Moments.{moment_of};
 use crate::asking::{cancel, cost, layout, next, plan};
 use crate::commits::{add, delete, get};
 use crate::open_session::Session;
-use crate::opening::open;
+use crate::opening::begin_query;
 use crate::question::Question;
 use crate::turn::Turn;
 use byte_lines::{Cut, Cutter};
@@ -122,11 +122,11 @@ fn meet<const W: usize, D: Desk<W>, K: Sink, R: Threads + Sync, G: Gate, L: Send
         Request::Get { key } => get(config, session, desk, key, sink),
         Request::Range { tag, tau, code } => {
             let question = Question::Range(tau);
-            open(alloc, config, session, desk, tag, question, code, sink, upkeep)
+            begin_query(alloc, config, session, desk, tag, question, code, sink, upkeep)
         }
         Request::Near { tag, k, code } => {
             let question = Question::Near(k);
-            open(alloc, config, session, desk, tag, question, code, sink, upkeep)
+            begin_query(alloc, config, session, desk, tag, question, code, sink, upkeep)
         }
         Request::Next { tag, n } => next(rt, config, session, &tag, n, sink, gate, meters),
         Request::Cost { tag } => cost(config, session, &tag, sink),

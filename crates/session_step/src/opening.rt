@@ -25,7 +25,7 @@ use session_desk::Desk;
 use std::alloc::Global;
 
 /// Opens a query on a source for each shard, and answers the position on which it stands.
-pub(crate) fn open<const W: usize, D: Desk<W>, K: Sink, M>(
+pub(crate) fn begin_query<const W: usize, D: Desk<W>, K: Sink, M>(
     alloc: Global,
     config: &Config,
     session: &mut Session<W>,

@@ -1,14 +1,12 @@
 -- The call is a step of a session that is alone.
-use Rattle.std.proofs.Common.{◌≡◌, refl, sym, ap, ◌∙◌, subst, arith, rules, Some, Ok, take}
+use Rattle.std.proofs.Common.{take, []}
 use Rattle.query_protocol.specs.Replies.{line_of, reply_line}
-use Rattle.open_queries.specs.Writing.{Writes}
 use Rattle.session_step.specs.Moments.{moment_of}
 use Rattle.session_step.proofs.Here.{here_of}
-use Rattle.std.proofs.Common.{[]}
 use Rattle.session_step.proofs.OpenedLemmas.{open_step}
 use Rattle.session_step.specs.Questions.{ask_of}
 use Rattle.session_step.proofs.FrameLemmas.{here_opens, opened_shards}
-use Rattle.session_step.proofs.opening.open.Goals as goal
+use Rattle.session_step.proofs.opening.begin_query.Goals as goal
 
 pub returns-clause-answers : goal.returns-clause-answers
 returns-clause-answers g c = λ reads line asked history s stands.
