@@ -1,35 +1,33 @@
 -- Lemmas on `cost`, `plan` and `cancel`: what each tells is a step of a session that is alone.
-use Rattle.std.proofs.Common.{◌≡◌, ℕ, ◌+◌, ◌≤◌, ◌<◌, min, Bool, true, false, cond, List, [], ◌∷◌, ◌++◌, take, map}
-use Rattle.std.proofs.Common.{Option, Some, None, Result, Ok, refl, sym, ap, ◌∙◌, subst, arith, inl, inr}
-use Rattle.std.proofs.Common.{slice_index_or, length}
-use Rattle.std.specs.List.{AllByRecursion, sum_by}
+use Rattle.std.proofs.Common.{◌≡◌, ℕ, ◌<◌, min, cond, List, [], ◌∷◌, ◌++◌, take, map}
+use Rattle.std.proofs.Common.{Option, Some, Result, Ok, refl, sym, ap, ◌∙◌, subst, arith, inl, inr}
+use Rattle.std.specs.List.{sum_by}
 use Rattle.std.proofs.lemmas.List.Sums.{sum-map}
-use Rattle.hamming_model.specs.declared.limits.TheConstants.{PARTS_MOST, SHARDS_MOST, ENTRIES_MOST}
+use Rattle.hamming_model.specs.declared.limits.TheConstants.{PARTS_MOST}
 use Rattle.hamming_model.specs.History.{JournalEntry}
 use Rattle.line_io.specs.declared.source.Failed.{Failed}
-use Rattle.part_layout.specs.declared.config.Config.{Config}
 use Rattle.part_layout.specs.Ranges.{IsConfig}
 use Rattle.query_protocol.specs.Requests.{LineRequest, Cost, Plan, Cancel}
 use Rattle.query_protocol.specs.Replies.{text, reply_line}
 use Rattle.query_protocol.specs.Replies.{LineReply}
 use Rattle.query_protocol.specs.Replies as reply
-use Rattle.session_model.specs.State.{Query, State, query_of, open_queries, replaced}
+use Rattle.session_model.specs.State.{State, query_of, open_queries, replaced}
 use Rattle.session_model.specs.Upkeep.{vain_steps}
-use Rattle.session_model.specs.Ledger.{sum_of, last_given, IsPlanOfQuery, IsBound}
+use Rattle.session_model.specs.Ledger.{sum_of, last_given, IsPlanOfQuery}
 use Rattle.session_model.specs.QuerySteps.{IfOpen, Costs, TellsPlan, Cancels, closed_query, end_reply}
 use Rattle.session_model.specs.Step.{Answers}
 use Rattle.session_model.specs.Run.{accepted}
-use Rattle.open_queries.specs.Queries.{IsFree, Changes, Removes, IsSame, last_in}
+use Rattle.open_queries.specs.Queries.{Changes, Removes, IsSame, last_in}
 use Rattle.open_queries.specs.Answers.{CostsAs, IsCost, IsPlan, TellsOfQuery, CancelsAs, reply_to_cancel}
 use Rattle.open_queries.specs.Writing.{Writes}
-use Rattle.session_step.specs.Cursors.{Source, Cursor, asks, stands, reads_in}
+use Rattle.session_step.specs.Cursors.{Source, Cursor, asks, stands}
 use Rattle.session_step.specs.Moments.{Moment, ReadsTo, Spends}
-use Rattle.session_step.specs.Meaning.{AllKeep, IsSettled, Keeps, Means}
+use Rattle.session_step.specs.Meaning.{AllKeep, IsSettled, Means}
 use Rattle.session_step.specs.KeptDesk.{KeepsDesk}
-use Rattle.session_step.proofs.MomentLemmas.{spends_still, reads_still}
+use Rattle.session_step.proofs.MomentLemmas.{spends_still}
 use Rattle.session_step.proofs.QueryLemmas.{IsFound, found_changed, found_removed, found_holds, of_open}
 use Rattle.session_step.proofs.QueryLemmas.{replaced_same, replaced_closed, keeps_same, keeps_later, all_replaced}
-use Rattle.session_step.proofs.QueryLemmas.{read_replaced, without}
+use Rattle.session_step.proofs.QueryLemmas.{read_replaced}
 use Rattle.session_step.proofs.BoundLemmas.{last_is, given_near, is_bound, all_bounds_are, plan_at, reads_few, sum_is_of}
 use Rattle.session_step.proofs.NextLemmas.{unknown_step}
 use Rattle.session_step.proofs.Here.{Here, StepTo, asked_here, exchange_here, quiet, quiet_by}

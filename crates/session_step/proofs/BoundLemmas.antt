@@ -1,16 +1,16 @@
 -- Lemmas on what a cursor may read and gives: within the bounds of the query that it stands for, and in
 -- the order of all its shards.
 use Rattle.std.proofs.Common.{◌≡◌, ℕ, zero, suc, ◌+◌, ◌*◌, ◌≤◌, ◌<◌, min, List, [], ◌∷◌, ◌++◌, length, map, take}
-use Rattle.std.proofs.Common.{sum, slice_index, slice_index_or, Option, Some, None, IfSome}
+use Rattle.std.proofs.Common.{sum, slice_index, slice_index_or, Option, IfSome}
 use Rattle.std.proofs.Common.{refl, sym, ap, ◌∙◌, subst, arith, length-append}
 use Rattle.std.specs.List.{AllByRecursion, flat_map, sum_by}
 use Rattle.std.proofs.lemmas.List.{take-append-le, length-map, get_or-map}
 use Rattle.std.proofs.lemmas.List.Sums.{sum-map, sum_by-cons}
-use Rattle.hamming_model.specs.declared.limits.TheConstants.{ENTRIES_MOST, PARTS_MOST, SHARDS_MOST}
+use Rattle.hamming_model.specs.declared.limits.TheConstants.{ENTRIES_MOST, PARTS_MOST}
 use Rattle.hamming_model.specs.declared.hit.Hit.{Hit}
 use Rattle.hamming_model.specs.History.{JournalEntry, rows_of, shard_rows}
 use Rattle.hamming_model.specs.Layouts.{IsLayout}
-use Rattle.hamming_model.specs.Scan.{Ask, answer, scan, in_order}
+use Rattle.hamming_model.specs.Scan.{answer, scan, in_order}
 use Rattle.hamming_model.specs.Shards.{AreShardScans, AreShardNumbers}
 use Rattle.hamming_model.proofs.ShardLemmas.{merged_is_scan, numbers_add_up}
 use Rattle.hit_source.specs.Sources.{Asked}
@@ -18,13 +18,13 @@ use Rattle.threshold_model.specs.Bounds.{IsBoundOf, last_distance}
 use Rattle.part_layout.specs.declared.config.Config.{Config}
 use Rattle.part_layout.specs.Ranges.{IsConfig}
 use Rattle.scatter_gather.specs.Gathering.{merged}
-use Rattle.open_queries.specs.Queries.{asked_in, answer_in, last_in}
+use Rattle.open_queries.specs.Queries.{answer_in, last_in}
 use Rattle.session_model.specs.State.{Query}
 use Rattle.session_model.specs.Step.{AreLayouts}
-use Rattle.session_model.specs.Ledger.{IsBoundAt, IsBound, IsPlanOfQuery, IsWithinBound, IsBounded, layout_at}
+use Rattle.session_model.specs.Ledger.{IsBoundAt, IsBound, IsPlanOfQuery, layout_at}
 use Rattle.session_model.specs.Ledger.{answer_to, last_given, rows_at, sum_of}
 use Rattle.session_step.specs.Questions.{code_in, radius_in, limit_in}
-use Rattle.session_step.specs.Cursors.{Source, Cursor, asks, stands, reads_in}
+use Rattle.session_step.specs.Cursors.{Source, Cursor, asks}
 use Rattle.session_step.specs.Meaning.{Keeps, IsSettled}
 use Rattle.session_step.proofs.QuestionLemmas.{asked_plan, bound_few, bound_most, cut_answer, last_near, last_near_all}
 
@@ -135,8 +135,12 @@ module _ {W : ℕ} (config : Config) (history : List JournalEntry) (cursor : Cur
       let all = numbers_add_up config.shards rows numbers are_numbers in
       let few = sum_few numbers ENTRIES_MOST (λ shard lt.
       let within : shard < config.shards = subst (λ n. shard < n) (size_of_map (λ source. (asks {W = W} source).rows)) lt in
-      omega (arith, at_place (λ source. (asks {W = W} source).rows) shard first within,
-      (keeps.each_asks shard first within).rows_are, rows_at_few shard first within)) in
+      omega (
+        arith,
+        at_place (λ source. (asks {W = W} source).rows) shard first within,
+        (keeps.each_asks shard first within).rows_are,
+        rows_at_few shard first within,
+      )) in
       let size = size_of_map (λ source. (asks {W = W} source).rows) in
       let same : sum_of numbers ≡ length rows = sym (sum_is_of numbers) ∙ all in
       let most : sum_of numbers ≤ config.shards * ENTRIES_MOST =
@@ -188,8 +192,11 @@ module _ {W : ℕ} (config : Config) (history : List JournalEntry) (cursor : Cur
       let f = λ (source : Source W). (asks {W = W} source).bound last in
       let few = sum_few (bounds last) bound_most (λ shard lt.
       let within : shard < config.shards = subst (λ n. shard < n) (size_of_map f) lt in
-      omega (arith, at_place f shard first within,
-      few_at last near shard (f (slice_index_or sources shard first)) within (bound_at last near shard first within))) in
+      omega (
+        arith,
+        at_place f shard first within,
+        few_at last near shard (f (slice_index_or sources shard first)) within (bound_at last near shard first within),
+      )) in
       subst (λ n. sum_of (bounds last) ≤ n * bound_most) (size_of_map f) few
 
   pub all_bounds_are : (last : Option ℕ) → IsNear last

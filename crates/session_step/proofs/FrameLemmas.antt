@@ -1,5 +1,5 @@
 -- Lemmas on what stays: a source behind each cursor for each shard, and what the desk is.
-use Rattle.std.proofs.Common.{◌≡◌, ◌<◌, ℕ, true, List, [], ◌∷◌, ◌++◌, length, map, refl, sym, ap, ◌∙◌, subst, inl, inr}
+use Rattle.std.proofs.Common.{◌≡◌, ◌<◌, ℕ, true, List, [], ◌∷◌, ◌++◌, length, map, sym, ap, ◌∙◌, subst, inl, inr}
 use Rattle.std.specs.List.{AllByRecursion}
 use Rattle.std.specs.declared.option.Option.{Option}
 use Rattle.std.specs.Prelude.{Result}
@@ -10,7 +10,7 @@ use Rattle.part_layout.specs.declared.config.Config.{Config}
 use Rattle.query_protocol.specs.Replies.{LineReply}
 use Rattle.session_desk.specs.Desks.{DeskState}
 use Rattle.session_desk.specs.Calls.{OnlyLearns, TellsLayout}
-use Rattle.open_queries.specs.Queries.{Changes, Removes, HaveShard, opened_query}
+use Rattle.open_queries.specs.Queries.{Changes, HaveShard, opened_query}
 use Rattle.open_queries.specs.Answers.{GivesAs, TellsOfQuery, CancelsAs}
 use Rattle.session_step.specs.Cursors.{Cursor, asks, stands}
 use Rattle.session_step.specs.Moments.{Moment}

@@ -1,19 +1,16 @@
 -- Lemmas on `next`: what it gives is a step of a session that is alone.
-use Rattle.std.proofs.Common.{◌≡◌, ℕ, ◌+◌, ◌≤◌, ◌<◌, min, nat_lt, nat_le, Bool, true, false, cond}
+use Rattle.std.proofs.Common.{◌≡◌, ℕ, ◌+◌, ◌≤◌, ◌<◌, min, nat_lt, Bool, true, false, cond}
 use Rattle.std.proofs.Common.{List, [], ◌∷◌, ◌++◌, length, map, take, slice_index, slice_index_or}
-use Rattle.std.proofs.Common.{Option, Some, None, Result, Ok, Err, OnOk, inl, inr}
-use Rattle.std.proofs.Common.{refl, sym, ap, ◌∙◌, subst, arith, length-append}
-use Rattle.std.specs.List.{AllByRecursion}
+use Rattle.std.proofs.Common.{Option, Some, None, Result, Ok, inl, inr}
+use Rattle.std.proofs.Common.{refl, sym, ap, ◌∙◌, subst, arith}
 use Rattle.std.proofs.Math.ListN.{get_or-eq_default}
 use Rattle.std.proofs.lemmas.Bool.{ltb-true, ltb-false}
 use Rattle.std.proofs.lemmas.List.{take-append-le, length-map, get_or-map}
 use Rattle.line_io.specs.declared.source.Failed.{Failed}
-use Rattle.hamming_model.specs.declared.limits.TheConstants.{SHARDS_MOST}
 use Rattle.hamming_model.specs.declared.hit.Hit.{Hit}
 use Rattle.hamming_model.specs.History.{JournalEntry, rows_of}
 use Rattle.hamming_model.specs.Scan.{answer}
 use Rattle.threshold_model.specs.Bounds.{last_distance}
-use Rattle.part_layout.specs.declared.config.Config.{Config}
 use Rattle.part_layout.specs.Ranges.{IsConfig}
 use Rattle.hit_source.specs.Sources.{Asked}
 use Rattle.scatter_gather.specs.Gathering.{merged}
@@ -23,7 +20,7 @@ use Rattle.query_protocol.specs.Replies as reply
 use Rattle.session_model.specs.State.{Query, State, query_of, replaced, open_queries}
 use Rattle.session_model.specs.Entries.{Exchange}
 use Rattle.session_model.specs.Upkeep.{vain_steps}
-use Rattle.session_model.specs.Ledger.{ledgers, column, readings_of, answer_to, IsBounded, rows_at, layout_at}
+use Rattle.session_model.specs.Ledger.{ledgers, answer_to, IsBounded, rows_at, layout_at}
 use Rattle.session_model.specs.QuerySteps.{ReadsOn, Gives, IfOpen, given_more, next_replies}
 use Rattle.session_model.specs.Step.{Answers}
 use Rattle.session_model.specs.Run.{accepted}
@@ -36,7 +33,7 @@ use Rattle.session_step.specs.Meaning.{AllKeep, AsksOn, IsSettled, Keeps, Means}
 use Rattle.session_step.specs.KeptDesk.{KeepsDesk}
 use Rattle.session_step.proofs.MomentLemmas.{spends_still}
 use Rattle.session_step.proofs.QueryLemmas.{IsFound, found_changed, found_holds, not_open, of_open, replaced_open}
-use Rattle.session_step.proofs.QueryLemmas.{all_replaced, read_replaced, same_asks, same_number_of, keeps_later}
+use Rattle.session_step.proofs.QueryLemmas.{all_replaced, read_replaced, same_asks, same_number_of}
 use Rattle.session_step.proofs.BoundLemmas.{answer_is, answer_near, bound_at, first_of_some}
 use Rattle.session_step.proofs.Here.{Here, StepTo, asked_here, exchange_here, quiet, quiet_by}
 use Rattle.session_step.proofs.Here.{on_ok_then, means_to, writes_one}

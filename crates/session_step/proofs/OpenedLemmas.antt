@@ -1,12 +1,12 @@
 -- Lemmas on `range` and `near`: what becomes of an opening is a step of a session that is alone.
 use Rattle.std.proofs.Common.{◌≡◌, ℕ, zero, suc, ◌+◌, ◌-◌, ◌*◌, ◌≤◌, ◌<◌, nat_le, nat_lt, Bool, true, false}
 use Rattle.std.proofs.Common.{List, [], ◌∷◌, ◌++◌, length, take, map, replicate, slice_index, slice_index_or}
-use Rattle.std.proofs.Common.{Option, Some, None, IfSome, Result, Ok, refl, sym, ap, ◌∙◌, subst, arith, inl, inr}
+use Rattle.std.proofs.Common.{Option, Some, None, Result, Ok, refl, sym, ap, ◌∙◌, subst, arith, inl, inr}
 use Rattle.std.proofs.Common.{length-append}
 use Rattle.std.specs.List.{AllByRecursion}
 use Rattle.std.proofs.Math.ListN.{get_or-map, get_or-eq_default}
 use Rattle.std.proofs.Math.Nat.{add-mul}
-use Rattle.std.proofs.lemmas.List.{get_or-replicate, length-replicate, take_all}
+use Rattle.std.proofs.lemmas.List.{get_or-replicate, length-replicate}
 use Rattle.std.proofs.lemmas.Bool.{ltb-true, ltb-false}
 use Rattle.line_io.specs.declared.source.Failed.{Failed}
 use Rattle.hamming_model.specs.declared.limits.TheConstants.{ENTRIES_MOST}
@@ -17,14 +17,13 @@ use Rattle.part_layout.specs.declared.config.Config.{Config}
 use Rattle.part_layout.specs.Laid.{Laid}
 use Rattle.part_layout.specs.Ranges.{IsConfig}
 use Rattle.shard_version.specs.Contents.{Contents}
-use Rattle.scatter_gather.specs.Gathering.{Gathered}
 use Rattle.query_protocol.specs.Requests.{bad}
 use Rattle.query_protocol.specs.Replies.{text, reply_line, LineReply}
 use Rattle.query_protocol.specs.Replies as reply
-use Rattle.session_desk.specs.Desks.{DeskState, ShardPlace, place_at, no_place, seen_history}
+use Rattle.session_desk.specs.Desks.{ShardPlace, place_at, no_place, seen_history}
 use Rattle.session_model.specs.State.{Query, State, query_of, open_queries}
 use Rattle.session_model.specs.Entries.{Exchange}
-use Rattle.session_model.specs.Ledger.{column, readings_of, layout_at, rows_at, sum_of, IsBounded, answer_to}
+use Rattle.session_model.specs.Ledger.{layout_at, rows_at, answer_to}
 use Rattle.session_model.specs.QuerySteps.{OpensUnlessMany, OpensUnlessUsed, new_query, most_open}
 use Rattle.session_model.specs.Step.{Answers}
 use Rattle.session_model.specs.Upkeep.{entries_beyond, vain_steps}
@@ -34,11 +33,11 @@ use Rattle.open_queries.specs.Queries.{opened_query}
 use Rattle.open_queries.specs.Writing.{Writes}
 use Rattle.query_opening.specs.Opening.{AsksWanted}
 use Rattle.session_step.specs.Questions.{opening_request, code_in, radius_in, wanted_in, limit_in}
-use Rattle.session_step.specs.Cursors.{Source, Cursor, asks, stands, reads_in}
-use Rattle.session_step.specs.KeptDesk.{KeepsDesk, layouts_of, pins_of}
-use Rattle.session_step.specs.Moments.{Moment, ReadsTo, Spends}
+use Rattle.session_step.specs.Cursors.{Source, Cursor, asks, stands}
+use Rattle.session_step.specs.KeptDesk.{pins_of}
+use Rattle.session_step.specs.Moments.{Moment, ReadsTo}
 use Rattle.session_step.specs.Meaning.{AllKeep, AsksOn, IsSettled, Keeps, Means}
-use Rattle.session_step.specs.Opening.{OpensAs, OpensAll, OpensNone, OpensShard, IsGathered, IsJudged}
+use Rattle.session_step.specs.Opening.{OpensAs, OpensAll, IsJudged}
 use Rattle.session_step.specs.Opening.{WasUsed, WasFull, HadNone, WasOpened}
 use Rattle.session_step.proofs.MomentLemmas.{reads_still, as_long}
 use Rattle.session_step.proofs.BoundLemmas.{answer_near, bound_at, first_of_some}

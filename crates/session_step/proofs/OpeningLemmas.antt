@@ -1,7 +1,7 @@
 -- Lemmas on an opening over a desk that is alone.
-use Rattle.std.proofs.Common.{◌≡◌, ℕ, zero, suc, ◌+◌, ◌-◌, ◌*◌, ◌≤◌, ◌<◌, ◌&&◌, min, nat_le, Bool, true, false}
+use Rattle.std.proofs.Common.{◌≡◌, ℕ, zero, suc, ◌+◌, ◌-◌, ◌*◌, ◌≤◌, ◌<◌, ◌&&◌, min, nat_le, Bool, true}
 use Rattle.std.proofs.Common.{List, [], ◌∷◌, ◌++◌, sum, take}
-use Rattle.std.proofs.Common.{length, map, replicate, slice_index_or, Option, Some, None}
+use Rattle.std.proofs.Common.{length, map, replicate, slice_index_or, Option, None}
 use Rattle.std.proofs.Common.{refl, sym, ap, ◌∙◌, subst, arith, append-nil, inl, inr}
 use Rattle.std.specs.List.{AllByRecursion, list_all, sum_by}
 use Rattle.std.proofs.lemmas.Bool.{le-leb}
@@ -12,7 +12,7 @@ use Rattle.hamming_model.specs.Scan.{Ask, Range, Near}
 use Rattle.hit_source.specs.Sources.{Asked, Standing, IsFresh}
 use Rattle.part_layout.specs.declared.config.Config.{Config}
 use Rattle.shard_version.specs.Contents.{Contents}
-use Rattle.session_desk.specs.Desks.{DeskState, IsDesk, Pin, ShardPlace, no_place, pin_position, pinned_at, place_at, IsVersionOf}
+use Rattle.session_desk.specs.Desks.{DeskState, IsDesk, Pin, ShardPlace, no_place, pin_position, pinned_at, IsVersionOf}
 use Rattle.session_desk.specs.Desks.{seen_history}
 use Rattle.session_model.specs.Upkeep.{entries_beyond}
 use Rattle.scatter_gather.specs.Gathering.{Gathered, gathered}
@@ -27,7 +27,7 @@ use Rattle.open_queries.specs.Kept.{AreOfOneKind}
 use Rattle.session_step.specs.Questions.{ask_of, code_in, limit_in, wanted_in}
 use Rattle.session_step.specs.declared.question.Question.{Question}
 use Rattle.session_step.specs.declared.question.Question.TheVariants as question
-use Rattle.session_step.specs.KeptDesk.{KeepsDesk, layouts_of, pins_of}
+use Rattle.session_step.specs.KeptDesk.{KeepsDesk, pins_of}
 use Rattle.session_step.specs.Opening.{OpensAll, OpensNone, OpensGathered}
 use Rattle.session_step.specs.Cursors.{Source, asks, stands}
 use Rattle.session_step.proofs.BoundLemmas.{first_of_some}

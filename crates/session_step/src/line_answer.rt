@@ -122,11 +122,15 @@ fn meet<const W: usize, D: Desk<W>, K: Sink, R: Threads + Sync, G: Gate, L: Send
         Request::Get { key } => get(config, session, desk, key, sink),
         Request::Range { tag, tau, code } => {
             let question = Question::Range(tau);
-            begin_query(alloc, config, session, desk, tag, question, code, sink, upkeep)
+            begin_query(
+                alloc, config, session, desk, tag, question, code, sink, upkeep,
+            )
         }
         Request::Near { tag, k, code } => {
             let question = Question::Near(k);
-            begin_query(alloc, config, session, desk, tag, question, code, sink, upkeep)
+            begin_query(
+                alloc, config, session, desk, tag, question, code, sink, upkeep,
+            )
         }
         Request::Next { tag, n } => next(rt, config, session, &tag, n, sink, gate, meters),
         Request::Cost { tag } => cost(config, session, &tag, sink),

@@ -1,12 +1,11 @@
 -- The call is a step of a session that is alone.
-use Rattle.std.proofs.Common.{◌≡◌, refl, sym, ap, ◌∙◌, subst, arith, rules, Some, Ok, take}
-use Rattle.query_protocol.specs.Replies.{line_of, reply_line}
+use Rattle.std.proofs.Common.{refl, subst}
 use Rattle.open_queries.specs.Writing.{Writes}
 use Rattle.session_step.specs.Moments.{moment_of}
 use Rattle.session_step.proofs.Here.{here_of}
 use Rattle.session_step.proofs.AskLemmas.{plan_step}
 use Rattle.open_queries.specs.Answers.{IsPlan}
-use Rattle.session_step.specs.Cursors.{asks, stands}
+use Rattle.session_step.specs.Cursors.{asks}
 use Rattle.session_step.proofs.FrameLemmas.{told_shards}
 use Rattle.session_step.proofs.asking.plan.Goals as goal
 

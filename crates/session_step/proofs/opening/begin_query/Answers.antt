@@ -1,6 +1,6 @@
 -- The call is a step of a session that is alone.
 use Rattle.std.proofs.Common.{take, []}
-use Rattle.query_protocol.specs.Replies.{line_of, reply_line}
+use Rattle.query_protocol.specs.Replies.{line_of}
 use Rattle.session_step.specs.Moments.{moment_of}
 use Rattle.session_step.proofs.Here.{here_of}
 use Rattle.session_step.proofs.OpenedLemmas.{open_step}
