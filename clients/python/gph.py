@@ -33,6 +33,7 @@ import subprocess
 import sys
 import time
 from collections import deque
+from contextlib import contextmanager
 from typing import Any, Callable, Deque, Dict, Iterable, Iterator, List, NamedTuple, Optional, Sequence, Tuple, Type, Union
 
 __all__ = [
@@ -50,7 +51,7 @@ TURN, NEAREST = 65_536, 1_048_576
 # bytes that a pipe gives or takes at once
 BLOCK = 65_536
 # requests under way in a bulk call: rows in each group that is sent at once, groups, and queries
-GROUP, GROUPS, QUERIES = 256, 64, 256
+GROUP, GROUPS, QUERIES = 256, 64, 64
 
 
 class Hit(NamedTuple):
@@ -255,8 +256,9 @@ class _Channel:
         if self._status is not None:
             raise Ended(self._status)
         asked = _Asked(number)
-        self._waiting.append(asked)
-        self._unsent += lines
+        with self._whole():
+            self._waiting.append(asked)
+            self._unsent += lines
         self._turn(0)
         return asked
 
@@ -300,10 +302,20 @@ class _Channel:
         finally:
             if self._unsent:
                 self._poll.unregister(self._to)
-        if self._to in ready:
-            self._write()
-        if self._from in ready:
-            self._read()
+        with self._whole():
+            if self._to in ready:
+                self._write()
+            if self._from in ready:
+                self._read()
+
+    @contextmanager
+    def _whole(self) -> Iterator[None]:
+        """Ends the program where what is done inside is interrupted, since nobody could tell which reply is whose any more."""
+        try:
+            yield
+        except BaseException:
+            self.stop()
+            raise
 
     def _write(self) -> None:
         try:
@@ -320,13 +332,8 @@ class _Channel:
             return
         lines = (self._rest + block).split(b"\n")
         self._rest = lines.pop()
-        try:
-            for line in lines:
-                self._take(line)
-        except BaseException:
-            # interrupted between two lines: which reply is whose can't be told any more
-            self.stop()
-            raise
+        for line in lines:
+            self._take(line)
 
     def _take(self, line: bytes) -> None:
         """Takes in one line: a hit, or the last line of the reply to the first request that waits for one."""
@@ -445,7 +452,10 @@ def _launcher() -> str:
 
 
 class Index:
-    """One session of the program: rows of a key and a code, and queries over them. A context manager; `close` ends it."""
+    """One session of the program: rows of a key and a code, and queries over them. A context manager; `close` ends it.
+
+    An interrupt from the keyboard leaves it usable, or ended with `Ended`, and never with an answer that is another's.
+    """
 
     def __init__(
         self, bits: int = 64, parts: Optional[int] = None, shards: int = 4, program: Optional[str] = None, entries: int = 1_048_576
