@@ -240,12 +240,12 @@ class _Channel:
     def __init__(self, words: Sequence[str]) -> None:
         self._process = subprocess.Popen(words, stdin=subprocess.PIPE, stdout=subprocess.PIPE, bufsize=0)
         assert self._process.stdin and self._process.stdout
-        self._to = self._process.stdin.fileno()
-        self._from = self._process.stdout.fileno()
+        self._pipes = self._process.stdin, self._process.stdout
+        self._to, self._from = (pipe.fileno() for pipe in self._pipes)
         os.set_blocking(self._to, False)
         self._poll = select.poll()
         self._poll.register(self._from, select.POLLIN)
-        self._status: Optional[int] = None
+        self._is_open = True
         self._unsent = bytearray()
         self._rest = b""
         self._hits: List[Hit] = []
@@ -253,8 +253,8 @@ class _Channel:
 
     def ask(self, lines: bytes, number: int) -> _Asked:
         """Sends lines to which so many replies come, as far as the pipe takes them now. Raises `Ended`."""
-        if self._status is not None:
-            raise Ended(self._status)
+        if not self._is_open:
+            raise Ended(self._process.wait())
         asked = _Asked(number)
         with self._whole():
             self._waiting.append(asked)
@@ -265,8 +265,8 @@ class _Channel:
     def settle(self, asked: _Asked) -> List[_Reply]:
         """Waits for the replies to what was asked, and takes in all before them. Raises `Ended`."""
         while asked.left:
-            if self._status is not None:
-                raise Ended(self._status)
+            if not self._is_open:
+                raise Ended(self._process.wait())
             self._turn(None)
         return asked.replies
 
@@ -281,17 +281,15 @@ class _Channel:
 
     def stop(self) -> None:
         """Ends the program at once; what it was asked for and hasn't answered is dropped."""
-        if self._status is None:
-            self._process.terminate()
+        self._process.terminate()
         self._finish()
 
     def _finish(self) -> None:
         """Closes the pipes, and waits for the program to end."""
-        self._unsent.clear()
-        if self._status is None and self._process.stdin and self._process.stdout:
-            self._process.stdin.close()
-            self._process.stdout.close()
-            self._status = self._process.wait()
+        self._is_open = False
+        for pipe in self._pipes:
+            pipe.close()
+        self._process.wait()
 
     def _turn(self, milliseconds: Optional[int]) -> None:
         """Writes and reads what the pipes take and have, after waiting for either for so long; None is without end."""
