@@ -706,7 +706,7 @@ def _row(number: int, line: str, bits: int, named: bool) -> _Row:
         raise ValueError("it has one word, where a key and a code are wanted")
     name, code = words[0].strip(), words[1]
     if len(code) * 4 != bits or not _is_hex(code):
-        raise ValueError(f"{code!r} is no code of {bits} bits, {bits // 4} hexadecimal digits")
+        raise ValueError(f"{code!r} at its end is no code of {bits} bits, {bits // 4} hexadecimal digits")
     if named:
         return _Row(number, number, name, code)
     if not (name.isascii() and name.isdigit() and len(name) <= 20 and int(name) < 1 << 64):
