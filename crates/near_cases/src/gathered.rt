@@ -42,12 +42,12 @@ fn three_shards<R: Abort>(rt: &R, alloc: Global) -> SoloDesk<1>
     SoloDesk::new(alloc, &config).expect(rt, "memory for a desk")
 }
 
-// The code with the eight bits of a byte.
-fn spelled<R: Abort>(rt: &R, byte: u8) -> Code<1>
+// The code of 8 bits that two digits spell.
+fn spelled<R: Abort>(rt: &R, text: &[u8]) -> Code<1>
     ensures { StandsFor 1 8 result (take 8 result) }
 {
     stored_rows_search_alike();
-    let Ok(code) = Code::from_hex(8, &[digit(byte / 16), digit(byte)]) else {
+    let Ok(code) = Code::from_hex(8, text) else {
         panic!(rt; "no code");
     };
     code
@@ -59,7 +59,7 @@ fn add_all<R: Abort, D: Desk<1>>(rt: &R, desk: &mut D, rows: &[(u64, u8)])
     ensures config { (D.desk desk.new).config ≡ (D.desk desk.old).config }
 {
     for i in 0..rows.len() {
-        let code = spelled(rt, rows[i].1);
+        let code = spelled(rt, &[digit(rows[i].1 / 16), digit(rows[i].1)]);
         let added = Op::Add {
             key: rows[i].0,
             code,
@@ -107,7 +107,7 @@ fn compare<R: Abort + Env + Threads + Sync, D: Desk<1>>(
 {
     let mut steps: Steps<Upkeep> = upkeep(rt);
     let mut meters: Meters<Reads> = Meters::new(rt, alloc)?;
-    let query = spelled(rt, 0x35);
+    let query = spelled(rt, b"35");
     let opened = open_query(alloc, desk, wanted, query, room, &mut steps)?;
     let limit = limit_of(wanted, number, opened.rows);
     let mut gather = Gather::new(alloc, opened.sources, limit)?;

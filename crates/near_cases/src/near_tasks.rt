@@ -134,7 +134,7 @@ fn the_worked_rows_bound_a_near_query(rt: HostRuntime) -> Result<(), Fail> {
     let alloc = rt.alloc();
     let version = version_of(&rt, alloc, 2, &[(1, 0x00), (2, 0x0f), (3, 0xff), (4, 0x01)])?;
     let mut task = open(&rt, alloc, &version, 0, 1)?;
-    let is_first = task.plan(None) == 1 && task.thresholds() == &[-1, 0];
+    let is_first = task.plan(None) == 1 && task.thresholds() == [-1, 0].as_slice();
     let is_fifth = task.plan(Some(4)) == 4;
     let sums = [
         task.bound(None),
