@@ -12,7 +12,8 @@ use Rattle.gph_serve.specs.declared.outcome.Outcome.TheVariants.{Done, Usage, No
 use Rattle.gph_serve.specs.declared.outcome.Outcome.TheVariants.{ReadFault, WriteFault, InputLimit}
 use Rattle.session_model.specs.Ledger.{Rise}
 use Rattle.session_model.specs.Run.{IsRunAlone, has_quit}
-use Rattle.session_model.specs.Outcomes.{Call, EndsWith, Untouched, IsWithin, IsInputLimit}
+use Rattle.session_model.specs.Outside.{Call, Untouched}
+use Rattle.session_model.specs.Outcomes.{EndsWith, IsWithin, IsInputLimit}
 use Rattle.gph_serve.specs.TopCall.{IsDoneOrNoMemory, IsUnread}
 use Rattle.gph_serve.specs.TopCall.{ForConfig, IsComplete}
 use Rattle.gph_serve.specs.TopCall.{ServedAs}

@@ -9,7 +9,8 @@ use Rattle.session_model.specs.State.{new_session}
 use Rattle.session_model.specs.Entries.{Exchange}
 use Rattle.session_model.specs.Ledger.{Rise}
 use Rattle.session_model.specs.Run.{IsRunAlone, IsServedAlone, AnswersLines, first_session}
-use Rattle.session_model.specs.Outcomes.{Call, EndsWith, IsDone, IsReadFault, IsWriteFault, IsInputLimit}
+use Rattle.session_model.specs.Outside.{Call}
+use Rattle.session_model.specs.Outcomes.{EndsWith, IsDone, IsReadFault, IsWriteFault, IsInputLimit}
 use Rattle.gph_session.specs.declared.report.Report.{Report}
 use Rattle.gph_session.specs.Sessions.{EndsBy, IsServed, state_of}
 use Rattle.session_step.specs.KeptDesk.{pins_of}

@@ -6,7 +6,8 @@ use Rattle.gph_serve.specs.declared.outcome.Outcome.{Outcome}
 use Rattle.gph_serve.specs.declared.outcome.Outcome.TheVariants.{Done, Usage, NoMemory}
 use Rattle.session_model.specs.Ledger.{Rise}
 use Rattle.session_model.specs.Run.{IsRunAlone}
-use Rattle.session_model.specs.Outcomes.{Call, EndsWith, Untouched, IsWithin}
+use Rattle.session_model.specs.Outside.{Call, Untouched}
+use Rattle.session_model.specs.Outcomes.{EndsWith, IsWithin}
 use Rattle.session_model.specs.Outcomes.{IsDone, IsReadFault, IsWriteFault, IsInputLimit}
 use Rattle.gph_serve.specs.declared.outcome.Outcome.TheVariants as outcome
 

@@ -7,8 +7,10 @@ ghost use Rattle.gph_codes.specs.Allowed.{IsAllowed};
 ghost use Rattle.part_layout.specs.Ranges.{IsConfig};
 ghost use Rattle.command_line.specs.CommandWords.{asked};
 ghost use Rattle.session_model.specs.Run.{IsRunAlone};
-ghost use Rattle.session_model.specs.Outcomes.{Untouched, IsDone, IsReadFault, IsWriteFault};
-ghost use Rattle.session_model.specs.Outcomes.{IsInputLimit, call};
+ghost use Rattle.session_model.specs.Outside.{Untouched};
+ghost use Rattle.session_model.specs.Outcomes.{IsDone, IsReadFault, IsWriteFault};
+ghost use Rattle.session_model.specs.Outside.{call};
+ghost use Rattle.session_model.specs.Outcomes.{IsInputLimit};
 ghost use Rattle.gph_serve.specs.TopCall.{ForConfig, IsComplete, IsUnread, ServedAs};
 
 use crate::outcome::Outcome;

@@ -12,7 +12,7 @@ use Rattle.session_desk.specs.Desks.{DeskState, IsDesk, ShardPlace, no_place}
 use Rattle.session_desk.specs.Desks.{seen_history}
 use Rattle.session_model.specs.Step.{AreLayouts}
 use Rattle.session_model.specs.Ledger.{Ledgers}
-use Rattle.session_model.specs.Outcomes.{Call}
+use Rattle.session_model.specs.Outside.{Call}
 use Rattle.gph_session.specs.Sessions.{state_of}
 use Rattle.session_step.specs.KeptDesk.{layouts_of}
 use Rattle.session_step.specs.Moments.{Moment}

@@ -15,7 +15,8 @@ use Rattle.session_model.specs.declared.limits.TheConstants.{BLOCK_MOST}
 use Rattle.session_model.specs.Entries.{Exchange}
 use Rattle.session_model.specs.Ledger.{Rise}
 use Rattle.session_model.specs.Run.{AnswersLines, has_quit}
-use Rattle.session_model.specs.Outcomes.{Call, Ends, EndsWith, Transfers, before_last}
+use Rattle.session_model.specs.Outside.{Call, Ends, Transfers}
+use Rattle.session_model.specs.Outcomes.{EndsWith, before_last}
 use Rattle.session_model.specs.Outcomes.{IsDone, IsReadFault, IsWriteFault, IsInputLimit}
 use Rattle.session_model.proofs.RunLemmas.{before_more, no_quit_in_front}
 use Rattle.session_step.specs.declared.turn.Turn.{Turn}

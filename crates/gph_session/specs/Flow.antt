@@ -44,8 +44,8 @@ pub record HasRun {W : ℕ} (config : Config) (start : Start) (now : Moment W)
   pub requests : now.requests ≡ min (requests_of config exchanges) 18446744073709551615
   pub position : now.position ≡ state.position
 
--- the session goes on: all whole lines of these bytes were answered by that output, the rest is kept,
--- and the ledgers rose by what was read since it began
+-- the session goes on: all whole lines of these bytes were answered by that output, the rest is
+-- kept, and the ledgers rose by what was read since it began
 pub record GoesOn {W : ℕ} (config : Config) (start : Start) (now : Moment W)
     (bytes output : List ℕ) (begun : Option (List ℕ)) : Type 0 where
   pub exchanges : List Exchange

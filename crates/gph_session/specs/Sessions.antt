@@ -7,7 +7,8 @@ use Rattle.session_model.specs.State.{State, new_session}
 use Rattle.session_model.specs.Entries.{Exchange}
 use Rattle.session_model.specs.Ledger.{Rise}
 use Rattle.session_model.specs.Run.{IsServedAlone, commits, requests_of}
-use Rattle.session_model.specs.Outcomes.{Call, EndsWith}
+use Rattle.session_model.specs.Outside.{Call}
+use Rattle.session_model.specs.Outcomes.{EndsWith}
 use Rattle.gph_session.specs.declared.report.Report.{Report}
 
 -- the state in which a session over a desk that is alone begins

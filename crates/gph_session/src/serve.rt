@@ -3,7 +3,7 @@
 ghost use Rattle.std.specs.Prelude.{◌≡◌, ◌≤◌, [], length, true};
 ghost use Rattle.std.specs.Thread.{IsSync};
 ghost use Rattle.session_model.specs.declared.limits.TheConstants.{BLOCK_MOST};
-ghost use Rattle.session_model.specs.Outcomes.{call};
+ghost use Rattle.session_model.specs.Outside.{call};
 ghost use Rattle.session_step.specs.Meaning.{IsReady, HaveShards};
 ghost use Rattle.gph_session.specs.Flow.{HasBegunWith};
 ghost use Rattle.session_step.specs.Moments.{moment_of};

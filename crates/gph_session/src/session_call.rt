@@ -2,8 +2,10 @@
 
 ghost use Rattle.std.specs.Prelude.{◌≡◌, ◌≤◌, true};
 ghost use Rattle.std.specs.Thread.{IsSync};
-ghost use Rattle.session_model.specs.Outcomes.{Untouched, IsDone, IsReadFault, IsWriteFault};
-ghost use Rattle.session_model.specs.Outcomes.{IsInputLimit, call};
+ghost use Rattle.session_model.specs.Outside.{Untouched};
+ghost use Rattle.session_model.specs.Outcomes.{IsDone, IsReadFault, IsWriteFault};
+ghost use Rattle.session_model.specs.Outside.{call};
+ghost use Rattle.session_model.specs.Outcomes.{IsInputLimit};
 ghost use Rattle.gph_session.specs.Sessions.{EndsBy};
 
 use crate::report::{Report, Status};

@@ -24,6 +24,7 @@ use Rattle.session_step.specs.declared.turn.Turn.TheVariants.{Goes, Quits}
 use Rattle.session_step.specs.Moments.{Moment, Point, ReadsTo, Spends, moment_of}
 use Rattle.session_step.specs.declared.open_session.Session.{Session}
 use Rattle.session_step.specs.Meaning.{Means, AllKeep, IsSettled}
+use Rattle.session_desk.specs.Desks.{DeskState}
 use Rattle.session_step.specs.KeptDesk.{KeepsDesk}
 
 -- one answered line more, if it is one: the count stays at the greatest number

@@ -2,7 +2,7 @@
 use Rattle.std.proofs.Common.{◌≡◌, ◌≢◌, ◌+◌, ◌++◌, ◌<◌, ◌≤◌, [], length, take, drop}
 use Rattle.std.proofs.Common.{ap, ◌∙◌, subst, arith, rules}
 use Rattle.std.specs.Io.KnownBytes.{Consumes}
-use Rattle.session_model.specs.Outcomes.{ends}
+use Rattle.session_model.specs.Outside.{ends}
 use Rattle.session_step.specs.Moments.{moment_of}
 use Rattle.gph_session.specs.Flow.{start_at}
 use Rattle.gph_session.specs.Serving.{Serves}
