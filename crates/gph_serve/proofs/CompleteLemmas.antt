@@ -21,21 +21,21 @@ use Rattle.gph_serve.specs.TopCall.{ServedAs}
 -- ---- what the words asked for
 
 -- an ending, for what the words asked for
-pub for_config : {outcome expected : Outcome} (P : Config → Call → Rise → Type 0) {asked : Result Config ℕ}
-    {config : Config} {it : Call} → outcome ≡ expected → Ok config ≡ asked
-    → ServedAs outcome config it → (ServedAs expected config it → EndsWith (P config) it) → ForConfig P asked it
-for_config {outcome} {expected} P {asked} {config} {it} is words served ends =
+pub for_config : (outcome expected : Outcome) (P : Config → Call → Rise → Type 0) (asked : Result Config ℕ)
+    (config : Config) (it : Call) → outcome ≡ expected → Ok config ≡ asked → ServedAs outcome config it
+    → (ServedAs expected config it → EndsWith (P config) it) → ForConfig P asked it
+for_config outcome expected P asked config it is words served ends =
     (config, sym words, ends (subst (λ o. ServedAs o config it) is served))
 
 -- a session that was served has read
-pub nothing_unread : (outcome : Outcome) {config : Config} {it : Call} → ServedAs outcome config it
+pub nothing_unread : (outcome : Outcome) (config : Config) (it : Call) → ServedAs outcome config it
     → IsUnread outcome → Untouched it
-nothing_unread Done served unread = absurd unread
-nothing_unread (Usage word) served unread = absurd served
-nothing_unread ReadFault served unread = absurd unread
-nothing_unread WriteFault served unread = absurd unread
-nothing_unread NoMemory served unread = served
-nothing_unread InputLimit served unread = absurd unread
+nothing_unread Done config it served unread = absurd unread
+nothing_unread (Usage word) config it served unread = absurd served
+nothing_unread ReadFault config it served unread = absurd unread
+nothing_unread WriteFault config it served unread = absurd unread
+nothing_unread NoMemory config it served unread = served
+nothing_unread InputLimit config it served unread = absurd unread
 
 -- ---- no input within the limit is turned away
 
@@ -87,9 +87,9 @@ is_complete NoMemory config input it told served within read wrote = inr refl
 is_complete InputLimit config input it told served within read wrote =
     absurd (not_within config input it served.rise told served.ended within)
 
-pub complete_as : (outcome : Outcome) {asked : Result Config ℕ} {config : Config} {it : Call}
+pub complete_as : (outcome : Outcome) (asked : Result Config ℕ) (config : Config) (it : Call)
     → Ok config ≡ asked → ServedAs outcome config it → IsComplete outcome asked it
-complete_as outcome {asked} {config} {it} is served =
+complete_as outcome asked config it is served =
     λ config' input words told within read wrote.
     let both : Ok config ≡ Ok config' = is ∙ words in
     let same : config ≡ config' = cc in

@@ -19,7 +19,7 @@ map_replicate : {A B : Type 0} (f : A → B) (n : ℕ) (x : A) → map f (replic
 map_replicate f zero x = refl
 map_replicate f (suc n) x = ap (λ l. f x ∷ l) (map_replicate f n x)
 
-module _ {config : Config} {desk desk' : DeskState} (report : Report) (new : desk ≡ new_desk config) where
+module _ (config : Config) (desk desk' : DeskState) (report : Report) (new : desk ≡ new_desk config) where
   -- a session over the desk
   abbrev Served : Config → List Exchange → Rise → Type 0
   Served = IsServed desk desk' report.requests report.position
@@ -47,8 +47,8 @@ module _ {config : Config} {desk desk' : DeskState} (report : Report) (new : des
     bytes_are = h.bytes_are;
   }
 
-  pub done_run : {it : Call} → EndsBy IsDone config report desk desk' it → EndsWith (IsDone IsRunAlone config) it
-  done_run h = record {
+  pub done_run : (it : Call) → EndsBy IsDone config report desk desk' it → EndsWith (IsDone IsRunAlone config) it
+  done_run it h = record {
     rise = h.rise;
     rises = h.rises;
     ended = record {
@@ -63,9 +63,9 @@ module _ {config : Config} {desk desk' : DeskState} (report : Report) (new : des
     };
   }
 
-  pub read_fault_run : {it : Call} → EndsBy IsReadFault config report desk desk' it
+  pub read_fault_run : (it : Call) → EndsBy IsReadFault config report desk desk' it
       → EndsWith (IsReadFault IsRunAlone config) it
-  read_fault_run h = record {
+  read_fault_run it h = record {
     rise = h.rise;
     rises = h.rises;
     ended = record {
@@ -79,9 +79,9 @@ module _ {config : Config} {desk desk' : DeskState} (report : Report) (new : des
     };
   }
 
-  pub write_fault_run : {it : Call} → EndsBy IsWriteFault config report desk desk' it
+  pub write_fault_run : (it : Call) → EndsBy IsWriteFault config report desk desk' it
       → EndsWith (IsWriteFault IsRunAlone config) it
-  write_fault_run h = record {
+  write_fault_run it h = record {
     rise = h.rise;
     rises = h.rises;
     ended = record {
@@ -106,9 +106,9 @@ module _ {config : Config} {desk desk' : DeskState} (report : Report) (new : des
     };
   }
 
-  pub input_limit_run : {it : Call} → EndsBy IsInputLimit config report desk desk' it
+  pub input_limit_run : (it : Call) → EndsBy IsInputLimit config report desk desk' it
       → EndsWith (IsInputLimit IsRunAlone config) it
-  input_limit_run h = record {
+  input_limit_run it h = record {
     rise = h.rise;
     rises = h.rises;
     ended = record {

@@ -88,9 +88,9 @@ is_ready words config desk is same = subst (IsReady words) same (record {
 })
 
 -- the ending by the status, over the desk as it was
-pub ended_as : {status : Status} (expected : Status) → status ≡ expected → {config : Config}
-    {desk before desk' : DeskState} {requests position : ℕ} {it : Call} → desk ≡ before
-    → EndsAs status config desk desk' requests position it → EndsAs expected config before desk' requests position it
-ended_as {status} expected is {config} {desk} {before} {desk'} {requests} {position} {it} same ends =
+pub ended_as : (status expected : Status) → status ≡ expected → (config : Config) (desk before desk' : DeskState)
+    (requests position : ℕ) (it : Call) → desk ≡ before → EndsAs status config desk desk' requests position it
+    → EndsAs expected config before desk' requests position it
+ended_as status expected is config desk before desk' requests position it same ends =
     subst (λ d. EndsAs expected config d desk' requests position it) same
     (subst (λ s. EndsAs s config desk desk' requests position it) is ends)

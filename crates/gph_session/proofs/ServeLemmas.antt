@@ -76,11 +76,11 @@ pub record HasRead (before after : Option (List ℕ)) (taken limit : ℕ) (piece
   pub fits : taken + length piece ≤ limit
 
 -- what a read left in front of its room
-pub has_read : {before after : Option (List ℕ)} {taken limit count : ℕ} {room : List ℕ} (rest : List ℕ)
+pub has_read : {before after : Option (List ℕ)} {taken limit : ℕ} (count : ℕ) (room rest : List ℕ)
     → count ≤ length room → length room ≤ BLOCK_MOST → taken + length room ≤ limit
     → Consumes before after (take count room)
     → HasRead before after taken limit (take count (room ++ rest))
-has_read {before} {after} {taken} {limit} {count} {room} rest within few fits read =
+has_read {before} {after} count room rest within few fits read =
     let same : take count (room ++ rest) ≡ take count room = take-append-le count room rest within in
     let short : length (take count room) ≤ length room = omega (arith, length-take count room, within) in
     record {
@@ -138,10 +138,10 @@ module _ {W : ℕ} {config : Config} {start : Start} {old : Moment W} {taken : �
     };
   }
 
-  pub limit_reached : {source2 : Ends} {past : ℕ} → Consumes source1.bytes source2.bytes (past ∷ [])
+  pub limit_reached : {source2 : Ends} (past : ℕ) → Consumes source1.bytes source2.bytes (past ∷ [])
       → source2.faults ≡ source1.faults → taken ≡ config.input
       → EndsWith (IsInputLimit (Served old) config) (up_to source2 sink1 old)
-  limit_reached {source2} {past} more steady full = record {
+  limit_reached {source2} past more steady full = record {
     rise = served.rise;
     rises = served.rises;
     ended = record {
@@ -158,11 +158,11 @@ module _ {W : ℕ} {config : Config} {start : Start} {old : Moment W} {taken : �
     };
   }
 
-  module _ {source2 sink2 : Ends} {new : Moment W} (no_read_failed : source2.faults ≡ source1.faults) where
+  module _ (source2 sink2 : Ends) (new : Moment W) (no_read_failed : source2.faults ≡ source1.faults) where
     -- ---- the end of the input
 
     module _ (none : Consumes source1.bytes source2.bytes []) (at_end : IsAtEnd source2.bytes)
-        {result : Result Turn Failed} (flows : EndsOn result config old new begun sink1.bytes sink2.bytes)
+        (result : Result Turn Failed) (flows : EndsOn result config old new begun sink1.bytes sink2.bytes)
       where
         ends : (more : List ℕ) × Appends sink1.bytes sink2.bytes more
             × EndIs result config start new serves.bytes (serves.output ++ more)
@@ -221,7 +221,7 @@ module _ {W : ℕ} {config : Config} {start : Start} {old : Moment W} {taken : �
     -- ---- one more block
 
     module _ {piece : List ℕ} (block : HasRead source1.bytes source2.bytes taken config.input piece)
-        {begun' : Option (List ℕ)} {result : Result Turn Failed}
+        (begun' : Option (List ℕ)) (result : Result Turn Failed)
         (leads : FlowsOn result config old new begun begun' piece sink1.bytes sink2.bytes) where
       flows : (more : List ℕ) × Appends sink1.bytes sink2.bytes more
           × FlowIs result config start new serves.bytes piece (serves.output ++ more) begun'
@@ -249,15 +249,15 @@ module _ {W : ℕ} {config : Config} {start : Start} {old : Moment W} {taken : �
         wrote = Appends-trans sink0.bytes sink1.bytes sink2.bytes serves.output flows.0 serves.wrote flows.1;
       }
 
-      pub serves_more : result ≡ Ok Goes → sink2.faults ≡ sink1.faults
-          → Serves config start new (taken + length piece) source0 source2 sink0 sink2 begun'
-      serves_more is steady = record {
+      pub serves_more : (count : ℕ) → length piece ≡ count → result ≡ Ok Goes → sink2.faults ≡ sink1.faults
+          → Serves config start new (taken + count) source0 source2 sink0 sink2 begun'
+      serves_more count number is steady = record {
         bytes = all;
         output = output;
         read = moved_on.read;
         wrote = moved_on.wrote;
-        long = omega (arith, length-append serves.bytes piece, serves.long);
-        few = block.fits;
+        long = omega (arith, length-append serves.bytes piece, serves.long, number);
+        few = omega (arith, block.fits, number);
         no_read_failed = no_read_failed ∙ serves.no_read_failed;
         no_write_failed = steady ∙ serves.no_write_failed;
         goes = flowed (Ok Goes) is;

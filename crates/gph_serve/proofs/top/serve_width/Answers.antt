@@ -3,15 +3,21 @@ use Rattle.gph_serve.proofs.RunLemmas.{done_run, read_fault_run, write_fault_run
 use Rattle.gph_serve.proofs.top.serve_width.Goals as goal
 
 pub returns-in-Done : goal.returns-in-Done
-returns-in-Done g c = done_run c.session-report.result c.in-Ok.ensures.begins (c.session-report.ensures.done c.in-Done.is)
+returns-in-Done g c =
+    done_run c.args.config.now _ _ c.session-report.result c.in-Ok.ensures.begins _
+    (c.session-report.ensures.done c.in-Done.is)
 
 pub returns-in-ReadFault : goal.returns-in-ReadFault
 returns-in-ReadFault g c =
-    read_fault_run c.session-report.result c.in-Ok.ensures.begins (c.session-report.ensures.read_fault c.in-ReadFault.is)
+    read_fault_run c.args.config.now _ _ c.session-report.result c.in-Ok.ensures.begins _
+    (c.session-report.ensures.read_fault c.in-ReadFault.is)
 
 pub returns-in-WriteFault : goal.returns-in-WriteFault
 returns-in-WriteFault g c =
-    write_fault_run c.session-report.result c.in-Ok.ensures.begins (c.session-report.ensures.write_fault c.in-WriteFault.is)
+    write_fault_run c.args.config.now _ _ c.session-report.result c.in-Ok.ensures.begins _
+    (c.session-report.ensures.write_fault c.in-WriteFault.is)
 
 pub returns : goal.returns
-returns g c = input_limit_run c.session-report.result c.in-Ok.ensures.begins (c.session-report.ensures.input_limit c.in-InputLimit.is)
+returns g c =
+    input_limit_run c.args.config.now _ _ c.session-report.result c.in-Ok.ensures.begins _
+    (c.session-report.ensures.input_limit c.in-InputLimit.is)

@@ -1,11 +1,8 @@
 -- How a session goes on after a read, and how it ends.
-use Rattle.std.proofs.Common.{◌≡◌, ◌≢◌, ◌+◌, ◌++◌, ◌<◌, ◌≤◌, [], length, take, drop}
+use Rattle.std.proofs.Common.{◌≡◌, ◌≢◌, ◌<◌, length, take, drop, get_or}
 use Rattle.std.proofs.Common.{ap, ◌∙◌, subst, arith, rules}
 use Rattle.std.specs.Io.KnownBytes.{Consumes}
 use Rattle.session_model.specs.Outside.{ends}
-use Rattle.session_step.specs.Moments.{moment_of}
-use Rattle.gph_session.specs.Flow.{start_at}
-use Rattle.gph_session.specs.Serving.{Serves}
 use Rattle.gph_session.proofs.ServeLemmas.{take_one, has_read, length_read, read_fault}
 use Rattle.gph_session.proofs.ServeLemmas.{limit_reached, done_at_end, refused_at_end}
 use Rattle.gph_session.proofs.ServeLemmas.{serves_more, done_by_quit, refused_in_block}
@@ -21,8 +18,9 @@ returns-in-Ok-answer_end g c =
     let size : length c.read.new.room ≡ c.clamp-room.result = search rules in
     let none = subst (λ n. Consumes (g.S.Source.left c.loop-session.source) (g.S.Source.left c.read.new.self)
     (take n c.read.new.room)) zero c.in-Ok-eq0.ensures.bytes.0 in
-    done_at_end c.loop-session.invariant.serves c.in-Ok-eq0.ensures.steady none
-    (c.in-Ok-eq0.ensures.bytes.1 zero (omega (arith, size, c.clamp-room.ensures))) c.answer_end.ensures.flow
+    done_at_end c.loop-session.invariant.serves _ _ _ c.in-Ok-eq0.ensures.steady none
+    (c.in-Ok-eq0.ensures.bytes.1 zero (omega (arith, size, c.clamp-room.ensures))) c.answer_end.result
+    c.answer_end.ensures.flow
     c.in-Ok-answer_end.is c.in-Ok-answer_end.ensures.cause
 
 pub returns-in-Err-answer_end : goal.returns-in-Err-answer_end
@@ -31,8 +29,9 @@ returns-in-Err-answer_end g c =
     let size : length c.read.new.room ≡ c.clamp-room.result = search rules in
     let none = subst (λ n. Consumes (g.S.Source.left c.loop-session.source) (g.S.Source.left c.read.new.self)
     (take n c.read.new.room)) zero c.in-Ok-eq0.ensures.bytes.0 in
-    refused_at_end c.loop-session.invariant.serves c.in-Ok-eq0.ensures.steady none
-    (c.in-Ok-eq0.ensures.bytes.1 zero (omega (arith, size, c.clamp-room.ensures))) c.answer_end.ensures.flow
+    refused_at_end c.loop-session.invariant.serves _ _ _ c.in-Ok-eq0.ensures.steady none
+    (c.in-Ok-eq0.ensures.bytes.1 zero (omega (arith, size, c.clamp-room.ensures))) c.answer_end.result
+    c.answer_end.ensures.flow
     c.in-Err-answer_end.is c.in-Err-answer_end.ensures.cause.1
 
 pub returns-then-taken-limit : goal.returns-then-taken-limit
@@ -45,41 +44,44 @@ returns-then-taken-limit g c =
     let room : 0 < length c.read.new.room = omega (arith, length_is, c.clamp-room.ensures) in
     let read = subst (Consumes (g.S.Source.left c.loop-session.source) (g.S.Source.left c.read.new.self))
     (ap (λ n. take n c.read.new.room) one ∙ take_one c.read.new.room room) c.in-Ok.ensures.bytes.0 in
-    limit_reached c.loop-session.invariant.serves read c.in-Ok.ensures.steady full
+    limit_reached c.loop-session.invariant.serves (get_or c.read.new.room 0 0) read c.in-Ok.ensures.steady full
 
 pub loop-session-preserved : goal.loop-session-preserved
 loop-session-preserved g c =
     let i = c.loop-session.invariant in
     let rest = drop c.clamp-room.result c.loop-session.block in
     let room_is : length c.read.new.room ≡ c.clamp-room.result = search rules in
-    let read = has_read rest c.in-Ok.ensures.bound.0 (omega (arith, room_is, c.clamp-room.ensures))
-    (omega (arith, room_is, c.clamp-room.ensures, i.serves.few)) c.in-Ok.ensures.bytes.0 in
-    let next = serves_more i.serves c.in-Ok.ensures.steady read c.answer_block.ensures.flow (search rules)
-    (search rules) in
+    let read = has_read c.in-Ok.count c.read.new.room rest c.in-Ok.ensures.bound.0
+    (omega (arith, room_is, c.clamp-room.ensures)) (omega (arith, room_is, c.clamp-room.ensures, i.serves.few))
+    c.in-Ok.ensures.bytes.0 in
     record {
       alone = c.answer_block.ensures.alone;
       config = c.answer_block.ensures.config;
       shards = c.answer_block.ensures.shards;
-      serves = subst (λ n. Serves c.args.config.now _ _ n _ _ _ _ c.answer_block.new.session.cutter.held)
-          (ap (λ n. c.loop-session.taken + n)
-          (length_read c.in-Ok.count c.read.new.room rest c.in-Ok.ensures.bound.0)) next;
+      serves = serves_more i.serves _ _ _ c.in-Ok.ensures.steady read _ c.answer_block.result
+          c.answer_block.ensures.flow c.in-Ok.count
+          (length_read c.in-Ok.count c.read.new.room rest c.in-Ok.ensures.bound.0) (search rules) (search rules);
     }
 
 pub returns-in-Ok-Quits : goal.returns-in-Ok-Quits
 returns-in-Ok-Quits g c =
     let serves = c.loop-session.invariant.serves in
     let room_is : length c.read.new.room ≡ c.clamp-room.result = search rules in
-    let read = has_read (drop c.clamp-room.result c.loop-session.block) c.in-Ok.ensures.bound.0
+    let read = has_read c.in-Ok.count c.read.new.room (drop c.clamp-room.result c.loop-session.block)
+    c.in-Ok.ensures.bound.0
     (omega (arith, room_is, c.clamp-room.ensures)) (omega (arith, room_is, c.clamp-room.ensures, serves.few))
     c.in-Ok.ensures.bytes.0 in
-    done_by_quit serves c.in-Ok.ensures.steady read c.answer_block.ensures.flow (search rules) (search rules)
+    done_by_quit serves _ _ _ c.in-Ok.ensures.steady read _ c.answer_block.result c.answer_block.ensures.flow
+    (search rules) (search rules)
 
 pub returns-in-Err-answer_block : goal.returns-in-Err-answer_block
 returns-in-Err-answer_block g c =
     let serves = c.loop-session.invariant.serves in
     let full : length c.read.new.room ≡ c.clamp-room.result = search rules in
-    let read = has_read (drop c.clamp-room.result c.loop-session.block) c.in-Ok.ensures.bound.0
+    let read = has_read c.in-Ok.count c.read.new.room (drop c.clamp-room.result c.loop-session.block)
+    c.in-Ok.ensures.bound.0
     (omega (arith, full, c.clamp-room.ensures)) (omega (arith, full, c.clamp-room.ensures, serves.few))
     c.in-Ok.ensures.bytes.0 in
-    refused_in_block serves c.in-Ok.ensures.steady read c.answer_block.ensures.flow c.in-Err-answer_block.is
+    refused_in_block serves _ _ _ c.in-Ok.ensures.steady read _ c.answer_block.result c.answer_block.ensures.flow
+    c.in-Err-answer_block.is
     c.in-Err-answer_block.ensures.cause.1
