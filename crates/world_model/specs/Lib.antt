@@ -8,5 +8,5 @@ pub mod Refusals
 pub mod Runs
 pub mod ShardSteps
 pub mod Sound
-pub mod State
+pub mod WorldState
 pub mod WorldStep

@@ -11,7 +11,7 @@ use Rattle.world_model.specs.declared.told.Told.{Told}
 use Rattle.world_model.specs.declared.told.Told.TheVariants as told
 use Rattle.world_model.specs.Asking.{Begins}
 use Rattle.world_model.specs.Events.{Setting}
-use Rattle.world_model.specs.State.{State, Place, Query, live_fronts, new_query, unpinned, with_query}
+use Rattle.world_model.specs.WorldState.{WorldState, ShardWithBuild, WorldQuery, live_fronts, fresh_query, unpinned, with_query}
 use Rattle.world_model.specs.ShardSteps.{Advances}
 
 -- exactly the positions of the live fronts strictly below a position, ascending, each once
@@ -21,27 +21,28 @@ pub record ListsOlder (live : ℕ → Option ℕ) (position : ℕ) (older : List
       → (has_position older other ≡ true) ↔ ((other < position) × StandsAt live other)
 
 -- a query is opened at the end of the history, with a front there
-pub record Opens (z : Setting) (s : State) (ask : Ask) (said : Told) (t : State) : Type 0 where
+pub record OpensAtEnd (z : Setting) (s : WorldState) (ask : Ask) (said : Told)
+    (t : WorldState) : Type 0 where
   pub older : List ℕ
   pub lists : ListsOlder (live_fronts s.queries) (length s.history) older
   pub after : t
-      ≡ record s { queries = s.queries ++ new_query z ask (length s.history) older ∷ [] }
+      ≡ record s { queries = s.queries ++ fresh_query z ask (length s.history) older ∷ [] }
   pub said_is : said ≡ told.Opened (length s.queries) (length s.history)
 
 -- a source for each shard, of which nothing was read, given or begun
-pub record AreBegun (z : Setting) (history : List JournalEntry) (query : Query)
+pub record AreBegun (z : Setting) (history : List JournalEntry) (query : WorldQuery)
     (sources : List Standing) : Type 0 where
   pub number : length sources ≡ z.shards
   pub each : (shard : ℕ) (source : Standing) → slice_get sources shard ≡ Some source
       → Begins z history query shard source
 
 -- the query with a layout pinned on a shard
-abbrev pub with_pin : Query → ℕ → Laid → Query
+abbrev pub with_pin : WorldQuery → ℕ → Laid → WorldQuery
 with_pin query shard layout =
     record query { pinned = slice_set query.pinned shard (Some layout) }
 
 -- after the last pin the front is closed and the sources begin; before it nothing more changes
-pub record Completes (z : Setting) (history : List JournalEntry) (query after : Query)
+pub record Completes (z : Setting) (history : List JournalEntry) (query after : WorldQuery)
     : Type 0 where
   pub sources : List Standing
   pub after_is : after ≡ (if nat_lt 0 (unpinned query) then query
@@ -49,11 +50,11 @@ pub record Completes (z : Setting) (history : List JournalEntry) (query after : 
   pub are_begun : unpinned query ≡ 0 → AreBegun z history query sources
 
 -- the shard is brought to the query's front, and the version there is pinned
-pub record PinsVersion (z : Setting) (s : State) (number shard : ℕ) (query after : Query)
-    (t : State) : Type 0 where
+pub record PinsAtFront (z : Setting) (s : WorldState) (number shard : ℕ) (query after : WorldQuery)
+    (t : WorldState) : Type 0 where
   pub not_pinned : slice_get query.pinned shard ≡ Some None
-  pub place : Place
-  pub mid : State
+  pub place : ShardWithBuild
+  pub mid : WorldState
   pub advances : Advances s number shard place mid
   pub version : Contents
   pub is_there : IsOneOf place.shard query.position version
@@ -61,24 +62,25 @@ pub record PinsVersion (z : Setting) (s : State) (number shard : ℕ) (query aft
   pub pinned : t ≡ with_query mid number after
 
 -- the query has pinned the shard before, and nothing changes
-pub record IsPinned (s : State) (shard : ℕ) (query after : Query) (t : State) : Type 0 where
+pub record IsPinned (s : WorldState) (shard : ℕ) (query after : WorldQuery)
+    (t : WorldState) : Type 0 where
   pub layout : Laid
   pub is_pinned : slice_get query.pinned shard ≡ Some (Some layout)
   pub after_is : after ≡ query
   pub same : t ≡ s
 
 -- a shard is pinned, and it is said how many aren't
-pub record Pins (z : Setting) (s : State) (number shard : ℕ) (said : Told) (t : State)
+pub record Pins (z : Setting) (s : WorldState) (number shard : ℕ) (said : Told) (t : WorldState)
     : Type 0 where
-  pub query : Query
-  pub after : Query
+  pub query : WorldQuery
+  pub after : WorldQuery
   pub is_query : slice_get s.queries number ≡ Some query
-  pub pins : IsPinned s shard query after t ⊎ PinsVersion z s number shard query after t
+  pub pins : IsPinned s shard query after t ⊎ PinsAtFront z s number shard query after t
   pub said_is : said ≡ told.Pinned (unpinned after)
 
 -- a query is cancelled, and its front closed
-pub record Cancels (s : State) (number : ℕ) (said : Told) (t : State) : Type 0 where
-  pub query : Query
+pub record CancelsQuery (s : WorldState) (number : ℕ) (said : Told) (t : WorldState) : Type 0 where
+  pub query : WorldQuery
   pub is_query : slice_get s.queries number ≡ Some query
   pub after : t ≡ with_query s number (record query { front = None; cancelled = true })
   pub said_is : said ≡ told.Cancelled query.given

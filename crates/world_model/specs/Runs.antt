@@ -8,7 +8,7 @@ use Rattle.world_model.specs.declared.refused.Refused.{Refused}
 use Rattle.world_model.specs.declared.told.Told.{Told}
 use Rattle.world_model.specs.declared.told.Told.TheVariants as told
 use Rattle.world_model.specs.Events.{Setting, Event, Commit, Open, Give}
-use Rattle.world_model.specs.State.{State}
+use Rattle.world_model.specs.WorldState.{WorldState}
 use Rattle.world_model.specs.Sound.{IsSound}
 use Rattle.world_model.specs.WorldStep.{WorldStep}
 
@@ -17,19 +17,19 @@ abbrev pub Answer : Type 0
 Answer = Result Told Refused
 
 -- the answers are those of the events, one step after another
-abbrev pub IsRun : Setting → State → List Event → List Answer → State → Type 0
+abbrev pub IsRun : Setting → WorldState → List Event → List Answer → WorldState → Type 0
 IsRun z s [] [] t = t ≡ s
 IsRun z s [] (answer ∷ answers) t = ⊥
 IsRun z s (event ∷ events) [] t = ⊥
 IsRun z s (event ∷ events) (answer ∷ answers) t =
-    (mid : State) × WorldStep z s event answer mid × IsRun z mid events answers t
+    (mid : WorldState) × WorldStep z s event answer mid × IsRun z mid events answers t
 
 -- the same, and the state between any two events is sound
-abbrev pub IsSoundRun : Setting → State → List Event → List Answer → State → Type 0
+abbrev pub IsSoundRun : Setting → WorldState → List Event → List Answer → WorldState → Type 0
 IsSoundRun z s [] [] t = t ≡ s
 IsSoundRun z s [] (answer ∷ answers) t = ⊥
 IsSoundRun z s (event ∷ events) [] t = ⊥
-IsSoundRun z s (event ∷ events) (answer ∷ answers) t = (mid : State)
+IsSoundRun z s (event ∷ events) (answer ∷ answers) t = (mid : WorldState)
     × WorldStep z s event answer mid × IsSound z mid × IsSoundRun z mid events answers t
 
 -- the hit that an answer gives for a query
@@ -59,18 +59,18 @@ has_ended number (event ∷ events) (answer ∷ answers) =
     tells_end number event answer || has_ended number events answers
 
 -- the entry that an event commits, by its answer
-abbrev pub entry_of : Event → Answer → List JournalEntry
-entry_of event (Err why) = []
-entry_of (Commit who operation) (Ok (told.Decided decided)) =
+abbrev pub committed_entry : Event → Answer → List JournalEntry
+committed_entry event (Err why) = []
+committed_entry (Commit who operation) (Ok (told.Decided decided)) =
     after_decision [] (record { who = who; operation = operation }) (decision_of decided.decision)
-entry_of event (Ok said) = []
+committed_entry event (Ok said) = []
 
 -- all entries that the events commit
-abbrev pub entries_of : List Event → List Answer → List JournalEntry
-entries_of [] answers = []
-entries_of (event ∷ events) [] = []
-entries_of (event ∷ events) (answer ∷ answers) =
-    entry_of event answer ++ entries_of events answers
+abbrev pub committed_entries : List Event → List Answer → List JournalEntry
+committed_entries [] answers = []
+committed_entries (event ∷ events) [] = []
+committed_entries (event ∷ events) (answer ∷ answers) =
+    committed_entry event answer ++ committed_entries events answers
 
 -- the question that an event opens, by its answer, on so many entries
 abbrev pub question_of : ℕ → Event → Answer → List (Ask × ℕ)
@@ -84,7 +84,7 @@ abbrev pub questions_from : ℕ → List Event → List Answer → List (Ask × 
 questions_from position [] answers = []
 questions_from position (event ∷ events) [] = []
 questions_from position (event ∷ events) (answer ∷ answers) = question_of position event answer
-    ++ questions_from (position + length (entry_of event answer)) events answers
+    ++ questions_from (position + length (committed_entry event answer)) events answers
 
 -- an opening tells the query's number and how many entries it stands on
 abbrev pub TellsOpening : ℕ → ℕ → Event → Answer → Type 0
@@ -99,4 +99,4 @@ TellOpenings number position (event ∷ events) [] = Unit {0}
 TellOpenings number position (event ∷ events) (answer ∷ answers) =
     TellsOpening number position event answer
     × TellOpenings (number + length (question_of position event answer))
-    (position + length (entry_of event answer)) events answers
+    (position + length (committed_entry event answer)) events answers

@@ -1,6 +1,6 @@
--- What holds between any two events: the history is legal, every live front has its version on every
--- shard, every front lists the older ones, and every query is on its own prefix.
-use Rattle.std.specs.Prelude.{◌≡◌, ℕ, ◌<◌, ◌≤◌, false, List, [], length, Option, Some, None, IfSome, slice_get}
+-- What holds between any two events: the history is legal, every live front has its version on
+-- every shard, every front lists the older ones, and every query is on its own prefix.
+use Rattle.std.specs.Prelude.{◌≡◌, ℕ, ◌<◌, ◌≤◌, false, List, [], length, Some, None, IfSome, slice_get}
 use Rattle.hamming_model.specs.History.{JournalEntry, IsLegal}
 use Rattle.hamming_model.specs.Stored.{AreCodes}
 use Rattle.threshold_model.specs.Bounds.{last_distance}
@@ -14,7 +14,7 @@ use Rattle.versioned_shard.specs.Along.{Follows}
 use Rattle.versioned_shard.specs.Rule.{KeepsRule}
 use Rattle.world_model.specs.Asking.{SourceAsks}
 use Rattle.world_model.specs.Events.{Setting, IsLayoutFor, IsQuestion}
-use Rattle.world_model.specs.State.{State, Place, Query, Rebuild, answer_to, front_on, live_fronts, unpinned}
+use Rattle.world_model.specs.WorldState.{WorldState, ShardWithBuild, WorldQuery, Rebuild, answer_on, front_on, live_fronts, unpinned}
 
 -- a version of one of the world's shards
 pub record IsOfShard (z : Setting) (shard : ℕ) (version : Contents) : Type 0 where
@@ -32,35 +32,35 @@ pub record IsBuild (z : Setting) (history : List JournalEntry) (shard : ℕ) (bu
 
 -- a shard keeps the rule of versions: each has the rows of its own prefix, and every live front has
 -- its version there, or the shard has yet to come to it
-pub record IsPlace (z : Setting) (history : List JournalEntry) (queries : List Query)
-    (shard : ℕ) (place : Place) : Type 0 where
+pub record KeepsShard (z : Setting) (history : List JournalEntry) (queries : List WorldQuery)
+    (shard : ℕ) (place : ShardWithBuild) : Type 0 where
   pub rule : KeepsRule (live_fronts queries) history place.shard
   pub of_shard : IsOfShard z shard place.shard.current
   pub build : IfSome place.build (IsBuild z history shard)
 
 -- an open front keeps the rule of older fronts: each live front below it stands in its list
-pub record KeepsOlder (history : List JournalEntry) (queries : List Query) (query : Query)
+pub record KeepsOlder (history : List JournalEntry) (queries : List WorldQuery) (query : WorldQuery)
     (older : List ℕ) : Type 0 where
   pub front : IsFront (front_on history query older)
   pub known : IsKnown (live_fronts queries) history (front_on history query older)
 
 -- a source of a query is lawful, and has begun no radius above the distance of the last hit
-pub record IsSource (z : Setting) (history : List JournalEntry) (query : Query) (shard : ℕ)
+pub record IsSource (z : Setting) (history : List JournalEntry) (query : WorldQuery) (shard : ℕ)
     (source : Standing) : Type 0 where
   pub asked : Asked
   pub asks : SourceAsks z history query shard asked
   pub lawful : IsLawful asked source
-  pub begun : IsUpTo source.begun (last_distance (answer_to z history query))
+  pub begun : IsUpTo source.begun (last_distance (answer_on z history query))
 
--- a query stands on a prefix of the history; its front is open until every shard is pinned, and then
--- it has a source on each; it has given no more than its answer
-pub record IsQuery (z : Setting) (history : List JournalEntry) (query : Query) : Type 0 where
+-- a query stands on a prefix of the history; its front is open until every shard is pinned, and
+-- then it has a source on each; it has given no more than its answer
+pub record IsQuery (z : Setting) (history : List JournalEntry) (query : WorldQuery) : Type 0 where
   pub within : query.position ≤ length history
   pub question : IsQuestion z.bits query.ask
   pub number : length query.pinned ≡ z.shards
   pub layouts : (shard : ℕ) (layout : Laid) → slice_get query.pinned shard ≡ Some (Some layout)
       → IsLayoutFor z.bits layout
-  pub given : query.given ≤ length (answer_to z history query)
+  pub given : query.given ≤ length (answer_on z history query)
   pub fronted : query.cancelled ≡ false → query.front ≡ None → unpinned query ≡ 0
   pub waits : 0 < unpinned query → query.sources ≡ []
   pub sourced : unpinned query ≡ 0 → length query.sources ≡ z.shards
@@ -68,15 +68,15 @@ pub record IsQuery (z : Setting) (history : List JournalEntry) (query : Query) :
       → IsSource z history query shard source
 
 -- what holds between any two events
-pub record IsSound (z : Setting) (s : State) : Type 0 where
+pub record IsSound (z : Setting) (s : WorldState) : Type 0 where
   pub legal : IsLegal s.history
   pub few : length s.history ≤ z.limit
   pub codes : AreCodes z.bits s.history
   pub number : length s.places ≡ z.shards
-  pub places : (shard : ℕ) (place : Place) → slice_get s.places shard ≡ Some place
-      → IsPlace z s.history s.queries shard place
-  pub fronts : (number : ℕ) (query : Query) (older : List ℕ)
+  pub places : (shard : ℕ) (place : ShardWithBuild) → slice_get s.places shard ≡ Some place
+      → KeepsShard z s.history s.queries shard place
+  pub fronts : (number : ℕ) (query : WorldQuery) (older : List ℕ)
       → slice_get s.queries number ≡ Some query → query.front ≡ Some older
       → KeepsOlder s.history s.queries query older
-  pub queries : (number : ℕ) (query : Query) → slice_get s.queries number ≡ Some query
+  pub queries : (number : ℕ) (query : WorldQuery) → slice_get s.queries number ≡ Some query
       → IsQuery z s.history query
