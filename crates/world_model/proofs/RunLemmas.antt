@@ -3,6 +3,7 @@ use Rattle.std.proofs.Common.{◌≡◌, ℕ, zero, suc, ◌+◌, ◌-◌, ◌�
 use Rattle.std.specs.Prelude.{Option, Some, None, Ok, Err, slice_get}
 use Rattle.std.specs.List.{AllByRecursion}
 use Rattle.std.proofs.lemmas.Bool.{both_ways, or_cases}
+use Rattle.std.proofs.Math.Seq.{take-length}
 use Rattle.std.proofs.lemmas.List.{append-nil, append_assoc, length-append, length-map, drop-drop}
 use Rattle.hamming_model.specs.History.{JournalEntry, rows_of}
 use Rattle.hamming_model.specs.Scan.{Ask, answer}
@@ -240,3 +241,13 @@ every_run z s events answers t formed is run =
             reads = λ shard source has. reads_within z t.history query shard source query_is (query_is.sources shard source has);
           });
     }
+
+-- a query that was opened among the events and has ended was given its whole answer
+pub ended_is_whole : (z : Setting) (s : WorldState) (events : List Event) (answers : List Answer) (t : WorldState) (number : ℕ) (query : WorldQuery)
+    → AnswersAll z s events answers t → slice_get s.queries number ≡ None → slice_get t.queries number ≡ Some query
+    → has_ended number events answers ≡ true → hits_given number events answers ≡ answer_on z t.history query
+ended_is_whole z s events answers t number query is none there ended =
+    let own = is.each number query there in
+    sym (own.next ∙ ap (λ before. take (given_before before) (answer_on z t.history query) ++ hits_given number events answers) none)
+    ∙ ap (λ n. take n (answer_on z t.history query)) (own.whole ended)
+    ∙ take-length (answer_on z t.history query)

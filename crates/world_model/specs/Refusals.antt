@@ -1,9 +1,9 @@
 -- Why an event is refused: the first of the causes that holds.
-use Rattle.std.specs.Prelude.{ℕ, ◌==◌, not, nat_le, nat_lt, if◌then◌else◌, Bool, true, false, List, [], ◌∷◌, length, Option, Some, None, is_none, is_some, slice_get}
+use Rattle.std.specs.Prelude.{ℕ, ◌==◌, not, nat_le, nat_lt, if◌then◌else◌, Bool, List, [], ◌∷◌, length, Option, Some, None, is_none, is_some, slice_get}
 use Rattle.std.specs.List.{list_any}
 use Rattle.world_model.specs.declared.refused.Refused.{Refused}
 use Rattle.world_model.specs.declared.refused.Refused.TheVariants.{NoShard, NoQuery, Closed, Many, Unfronted, NotPinned, Building, NoBuild, Unready, Moved}
-use Rattle.world_model.specs.Events.{Setting, Event, Open, Advance, Poll, Give, Cancel, BuildStart, BuildStep, Follow, Swap, query_named, shard_named}
+use Rattle.world_model.specs.Events.{Setting, Event, Open, Advance, Poll, Give, BuildStart, BuildStep, Follow, Swap, query_named, shard_named}
 use Rattle.world_model.specs.WorldState.{WorldState, WorldQuery, ShardWithBuild}
 
 -- the most queries of a world
@@ -112,11 +112,3 @@ refusal z s event = first_cause (
     lacks_shard z event ∷ lacks_query s event ∷ closed s event ∷ many s event ∷ unfronted s event
     ∷ not_pinned s event ∷ building s event ∷ no_build s event ∷ unready s event
     ∷ moved s event ∷ [])
-
--- the events that take memory
-abbrev pub takes_memory : Event → Bool
-takes_memory (Poll query shard budget) = false
-takes_memory (Give query) = false
-takes_memory (Cancel query) = false
-takes_memory (BuildStep shard rows) = false
-takes_memory event = true

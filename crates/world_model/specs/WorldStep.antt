@@ -1,11 +1,11 @@
 -- One event, its answer, and the state that it leaves.
-use Rattle.std.specs.Prelude.{◌≡◌, ℕ, ◌⊎◌, true, Some, None, Result, Ok, Err}
+use Rattle.std.specs.Prelude.{◌≡◌, ℕ, ◌⊎◌, Bool, true, false, Some, None, Result, Ok, Err}
 use Rattle.world_model.specs.declared.refused.Refused.{Refused}
 use Rattle.world_model.specs.declared.refused.Refused.TheVariants.{NoMemory}
 use Rattle.world_model.specs.declared.told.Told.{Told}
 use Rattle.world_model.specs.Events.{Setting, Event, Commit, Open, Advance, Pin, Poll, Give, Cancel, BuildStart, BuildStep, Follow, Swap}
 use Rattle.world_model.specs.WorldState.{WorldState, ShardWithBuild}
-use Rattle.world_model.specs.Refusals.{refusal, takes_memory}
+use Rattle.world_model.specs.Refusals.{refusal}
 use Rattle.world_model.specs.ShardSteps.{CommitsEntry, Advances, AdvancesTo, StartsBuild, PlacesRows, FollowsHistory, SwapsLayout}
 use Rattle.world_model.specs.QuerySteps.{OpensAtEnd, Pins, CancelsQuery}
 use Rattle.world_model.specs.Answering.{PollsAt, GivesNext}
@@ -31,6 +31,14 @@ pub record OnlyAdvances (s : WorldState) (event : Event) (t : WorldState) : Type
   pub is_pin : event ≡ Pin query shard
   pub after : ShardWithBuild
   pub advances : Advances s query shard after t
+
+-- the events that take memory
+abbrev pub takes_memory : Event → Bool
+takes_memory (Poll query shard budget) = false
+takes_memory (Give query) = false
+takes_memory (Cancel query) = false
+takes_memory (BuildStep shard rows) = false
+takes_memory event = true
 
 -- an event that takes memory found none, where no cause refuses it: nothing changed, but that the
 -- shard of a pin may have advanced

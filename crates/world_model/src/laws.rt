@@ -1,4 +1,4 @@
-ghost use Rattle.std.specs.Prelude.{◌≡◌, ℕ, ◌<◌, ◌≤◌, List, length, false, Some, None, slice_get};
+ghost use Rattle.std.specs.Prelude.{◌≡◌, ℕ, ◌<◌, ◌≤◌, List, length, false, true, Some, None, slice_get};
 ghost use Rattle.std.specs.List.{AllByRecursion};
 ghost use Rattle.part_layout.specs.Laid.{Laid};
 ghost use Rattle.shard_version.specs.Contents.{Contents};
@@ -10,7 +10,7 @@ ghost use Rattle.world_model.specs.Answers.{AnswersAll};
 ghost use Rattle.world_model.specs.Events.{Setting, Event, Pin, IsFormed, IsLayoutFor};
 ghost use Rattle.world_model.specs.Ledgers.{IsSumOfBounds, reads_on, reads_there};
 ghost use Rattle.world_model.specs.Refusals.{refusal};
-ghost use Rattle.world_model.specs.Runs.{Answer, IsRun};
+ghost use Rattle.world_model.specs.Runs.{Answer, IsRun, has_ended, hits_given};
 ghost use Rattle.world_model.specs.ShardSteps.{Advances, HasFront};
 ghost use Rattle.world_model.specs.Sound.{IsSound};
 ghost use Rattle.world_model.specs.WorldState.{WorldState, ShardWithBuild, WorldQuery, answer_on, front_on, new_world, pinned_version, unpinned};
@@ -26,12 +26,17 @@ pub fn each_event_keeps_the_rules()
         IsFormed z event → IsSound z s → WorldStep z s event answer t → IsSound z t }
 {}
 
-/// Law: whatever events follow one another, each query that ends has answered exactly the scan of its own prefix, in order.
+/// Law: whatever events follow one another, each query answers its own prefix, in order, within its bounds; and the hits that a query
+/// was given which was opened among the events and has ended are exactly the scan of its prefix.
 pub fn every_list_of_events_answers_the_scan()
-    ensures { (z : Setting) (s : WorldState) (events : List Event) (answers : List Answer)
-        (t : WorldState) →
-        AllByRecursion (IsFormed z) events → IsSound z s →
+    ensures all { (z : Setting) (s : WorldState) (events : List Event) (answers : List Answer)
+        (t : WorldState) → AllByRecursion (IsFormed z) events → IsSound z s →
         IsRun z s events answers t → AnswersAll z s events answers t }
+    ensures ended { (z : Setting) (s : WorldState) (events : List Event) (answers : List Answer)
+        (t : WorldState) (number : ℕ) (query : WorldQuery) → AnswersAll z s events answers t →
+        slice_get s.queries number ≡ None → slice_get t.queries number ≡ Some query →
+        has_ended number events answers ≡ true →
+        hits_given number events answers ≡ answer_on z t.history query }
 {}
 
 /// Law: no query is refused for being old. A pin of a query that goes on has no cause to be refused; once the shard was brought to its
