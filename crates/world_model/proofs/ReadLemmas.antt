@@ -1,6 +1,6 @@
 -- What a source has read is within the bound of its query.
 use Rattle.std.proofs.Common.{◌≡◌, ℕ, zero, suc, ◌≤◌, List, [], ◌∷◌, take, map, filter, sym, subst, arith}
-use Rattle.std.specs.Prelude.{nat_le, Option, Some, None}
+use Rattle.std.specs.Prelude.{nat_le, Option, Some, None, IfSome}
 use Rattle.std.specs.List.{AllByRecursion}
 use Rattle.std.specs.Ordering.{is_gt}
 use Rattle.std.proofs.lemmas.Bool.{cond_both, leb-true}
@@ -42,13 +42,14 @@ module _ (most : ℕ) where
   near_taken (suc n) [] all = tt
   near_taken (suc n) (hit ∷ hits) all = (all.0, near_taken n hits all.1)
 
-  last_near : (hits : List Hit) → AreNear hits → IsUpTo (last_distance hits) (Some most)
+  last_near : (hits : List Hit) → AreNear hits → IfSome (last_distance hits) (λ radius. radius ≤ most)
   last_near [] all = tt
   last_near (hit ∷ []) all = all.0
   last_near (hit ∷ other ∷ hits) all = last_near (other ∷ hits) all.1
 
 -- the last hit of an answer is no farther than the codes have bits
-pub answer_near : (bits : ℕ) (rows : List (ℕ × List ℕ)) (ask : Ask) → IsQuestion bits ask → IsUpTo (last_distance (answer bits rows ask)) (Some bits)
+pub answer_near : (bits : ℕ) (rows : List (ℕ × List ℕ)) (ask : Ask) → IsQuestion bits ask
+    → IfSome (last_distance (answer bits rows ask)) (λ radius. radius ≤ bits)
 answer_near bits rows (Range tau code) asks =
     last_near bits (scan rows code tau) (near_in_order bits (hits_within rows code tau) (near_within bits tau (map (hit_of code) rows) asks.1))
 answer_near bits rows (Near number code) asks =
@@ -57,7 +58,7 @@ answer_near bits rows (Near number code) asks =
 
 -- a bound rises with the last radius, for a range it stays
 bound_rises : (ask : Ask) (a : Asked) → IsAsked a → a.near ≡ asks_near ask → (begun last : Option ℕ) → IsUpTo begun last
-    → IsUpTo last (Some a.farthest)
+    → IfSome last (λ radius. radius ≤ a.farthest)
     → a.bound begun ≤ a.bound last
 bound_rises (Range tau code) a is near begun last rises far =
     omega (arith, (is.range near).bound begun, (is.range near).bound last)
@@ -72,8 +73,8 @@ pub reads_within : (z : Setting) (history : List JournalEntry) (query : WorldQue
 reads_within z history query shard source is from =
     let bits = (is.layouts shard from.asks.layout from.asks.is_pinned).bits_are in
     let near = answer_near z.bits (rows_of (take query.position history)) query.ask is.question in
-    let far : IsUpTo (last_distance (answer_on z history query)) (Some from.asks.layout.bits) =
-    subst (λ most. IsUpTo (last_distance (answer_on z history query)) (Some most)) (sym bits) near in
+    let far : IfSome (last_distance (answer_on z history query)) (λ radius. radius ≤ from.asks.layout.bits) =
+    subst (λ most. IfSome (last_distance (answer_on z history query)) (λ radius. radius ≤ most)) (sym bits) near in
     let last : Option ℕ = last_distance (answer_on z history query) in
     record {
       bound = from.asked.bound (last_distance (answer_on z history query));
@@ -86,6 +87,6 @@ reads_within z history query shard source is from =
         arith,
         from.lawful.bounded,
         bound_rises query.ask from.asked from.lawful.asked from.asks.asks.near source.begun (last_distance (answer_on z history query)) from.begun
-            (subst (λ most. IsUpTo (last_distance (answer_on z history query)) (Some most)) (sym from.asks.asks.farthest) far),
+            (subst (λ most. IfSome (last_distance (answer_on z history query)) (λ radius. radius ≤ most)) (sym from.asks.asks.farthest) far),
       );
     }

@@ -1,5 +1,5 @@
 -- What the sources of a query are asked, and the gathering of them.
-use Rattle.std.specs.Prelude.{◌≡◌, ℕ, ◌≤◌, min, Bool, true, false, List, length, map, take, Option, Some, slice_get}
+use Rattle.std.specs.Prelude.{◌≡◌, ℕ, ◌≤◌, min, Bool, true, false, List, length, map, take, Option, Some, IfSome, slice_get}
 use Rattle.hamming_model.specs.History.{JournalEntry, rows_of}
 use Rattle.hamming_model.specs.Scan.{Ask, Range, Near, scan}
 use Rattle.threshold_model.specs.Bounds.{IsBoundOf, IsUnitsOf}
@@ -7,7 +7,6 @@ use Rattle.part_layout.specs.Laid.{Laid}
 use Rattle.shard_version.specs.Contents.{Contents}
 use Rattle.hit_source.specs.Sources.{Asked, Standing, IsFresh, IsLawful}
 use Rattle.scatter_gather.specs.Gathering.{Source, Gathering}
-use Rattle.scatter_gather.specs.Kept.{IsUpTo}
 use Rattle.world_model.specs.Events.{Setting}
 use Rattle.world_model.specs.WorldState.{WorldQuery, pinned_version}
 
@@ -34,7 +33,7 @@ pub record AsksOf (room : ℕ) (version : Contents) (ask : Ask) (a : Asked) : Ty
   pub near : a.near ≡ asks_near ask
   pub room_is : a.room ≡ room
   pub farthest : a.farthest ≡ version.layout.bits
-  pub bound : (last : Option ℕ) → IsUpTo last (Some version.layout.bits)
+  pub bound : (last : Option ℕ) → IfSome last (λ radius. radius ≤ version.layout.bits)
       → IsBoundOf ask version.rows version.layout.parts last (a.bound last)
 
 -- the source of a query on a shard is asked on the version that the query pinned there
