@@ -9,19 +9,19 @@ use Rattle.scatter_gather.specs.declared.either.Either.{Either}
 use Rattle.open_queries.specs.declared.open_query.OpenQuery.{OpenQuery}
 
 -- the source of a shard: a range query or a near one
-abbrev pub Source : ℕ → Type 0
-Source W = Either (RangeTask W) (NearTask W)
+abbrev pub ShardSource : ℕ → Type 0
+ShardSource W = Either (RangeTask W) (NearTask W)
 
 -- a cursor: an open query over a source for each shard
 abbrev pub Cursor : ℕ → Type 0
-Cursor W = OpenQuery (Source W)
+Cursor W = OpenQuery (ShardSource W)
 
 -- what a source is asked
-abbrev pub asks : {W : ℕ} → Source W → Asked
+abbrev pub asks : {W : ℕ} → ShardSource W → Asked
 asks {W} source = source_asked {W = W} source
 
 -- where a source stands
-abbrev pub stands : {W : ℕ} → Source W → Standing
+abbrev pub stands : {W : ℕ} → ShardSource W → Standing
 stands {W} source = source_standing {W = W} source
 
 -- what the sources of a cursor have read, by shard
