@@ -158,8 +158,8 @@ module _ (words : ℕ) (old new : DeskState) (is_old : IsDesk words old) (is_new
               version = one.version;
               version_is = subst (λ n. IsVersionOf new shard n one.version) at one.pinned.version_is;
               layout = one.pinned.layout alone ∙ sym (comes.layouts alone shard);
-              asks = one.range_is.asks;
-              begins = one.range_is.begins;
+              asks = one.source_is.asks;
+              begins = one.source_is.begins;
             };
       }
 
