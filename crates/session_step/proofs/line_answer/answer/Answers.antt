@@ -1,5 +1,5 @@
 -- A line is answered by a step of a session that is alone.
-use Rattle.std.proofs.Common.{Ok, Some, refl, sym, ap, ◌∙◌, subst, rules}
+use Rattle.std.proofs.Common.{Ok, refl, sym, ap, ◌∙◌, subst}
 use Rattle.std.proofs.KnownBytes.{Appends-nil}
 use Rattle.query_protocol.specs.Stored.{unstored_reading}
 use Rattle.session_model.specs.Run.{is_answered}
