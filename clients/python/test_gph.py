@@ -204,9 +204,8 @@ class Ends(unittest.TestCase):
                 raise KeyError
         self.assertIsNotNone(process.poll())
 
-    def test_the_launcher_is_found_beside_the_client(self) -> None:
-        with Index(bits=8) as it:
-            self.assertEqual(it.add(1, 0), 1)
+    def test_the_launcher_of_the_repository_is_found(self) -> None:
+        self.assertEqual(os.path.realpath(gph._launcher()), os.path.join(TOP, "gph"))
 
 
 class Queries(unittest.TestCase):
