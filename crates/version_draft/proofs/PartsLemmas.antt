@@ -1,10 +1,10 @@
 -- All parts of a version that is made: room taken, rows placed, and the tables at the end.
-use Rattle.std.proofs.Common.{◌≡◌, ℕ, ◌+◌, ◌-◌, ◌*◌, ◌<◌, ◌≤◌, List, [], ◌∷◌, ◌++◌, length, map, get_or, set, refl, sym, ◌∙◌, ap, arith, subst, inl, inr}
+use Rattle.std.proofs.Common.{◌≡◌, ℕ, ◌+◌, ◌-◌, ◌*◌, ◌<◌, ◌≤◌, List, [], ◌∷◌, ◌++◌, length, map, take, get_or, set, refl, sym, ◌∙◌, ap, arith, subst, inl, inr}
 use Rattle.std.specs.List.Sorted.{IsStrictlySortedBy}
 use Rattle.std.specs.Map.{keys_of}
 use Rattle.std.specs.Ordering.{nat_cmp}
 use Rattle.std.proofs.lemmas.Bool.{cases_eq}
-use Rattle.std.proofs.lemmas.List.{get_or-map, get_or-set_other, get_or-set_same, get_or_append_left, get_or_push, length_push, length-set, length-map, take_all}
+use Rattle.std.proofs.lemmas.List.{get_or-map, get_or-set_other, get_or-set_same, get_or_append_left, get_or_push, length_push, length-set, length-map, take_all, take_more}
 use Rattle.hamming_model.specs.Stored.{AreCodeRows}
 use Rattle.search_model.specs.Reading.{unpadded}
 use Rattle.part_layout.specs.Laid.{Laid, IsLaid, part_at}
@@ -14,7 +14,7 @@ use Rattle.shard_version.specs.Tables.{AreFirst, AreStored}
 use Rattle.shard_version.specs.declared.part_table.PartTable.{PartTable}
 use Rattle.version_draft.specs.KeptDrafts.{AreBegun, ArePlaced, IsDraft, unfinished_of}
 use Rattle.version_draft.specs.PartDrafts.{IsPartDraft, tables_of}
-use Rattle.version_draft.specs.Unfinished.{Unfinished, begun, with_placed}
+use Rattle.version_draft.specs.Unfinished.{Unfinished, begun}
 use Rattle.version_draft.specs.declared.part_draft.PartDraft.{PartDraft}
 use Rattle.version_draft.proofs.PartDraftLemmas.{part_done}
 
@@ -58,6 +58,16 @@ begun_more {W} layout stored old new k own same before here =
 plain_keys : (bits : ℕ) (rows : List (ℕ × List ℕ)) → keys_of (map (unpadded bits) rows) ≡ keys_of rows
 plain_keys bits [] = refl
 plain_keys bits (row ∷ rows) = ap (λ ks. row.0 ∷ ks) (plain_keys bits rows)
+
+-- the tables of one part more
+pub tables_more : {W : ℕ} (parts : List (PartDraft W)) (done : List (PartTable W)) (k : ℕ) (own : PartDraft W) (table : PartTable W) → k < length parts
+    → own ≡ get_or parts k own → table ≡ tables_of own → done ≡ take k (map tables_of parts) → done ++ table ∷ [] ≡ take (k + 1) (map tables_of parts)
+tables_more {W} parts done k own table below is made before =
+    let long = length-map parts tables_of in
+    let item : get_or (map tables_of parts) k (tables_of own) ≡ table = get_or-map tables_of parts k own (tables_of own) below ∙ ap tables_of (sym is) ∙ sym made in
+    ap (λ (front : List (PartTable W)). front ++ table ∷ []) before
+    ∙ ap (λ (one : PartTable W). take k (map tables_of parts) ++ one ∷ []) (sym item)
+    ∙ sym (take_more (map tables_of parts) k (tables_of own) (omega arith))
 
 -- ---- a draft
 
@@ -116,6 +126,12 @@ module _ (version : Contents) (layout : Laid) (rows : List (ℕ × List ℕ)) (s
 
   pub few_read : length rows ≡ length version.rows
   few_read = sym (length-map rows (unpadded version.layout.bits)) ∙ ap length all_read
+
+  -- and are left to place
+  pub seen_begun : (copy : Contents) → copy ≡ version → unfinished_of copy layout rows 0 ≡ begun version layout
+  seen_begun copy same =
+      ap (λ (contents : Contents). unfinished_of contents layout rows 0) same
+      ∙ ap (λ (number : ℕ). let u : Unfinished = record { contents = in_layout version layout; left = number } in u) (omega (arith, few_read))
 
   module _ {W : ℕ} (parts : List (PartDraft W)) (bits : layout.bits ≡ version.layout.bits) where
     pub draft_begun : W ≤ 8 → version.layout.bits ≤ 64 * W → IsLaid layout → AreStored W version.layout.bits rows

@@ -1,4 +1,4 @@
-use Rattle.std.proofs.Common.{◌≡◌, ◌<◌, get_or, length, take, arith}
+use Rattle.std.proofs.Common.{arith}
 use Rattle.part_layout.specs.Laid.{part_at}
 use Rattle.version_draft.proofs.PartDraftLemmas.{counts_more, counts_total, row_value}
 use Rattle.version_draft.proofs.part_draft.PartDraft.begin.Goals as goal

@@ -1,4 +1,4 @@
-use Rattle.std.proofs.Common.{rules, ◌≡◌, get_or, arith, refl, ap, ◌∙◌}
+use Rattle.std.proofs.Common.{rules, get_or, refl, ap, ◌∙◌}
 use Rattle.std.proofs.lemmas.List.{get_or_default}
 use Rattle.part_layout.specs.Laid.{part_at}
 use Rattle.posting_table.specs.Reserved.{placed}
