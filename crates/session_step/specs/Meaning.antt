@@ -1,4 +1,4 @@
--- How a desk and the cursors mean a state. No public clause cites this module.
+-- How a desk and the cursors mean a state.
 use Rattle.std.specs.Prelude.{◌≡◌, ℕ, ◌<◌, ◌≤◌, true, false, None, List, [], ◌∷◌, length}
 use Rattle.std.specs.Prelude.{slice_index_or, Option}
 use Rattle.std.specs.List.{AllByRecursion}

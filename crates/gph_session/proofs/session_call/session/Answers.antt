@@ -61,24 +61,24 @@ serve-status-requires-after_bounds g c κs within =
 
 pub returns-clause-done : goal.returns-clause-done
 returns-clause-done g c = λ is.
-    ended_as c.serve-status.result status.Done is c.args.config.now _ (g.D.Desk.desk c.args.desk.now) _ _ _ _ _ _ _ _ _
+    ended_as c.serve-status.result status.Done is c.args.config.now _ (g.D.Desk.desk c.args.desk.now) _ _ _ _
     (learns_nothing (g.D.Desk.desk c.args.desk.now) (g.D.Desk.desk c.length-position.new.self) c.requires.alone
     c.length-position.ensures.learns) c.serve-status.ensures
 
 pub returns-clause-read_fault : goal.returns-clause-read_fault
 returns-clause-read_fault g c = λ is.
-    ended_as c.serve-status.result status.ReadFault is c.args.config.now _ (g.D.Desk.desk c.args.desk.now) _ _ _ _ _ _ _ _ _
+    ended_as c.serve-status.result status.ReadFault is c.args.config.now _ (g.D.Desk.desk c.args.desk.now) _ _ _ _
     (learns_nothing (g.D.Desk.desk c.args.desk.now) (g.D.Desk.desk c.length-position.new.self) c.requires.alone
     c.length-position.ensures.learns) c.serve-status.ensures
 
 pub returns-clause-write_fault : goal.returns-clause-write_fault
 returns-clause-write_fault g c = λ is.
-    ended_as c.serve-status.result status.WriteFault is c.args.config.now _ (g.D.Desk.desk c.args.desk.now) _ _ _ _ _ _ _ _ _
+    ended_as c.serve-status.result status.WriteFault is c.args.config.now _ (g.D.Desk.desk c.args.desk.now) _ _ _ _
     (learns_nothing (g.D.Desk.desk c.args.desk.now) (g.D.Desk.desk c.length-position.new.self) c.requires.alone
     c.length-position.ensures.learns) c.serve-status.ensures
 
 pub returns-clause-input_limit : goal.returns-clause-input_limit
 returns-clause-input_limit g c = λ is.
-    ended_as c.serve-status.result status.InputLimit is c.args.config.now _ (g.D.Desk.desk c.args.desk.now) _ _ _ _ _ _ _ _ _
+    ended_as c.serve-status.result status.InputLimit is c.args.config.now _ (g.D.Desk.desk c.args.desk.now) _ _ _ _
     (learns_nothing (g.D.Desk.desk c.args.desk.now) (g.D.Desk.desk c.length-position.new.self) c.requires.alone
     c.length-position.ensures.learns) c.serve-status.ensures
