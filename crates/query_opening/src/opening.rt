@@ -65,7 +65,8 @@ pub fn open_query<const W: usize, D: Desk<W>, M>(
         (D.desk desk.old) (D.desk desk.new) opened.position opened.rows
         wanted (take (D.desk desk.old).config.bits query.entry) room opened.sources.items) }
     ensures fresh { IfOk result (λ opened.
-        AllByRecursion (λ source. IsFresh (⟦<Source<W> as HitSource>⟧.standing source)) opened.sources.items) }
+        AllByRecursion (λ source. IsFresh (⟦<Source<W> as HitSource>⟧.standing source))
+        opened.sources.items) }
     // The sources can be gathered.
     ensures some { IfOk result (λ opened. 1 ≤ length opened.sources.items) }
     ensures few { IfOk result (λ opened. length opened.sources.items ≤ SHARDS_MOST) }
@@ -77,7 +78,8 @@ pub fn open_query<const W: usize, D: Desk<W>, M>(
     ensures comes { ComesOn (D.desk desk.old) (D.desk desk.new) }
     ensures known { KeepsKnown (D.desk desk.new) (D.knows desk.old) (D.knows desk.new) }
     ensures upkeep { steps.new ≤ steps.old
-        + behind (D.desk desk.old).pins (length (D.desk desk.new).seen) (D.desk desk.old).config.shards }
+        + behind (D.desk desk.old).pins (length (D.desk desk.new).seen)
+        (D.desk desk.old).config.shards }
     ensures desk { IsDesk W (D.desk desk.new) }
 {
     shards_together_answer();
@@ -106,7 +108,8 @@ fn open_each<const W: usize>(
     requires small_room { room ≤ ROOM_MOST }
     ensures { IfOk result (λ sources. AreSourcesOn
         ⟦<Source<W> as HitSource>⟧.asked ⟦<Source<W> as HitSource>⟧.standing
-        (contents_of_all versions.now) wanted query.entry room sources.items (length versions.now)) }
+        (contents_of_all versions.now) wanted query.entry room
+        sources.items (length versions.now)) }
 {
     let mut sources = Vec::new(alloc);
     for i in 0..versions.len() {

@@ -14,7 +14,8 @@ ghost use Rattle.session_step.specs.Moments.{point_of};
 use crate::asking::{cancel, cost, layout, next, plan};
 use crate::commits::{add, delete, get};
 use crate::open_session::Session;
-use crate::opening::range;
+use crate::opening::begin_query;
+use crate::question::Question;
 use crate::turn::Turn;
 use byte_lines::{Cut, Cutter};
 use line_io::{Failed, Sink};
@@ -118,7 +119,16 @@ fn meet<const W: usize, D: Desk<W>, K: Sink, R: Threads + Sync, G: Gate, L: Send
         Request::Del { key } => delete(config, session, desk, key, sink),
         Request::Get { key } => get(config, session, desk, key, sink),
         Request::Range { tag, tau, code } => {
-            range(alloc, config, session, desk, tag, tau, code, sink, upkeep)
+            let question = Question::Range(tau);
+            begin_query(
+                alloc, config, session, desk, tag, question, code, sink, upkeep,
+            )
+        }
+        Request::Near { tag, k, code } => {
+            let question = Question::Near(k);
+            begin_query(
+                alloc, config, session, desk, tag, question, code, sink, upkeep,
+            )
         }
         Request::Next { tag, n } => next(rt, config, session, &tag, n, sink, gate, meters),
         Request::Cost { tag } => cost(config, session, &tag, sink),

@@ -12,3 +12,4 @@ pub mod RunLemmas
 pub mod LedgerLemmas
 pub mod PinLemmas
 pub mod GatherLemmas
+pub mod WorkedLemmas

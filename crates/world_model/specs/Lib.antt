@@ -8,5 +8,6 @@ pub mod Refusals
 pub mod Runs
 pub mod ShardSteps
 pub mod Sound
+pub mod Worked
 pub mod WorldState
 pub mod WorldStep

@@ -1,4 +1,4 @@
-ghost use Rattle.std.specs.Prelude.{◌≡◌, ℕ, ◌<◌, ◌≤◌, List, length, false, true, Some, None, slice_get};
+ghost use Rattle.std.specs.Prelude.{◌≡◌, ℕ, ◌<◌, ◌≤◌, List, length, map, false, true, Some, None, slice_get};
 ghost use Rattle.std.specs.List.{AllByRecursion};
 ghost use Rattle.part_layout.specs.Laid.{Laid};
 ghost use Rattle.shard_version.specs.Contents.{Contents};
@@ -13,6 +13,7 @@ ghost use Rattle.world_model.specs.Refusals.{refusal};
 ghost use Rattle.world_model.specs.Runs.{Answer, IsRun, has_ended, hits_given};
 ghost use Rattle.world_model.specs.ShardSteps.{Advances, HasFront};
 ghost use Rattle.world_model.specs.Sound.{IsSound};
+ghost use Rattle.world_model.specs.Worked.{EndsSwapped, halves, worked, worked_setting};
 ghost use Rattle.world_model.specs.WorldState.{WorldState, ShardWithBuild, WorldQuery, answer_on, front_on, new_world, pinned_version, unpinned};
 ghost use Rattle.world_model.specs.WorldStep.{WorldStep};
 
@@ -73,4 +74,11 @@ pub fn sources_together_answer()
         IsSound z s → HasGathering z s number query g → 0 < z.shards → unpinned query ≡ 0 →
         length (answer_on z s.history query) ≤ hits_most →
         answer_of g ≡ answer_on z s.history query }
+{}
+
+/// Law: a worked list of events. A build isn't ready, places its row, follows the history beyond its shard, is refused for that, and
+/// gives the shard its layout once a later query has brought it there; the first query's version is kept in the old layout.
+pub fn a_build_is_overtaken()
+    ensures { (t : WorldState) × IsRun worked_setting (new_world worked_setting halves)
+        (map (λ each. each.0) worked) (map (λ each. each.1) worked) t × EndsSwapped t }
 {}

@@ -7,8 +7,8 @@ mod refused;
 mod told;
 
 pub use laws::{
-    each_event_keeps_the_rules, every_list_of_events_answers_the_scan, no_query_is_too_old,
-    reads_are_bounded,
+    a_build_is_overtaken, each_event_keeps_the_rules, every_list_of_events_answers_the_scan,
+    no_query_is_too_old, reads_are_bounded,
 };
 pub use refused::Refused;
 pub use told::Told;

@@ -44,8 +44,8 @@ returns-clause-one_length g c =
     let pins = c.in_ok-pinned.ensures.pinned in
     let are = sources_of source_asked source_standing c.deref-2.result.now items c.args.wanted c.args.query c.args.room c.in_ok-sources.sources.items
     c.deref-2.ensures.value c.in_ok-sources.ensures in
-    gathers_one_length source_asked source_standing g.row.W old new (contents_of_all items) c.in_ok-pinned.pinned.position pins c.args.wanted c.args.query c.args.room
-    c.in_ok-sources.sources.items are
+    gathers_one_length source_asked source_standing g.row.W old new (contents_of_all items) c.in_ok-pinned.pinned.position pins
+    c.args.wanted c.args.query c.args.room c.in_ok-sources.sources.items are
 
 pub returns-clause-one_kind : goal.returns-clause-one_kind
 returns-clause-one_kind g c =
@@ -55,8 +55,8 @@ returns-clause-one_kind g c =
     let pins = c.in_ok-pinned.ensures.pinned in
     let are = sources_of source_asked source_standing c.deref-2.result.now items c.args.wanted c.args.query c.args.room c.in_ok-sources.sources.items
     c.deref-2.ensures.value c.in_ok-sources.ensures in
-    gathers_one_kind source_asked source_standing g.row.W old new (contents_of_all items) c.in_ok-pinned.pinned.position pins c.args.wanted c.args.query c.args.room
-    c.in_ok-sources.sources.items are
+    gathers_one_kind source_asked source_standing g.row.W old new (contents_of_all items) c.in_ok-pinned.pinned.position pins
+    c.args.wanted c.args.query c.args.room c.in_ok-sources.sources.items are
 
 pub returns-clause-some : goal.returns-clause-some
 returns-clause-some g c =

@@ -1,4 +1,4 @@
--- Lemmas on `range`: what becomes of an opening is a step of a session that is alone.
+-- Lemmas on `range` and `near`: what becomes of an opening is a step of a session that is alone.
 use Rattle.std.proofs.Common.{◌≡◌, ℕ, zero, suc, ◌+◌, ◌-◌, ◌*◌, ◌≤◌, ◌<◌, nat_le, nat_lt, Bool, true, false}
 use Rattle.std.proofs.Common.{List, [], ◌∷◌, ◌++◌, length, take, map, replicate, slice_index, slice_index_or}
 use Rattle.std.proofs.Common.{Option, Some, None, Result, Ok, refl, sym, ap, ◌∙◌, subst, arith, inl, inr}
@@ -6,25 +6,24 @@ use Rattle.std.proofs.Common.{length-append}
 use Rattle.std.specs.List.{AllByRecursion}
 use Rattle.std.proofs.Math.ListN.{get_or-map, get_or-eq_default}
 use Rattle.std.proofs.Math.Nat.{add-mul}
-use Rattle.std.proofs.lemmas.List.{get_or-replicate, length-replicate, take_all}
+use Rattle.std.proofs.lemmas.List.{get_or-replicate, length-replicate}
 use Rattle.std.proofs.lemmas.Bool.{ltb-true, ltb-false}
 use Rattle.line_io.specs.declared.source.Failed.{Failed}
-use Rattle.hamming_model.specs.declared.limits.TheConstants.{SHARDS_MOST}
+use Rattle.hamming_model.specs.declared.limits.TheConstants.{ENTRIES_MOST}
 use Rattle.hamming_model.specs.History.{JournalEntry, rows_of, shard_rows}
-use Rattle.hamming_model.specs.Scan as ask
+use Rattle.hamming_model.specs.Scan.{Ask, Range, Near}
 use Rattle.hit_source.specs.Sources.{Asked, IsFresh}
 use Rattle.part_layout.specs.declared.config.Config.{Config}
 use Rattle.part_layout.specs.Laid.{Laid}
+use Rattle.part_layout.specs.Ranges.{IsConfig}
 use Rattle.shard_version.specs.Contents.{Contents}
-use Rattle.shard_query.specs.declared.range_task.RangeTask.{RangeTask}
-use Rattle.scatter_gather.specs.Gathering.{Gathered}
-use Rattle.query_protocol.specs.Requests.{Range, bad}
+use Rattle.query_protocol.specs.Requests.{bad}
 use Rattle.query_protocol.specs.Replies.{text, reply_line, LineReply}
 use Rattle.query_protocol.specs.Replies as reply
-use Rattle.session_desk.specs.Desks.{DeskState, ShardPlace, place_at, no_place, seen_history}
+use Rattle.session_desk.specs.Desks.{ShardPlace, place_at, no_place, seen_history}
 use Rattle.session_model.specs.State.{Query, State, query_of, open_queries}
 use Rattle.session_model.specs.Entries.{Exchange}
-use Rattle.session_model.specs.Ledger.{column, readings_of, layout_at, rows_at, sum_of, IsBounded, answer_to}
+use Rattle.session_model.specs.Ledger.{layout_at, rows_at, answer_to}
 use Rattle.session_model.specs.QuerySteps.{OpensUnlessMany, OpensUnlessUsed, new_query, most_open}
 use Rattle.session_model.specs.Step.{Answers}
 use Rattle.session_model.specs.Upkeep.{entries_beyond, vain_steps}
@@ -32,14 +31,16 @@ use Rattle.session_model.specs.Run.{accepted}
 use Rattle.threshold_model.specs.Bounds.{last_distance}
 use Rattle.open_queries.specs.Queries.{opened_query}
 use Rattle.open_queries.specs.Writing.{Writes}
-use Rattle.session_step.specs.Cursors.{Cursor, asks, stands, reads_in}
-use Rattle.session_step.specs.KeptDesk.{KeepsDesk, layouts_of, pins_of}
-use Rattle.session_step.specs.Moments.{Moment, ReadsTo, Spends}
-use Rattle.session_step.specs.Meaning.{AllKeep, AsksWithin, IsSettled, Keeps, Means}
-use Rattle.session_step.specs.Opening.{OpensAs, OpensAll, OpensNone, OpensShard, IsGathered, IsJudged}
+use Rattle.query_opening.specs.Opening.{AsksWanted}
+use Rattle.session_step.specs.Questions.{opening_request, code_in, radius_in, wanted_in, limit_in}
+use Rattle.session_step.specs.Cursors.{Source, Cursor, asks, stands}
+use Rattle.session_step.specs.KeptDesk.{pins_of}
+use Rattle.session_step.specs.Moments.{Moment, ReadsTo}
+use Rattle.session_step.specs.Meaning.{AllKeep, AsksOn, IsSettled, Keeps, Means}
+use Rattle.session_step.specs.Opening.{OpensAs, OpensAll, IsJudged}
 use Rattle.session_step.specs.Opening.{WasUsed, WasFull, HadNone, WasOpened}
 use Rattle.session_step.proofs.MomentLemmas.{reads_still, as_long}
-use Rattle.session_step.proofs.BoundLemmas.{bound_at, first_of_some}
+use Rattle.session_step.proofs.BoundLemmas.{answer_near, bound_at, first_of_some}
 use Rattle.session_step.proofs.QueryLemmas.{is_found, keep_more, more_open, not_open, of_open, same_number}
 use Rattle.session_step.proofs.QueryLemmas.{all_more, read_more}
 use Rattle.session_step.proofs.Here.{Here, StepTo, asked_here, exchange_here, quiet, quiet_by, on_ok}
@@ -60,7 +61,7 @@ beyond_then (pin ∷ pins) position most all le =
 
 -- ---- sources that have read nothing
 
-none_read : {W : ℕ} (sources : List (RangeTask W)) → AllByRecursion (λ source. IsFresh (stands {W = W} source)) sources
+none_read : {W : ℕ} (sources : List (Source W)) → AllByRecursion (λ source. IsFresh (stands {W = W} source)) sources
     → map (λ source. (stands {W = W} source).reads) sources ≡ replicate (length sources) 0
 none_read [] fresh = refl
 none_read (source ∷ sources) fresh =
@@ -75,10 +76,47 @@ zero_by number i false is =
 all_zero : (number i : ℕ) → slice_index (replicate number 0) i ≡ 0
 all_zero number i = zero_by number i (nat_lt i number) refl
 
+-- ---- what opens a query
+
+-- an opening is what a session answers, whatever kind of query it opens
+opens_as : (asked : Ask) (tag : List ℕ) (config : Config) (history : List JournalEntry) (s : State) (e : Exchange)
+    (t : State) → OpensUnlessUsed (query_of tag s.queries) history tag asked s e t
+    → Answers (Ok (Some (opening_request tag asked))) config history s e t
+opens_as (Range tau code) tag config history s e t opens = opens
+opens_as (Near number code) tag config history s e t opens = opens
+
+-- and it commits nothing
+opening_commits : (tag : List ℕ) (asked : Ask) (replies : List LineReply)
+    → accepted (Ok (Some (opening_request tag asked))) replies ≡ []
+opening_commits tag (Range tau code) replies = refl
+opening_commits tag (Near number code) replies = refl
+
+-- what a source of a version is asked
+asks_on : (asked : Ask) (version : Contents) (room : ℕ) (a : Asked)
+    → radius_in version.layout.bits asked ≤ version.layout.bits → length version.rows ≤ ENTRIES_MOST
+    → AsksWanted (wanted_in asked) version (code_in asked) room a
+    → AsksOn version.layout.bits asked version.rows version.layout.parts a
+asks_on (Range tau code) version room a low few asks = record {
+  radius = low;
+  hits = asks.hits;
+  rows_are = asks.rows;
+  few = few;
+  plan = λ last near. record { vector = asks.vector last; least = asks.cost last };
+  bound = λ last near. asks.bound last;
+}
+asks_on (Near number code) version room a low few asks = record {
+  radius = low;
+  hits = asks.hits;
+  rows_are = asks.rows;
+  few = few;
+  plan = asks.plan number;
+  bound = asks.bound number;
+}
+
 module _ {A : Type 0} {W : ℕ} (p : Here W) (after : Option (List ℕ)) (result : Result A Failed)
-    (new : Moment W) (some_shards : 1 ≤ p.config.shards) (few_shards : p.config.shards ≤ SHARDS_MOST)
-    (tag : List ℕ) (tau : ℕ) (code : List ℕ) (room : ℕ) (this : LineReply)
-    (is : asked_here p ≡ Ok (Some (Range tag tau code)))
+    (new : Moment W) (ranges : IsConfig p.config) (tag : List ℕ) (asked : Ask)
+    (low : radius_in p.config.bits asked ≤ p.config.bits) (room : ℕ) (this : LineReply)
+    (is : asked_here p ≡ Ok (Some (opening_request tag asked)))
     (wrote : Writes p.before after result (reply_line this)) where
   abbrev open_before : List Query
   open_before = open_queries p.s.queries
@@ -87,19 +125,20 @@ module _ {A : Type 0} {W : ℕ} (p : Here W) (after : Option (List ℕ)) (result
   number_open = same_number p.config p.history p.old.cursors open_before p.stands.keep
 
   abbrev Opening : Option Query → List JournalEntry → Exchange → State → Type 0
-  Opening found history e t = OpensUnlessUsed found history tag (ask.Range tau code) p.s e t
+  Opening found history e t = OpensUnlessUsed found history tag asked p.s e t
 
   -- where the tag is free the opening goes by how many are open
   judged_here : (full : Bool) → IsJudged p.old tag full → (history : List JournalEntry) (e : Exchange) (t : State)
-      → OpensUnlessMany full history tag (ask.Range tau code) p.s e t
-      → Answers (Ok (Some (Range tag tau code))) p.config history p.s e t
+      → OpensUnlessMany full history tag asked p.s e t
+      → Answers (Ok (Some (opening_request tag asked))) p.config history p.s e t
   judged_here full judged history e t opens =
       let missing : query_of tag p.s.queries ≡ None =
       of_open tag p.s.queries ∙ not_open p.config p.history p.old.cursors open_before tag p.stands.keep judged.free in
       let same : nat_le most_open (length open_before) ≡ full =
       ap (nat_le most_open) number_open ∙ judged.full_is in
-      subst (λ o. Opening o history e t) (sym missing)
-      (subst (λ b. OpensUnlessMany b history tag (ask.Range tau code) p.s e t) (sym same) opens)
+      opens_as asked tag p.config history p.s e t
+      (subst (λ o. Opening o history e t) (sym missing)
+      (subst (λ b. OpensUnlessMany b history tag asked p.s e t) (sym same) opens))
 
   -- ---- nothing is opened
 
@@ -108,10 +147,12 @@ module _ {A : Type 0} {W : ℕ} (p : Here W) (after : Option (List ℕ)) (result
       let found = is_found p.config p.history p.old.cursors open_before tag p.stands.keep was.used in
       let s = p.s in
       subst (λ m. StepTo p after result m) (sym was.same)
-      (quiet p after result p.old (Ok (Some (Range tag tau code))) (reply.Bad (bad 7) ∷ []) is refl refl refl refl
+      (quiet p after result p.old (Ok (Some (opening_request tag asked))) (reply.Bad (bad 7) ∷ []) is
+      (opening_commits tag asked (reply.Bad (bad 7) ∷ [])) refl refl refl
       p.stands.keep
-      (λ later. subst (λ o. Opening o (p.history ++ later) (exchange_here p (reply.Bad (bad 7) ∷ []) s.position) s)
-      (sym (of_open tag s.queries ∙ found.1)) (record { said_is = refl; position = refl; same = refl }))
+      (λ later. opens_as asked tag p.config (p.history ++ later) s (exchange_here p (reply.Bad (bad 7) ∷ []) s.position) s
+      (subst (λ o. Opening o (p.history ++ later) (exchange_here p (reply.Bad (bad 7) ∷ []) s.position) s)
+      (sym (of_open tag s.queries ∙ found.1)) (record { said_is = refl; position = refl; same = refl })))
       (writes_one p.before after result (reply.Bad (bad 7))
       (subst (λ r. Writes p.before after result (reply_line r)) was.told wrote)))
 
@@ -119,7 +160,8 @@ module _ {A : Type 0} {W : ℕ} (p : Here W) (after : Option (List ℕ)) (result
   full_step was =
       let s = p.s in
       subst (λ m. StepTo p after result m) (sym was.same)
-      (quiet p after result p.old (Ok (Some (Range tag tau code))) (reply.Bad (bad 9) ∷ []) is refl refl refl refl
+      (quiet p after result p.old (Ok (Some (opening_request tag asked))) (reply.Bad (bad 9) ∷ []) is
+      (opening_commits tag asked (reply.Bad (bad 9) ∷ [])) refl refl refl
       p.stands.keep
       (λ later. judged_here true was.judged (p.history ++ later) (exchange_here p (reply.Bad (bad 9) ∷ []) s.position) s
       (record { said_is = refl; position = refl; same = refl }))
@@ -135,7 +177,8 @@ module _ {A : Type 0} {W : ℕ} (p : Here W) (after : Option (List ℕ)) (result
       let seen : length new.desk.seen ≡ s.position =
       ap length opens.seen ∙ sym (as_long p.old.desk) ∙ ap length (sym p.stands.means.history_is)
       ∙ sym p.stands.means.position in
-      quiet_by p after result new (Ok (Some (Range tag tau code))) (reply.NoMemory ∷ []) s is refl
+      quiet_by p after result new (Ok (Some (opening_request tag asked))) (reply.NoMemory ∷ []) s is
+      (opening_commits tag asked (reply.NoMemory ∷ []))
       (λ later. judged_here false had.judged (p.history ++ later) (exchange_here p (reply.NoMemory ∷ []) s.position) s
       (inl (record { said_is = refl; position = refl; same = refl })))
       (writes_one p.before after result reply.NoMemory
@@ -160,12 +203,12 @@ module _ {A : Type 0} {W : ℕ} (p : Here W) (after : Option (List ℕ)) (result
 
   -- ---- a query is opened
 
-  module _ (was : WasOpened p.old new tag tau code room this) where
-    abbrev opens : OpensAll (asks {W = W}) (stands {W = W}) p.old.desk new.desk was.gather.sources new.position code tau
-        room p.old.ledgers.upkeep new.ledgers.upkeep
-    opens = was.opens
+  module _ (was : WasOpened p.old new tag asked room this) where
+    abbrev opens : OpensAll (asks {W = W}) (stands {W = W}) p.old.desk new.desk was.gather.sources new.position
+        was.opened.rows asked room p.old.ledgers.upkeep new.ledgers.upkeep
+    opens = was.opened.opens
 
-    abbrev sources : List (RangeTask W)
+    abbrev sources : List (Source W)
     sources = was.gather.sources
 
     shards_are : p.old.desk.config.shards ≡ p.config.shards
@@ -184,7 +227,7 @@ module _ {A : Type 0} {W : ℕ} (p : Here W) (after : Option (List ℕ)) (result
     exchange = exchange_here p replies p.s.position
 
     abbrev query : Query
-    query = new_query tag (ask.Range tau code) exchange
+    query = new_query tag asked exchange
 
     abbrev cursor : Cursor W
     cursor = opened_query tag was.gather
@@ -202,9 +245,9 @@ module _ {A : Type 0} {W : ℕ} (p : Here W) (after : Option (List ℕ)) (result
         sym (get_or-map (λ (place : ShardPlace). place.1.parts) new.desk.places shard no_place)
         ∙ ap (λ l. layout_at l shard) (sym means_new.layouts)
 
-    -- what a source is asked for is its shard's rows
-    asks_at : (shard : ℕ) (d : RangeTask W) → shard < p.config.shards
-        → AsksWithin (rows_at p.config p.history query shard) (layout_at p.s.layouts shard) code tau
+    -- what a source is asked on its shard's rows
+    asks_at : (shard : ℕ) (d : Source W) → shard < p.config.shards
+        → AsksOn p.config.bits asked (rows_at p.config p.history query shard) (layout_at p.s.layouts shard)
         (asks (slice_index_or sources shard d))
     asks_at shard d lt =
         let here = opens.each shard d (omega (arith, lt, shards_are)) in
@@ -219,18 +262,19 @@ module _ {A : Type 0} {W : ℕ} (p : Here W) (after : Option (List ℕ)) (result
         ∙ ap (λ (c : Config). shard_rows shard c.shards (rows_of (take (length new.desk.seen) (seen_history new.desk)))) means_new.config_is
         ∙ ap (λ h. shard_rows shard p.config.shards (rows_of (take (length new.desk.seen) h))) (sym means_new.history_is)
         ∙ ap (λ n. shard_rows shard p.config.shards (rows_of (take n p.history))) number in
-        subst (λ l. AsksWithin (rows_at p.config p.history query shard) l code tau (asks (slice_index_or sources shard d))) layout
-        (subst (λ r. AsksWithin r version.layout.parts code tau (asks (slice_index_or sources shard d))) rows (record {
-          hits = here.asks.hits;
-          rows_are = here.asks.rows;
-          few = here.version_is.sound.few_rows;
-          vector = here.asks.vector;
-          cost = here.asks.cost;
-          bound = here.asks.bound;
-        }))
+        let a = asks (slice_index_or sources shard d) in
+        subst (λ l. AsksOn p.config.bits asked (rows_at p.config p.history query shard) l a) layout
+        (subst (λ r. AsksOn p.config.bits asked r version.layout.parts a) rows
+        (subst (λ n. AsksOn n asked version.rows version.layout.parts a) bits
+        (asks_on asked version room a (subst (λ n. radius_in n asked ≤ n) (sym bits) low)
+        here.version_is.sound.few_rows here.source_is.asks)))
 
     number_here : length sources ≡ p.config.shards
     number_here = opens.number ∙ shards_are
+
+    rows_here : was.opened.rows ≡ length (rows_of (take p.s.position p.history))
+    rows_here = opens.rows_are ∙ ap (λ n. length (rows_of (take n (seen_history new.desk)))) position_is
+        ∙ ap (λ h. length (rows_of (take p.s.position h))) (sym means_new.history_is)
 
     size_here : length p.s.layouts ≡ p.config.shards
     size_here = p.stands.means.are_layouts.number
@@ -242,16 +286,16 @@ module _ {A : Type 0} {W : ℕ} (p : Here W) (after : Option (List ℕ)) (result
       pinned = p.stands.means.are_layouts;
       sources = number_here;
       each_asks = asks_at;
-      limit = was.gathers.limit;
-      given = was.gathers.given;
+      limit = was.opened.gathers.limit ∙ ap (limit_in asked) rows_here;
+      given = was.opened.gathers.given;
       done = refl;
       reads = ap (λ n. replicate n 0) (size_here ∙ sym number_here)
-          ∙ sym (none_read sources was.gathers.untouched.fresh);
+          ∙ sym (none_read sources was.opened.gathers.untouched.fresh);
       opened = refl;
     }
 
-    first : RangeTask W
-    first = first_of_some sources (omega (arith, some_shards, number_here))
+    first : Source W
+    first = first_of_some sources (omega (arith, ranges.some_shards, number_here))
 
     settled_new : IsSettled p.config p.history query
     settled_new = record {
@@ -262,7 +306,8 @@ module _ {A : Type 0} {W : ℕ} (p : Here W) (after : Option (List ℕ)) (result
             let last = last_distance (answer_to p.config p.history query) in
             record {
               bound = (asks (slice_index_or sources shard first)).bound last;
-              is_bound = bound_at p.config p.history cursor query keeps_new some_shards few_shards last last shard first lt;
+              is_bound = bound_at p.config p.history cursor query keeps_new ranges last
+                  (answer_near p.config p.history cursor query keeps_new ranges) shard first lt;
               within = omega (arith, all_zero (length p.s.layouts) shard);
             };
       };
@@ -273,7 +318,8 @@ module _ {A : Type 0} {W : ℕ} (p : Here W) (after : Option (List ℕ)) (result
         let s = p.s in
         let vain = vain_steps p.config.shards replies s.position in
         let told : this ≡ reply.Open tag s.position = was.told ∙ ap (reply.Open tag) position_is in
-        quiet_by p after result new (Ok (Some (Range tag tau code))) replies then is refl
+        quiet_by p after result new (Ok (Some (opening_request tag asked))) replies then is
+        (opening_commits tag asked replies)
         (λ later. judged_here false was.judged (p.history ++ later) exchange then
         (inr (record {
           not_before = omega arith;
@@ -310,8 +356,8 @@ module _ {A : Type 0} {W : ℕ} (p : Here W) (after : Option (List ℕ)) (result
         (keep_more p.config p.history p.old.cursors open_before cursor query p.stands.keep keeps_new))))
         position_is
 
-  pub range_step : OpensAs p.old new tag tau code room this → StepTo p after result new
-  range_step (inl was) = used_step was
-  range_step (inr (inl was)) = full_step was
-  range_step (inr (inr (inl had))) = none_step had
-  range_step (inr (inr (inr was))) = opened_step was
+  pub open_step : OpensAs p.old new tag asked room this → StepTo p after result new
+  open_step (inl was) = used_step was
+  open_step (inr (inl was)) = full_step was
+  open_step (inr (inr (inl had))) = none_step had
+  open_step (inr (inr (inr was))) = opened_step was
