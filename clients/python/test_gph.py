@@ -440,7 +440,7 @@ class Nearest(unittest.TestCase):
     def check(self, bits: int, number: int, **words: int) -> None:
         chance = random.Random(bits)
         rows = near_copies(chance, bits, number)
-        codes = [chance.choice(list(rows.values())) ^ 1 << chance.randrange(bits) for _ in range(20)]
+        codes = [chance.choice(list(rows.values())) ^ 1 << chance.randrange(bits) for _ in range(8)]
         with index(bits=bits, **words) as it:
             it.add_many(rows.items())
             for k in (1, 2, 10, number, number + 1):
@@ -452,10 +452,10 @@ class Nearest(unittest.TestCase):
         self.check(8, 200, parts=2)
 
     def test_64_bits(self) -> None:
-        self.check(64, 500)
+        self.check(64, 300)
 
     def test_256_bits(self) -> None:
-        self.check(256, 200, shards=5)
+        self.check(256, 100, shards=2)
 
 
 class Command(unittest.TestCase):
