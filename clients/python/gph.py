@@ -784,6 +784,8 @@ def _search(words: argparse.Namespace) -> int:
     with open(0 if words.file == "-" else words.file, encoding="utf-8", errors="surrogateescape") as it:
         lines = it.read().split("\n")
     bits = words.bits or _bits_of(lines)
+    if words.near is not None:
+        _within(words.near, 1, NEAREST - 1, "--near")
     with Index(bits, words.parts, words.shards, words.program) as index:
         rows = _rows(lines, bits, words.names, tell)
         index.add_many(((row.key, row.code) for row in rows), _Bar("adding", len(rows)))
