@@ -33,6 +33,7 @@ import subprocess
 import sys
 import time
 from collections import deque
+from contextlib import contextmanager
 from typing import Any, Callable, Deque, Dict, Iterable, Iterator, List, NamedTuple, Optional, Sequence, Tuple, Type, Union
 
 __all__ = [
@@ -50,7 +51,7 @@ TURN, NEAREST = 65_536, 1_048_576
 # bytes that a pipe gives or takes at once
 BLOCK = 65_536
 # requests under way in a bulk call: rows in each group that is sent at once, groups, and queries
-GROUP, GROUPS, QUERIES = 256, 64, 256
+GROUP, GROUPS, QUERIES = 256, 64, 64
 
 
 class Hit(NamedTuple):
@@ -239,12 +240,12 @@ class _Channel:
     def __init__(self, words: Sequence[str]) -> None:
         self._process = subprocess.Popen(words, stdin=subprocess.PIPE, stdout=subprocess.PIPE, bufsize=0)
         assert self._process.stdin and self._process.stdout
-        self._to = self._process.stdin.fileno()
-        self._from = self._process.stdout.fileno()
+        self._pipes = self._process.stdin, self._process.stdout
+        self._to, self._from = (pipe.fileno() for pipe in self._pipes)
         os.set_blocking(self._to, False)
         self._poll = select.poll()
         self._poll.register(self._from, select.POLLIN)
-        self._status: Optional[int] = None
+        self._is_open = True
         self._unsent = bytearray()
         self._rest = b""
         self._hits: List[Hit] = []
@@ -252,19 +253,20 @@ class _Channel:
 
     def ask(self, lines: bytes, number: int) -> _Asked:
         """Sends lines to which so many replies come, as far as the pipe takes them now. Raises `Ended`."""
-        if self._status is not None:
-            raise Ended(self._status)
+        if not self._is_open:
+            raise Ended(self._process.wait())
         asked = _Asked(number)
-        self._waiting.append(asked)
-        self._unsent += lines
+        with self._whole():
+            self._waiting.append(asked)
+            self._unsent += lines
         self._turn(0)
         return asked
 
     def settle(self, asked: _Asked) -> List[_Reply]:
         """Waits for the replies to what was asked, and takes in all before them. Raises `Ended`."""
         while asked.left:
-            if self._status is not None:
-                raise Ended(self._status)
+            if not self._is_open:
+                raise Ended(self._process.wait())
             self._turn(None)
         return asked.replies
 
@@ -279,17 +281,15 @@ class _Channel:
 
     def stop(self) -> None:
         """Ends the program at once; what it was asked for and hasn't answered is dropped."""
-        if self._status is None:
-            self._process.terminate()
+        self._process.terminate()
         self._finish()
 
     def _finish(self) -> None:
         """Closes the pipes, and waits for the program to end."""
-        self._unsent.clear()
-        if self._status is None and self._process.stdin and self._process.stdout:
-            self._process.stdin.close()
-            self._process.stdout.close()
-            self._status = self._process.wait()
+        self._is_open = False
+        for pipe in self._pipes:
+            pipe.close()
+        self._process.wait()
 
     def _turn(self, milliseconds: Optional[int]) -> None:
         """Writes and reads what the pipes take and have, after waiting for either for so long; None is without end."""
@@ -300,10 +300,20 @@ class _Channel:
         finally:
             if self._unsent:
                 self._poll.unregister(self._to)
-        if self._to in ready:
-            self._write()
-        if self._from in ready:
-            self._read()
+        with self._whole():
+            if self._to in ready:
+                self._write()
+            if self._from in ready:
+                self._read()
+
+    @contextmanager
+    def _whole(self) -> Iterator[None]:
+        """Ends the program where what is done inside is interrupted, since nobody could tell which reply is whose any more."""
+        try:
+            yield
+        except BaseException:
+            self.stop()
+            raise
 
     def _write(self) -> None:
         try:
@@ -320,13 +330,8 @@ class _Channel:
             return
         lines = (self._rest + block).split(b"\n")
         self._rest = lines.pop()
-        try:
-            for line in lines:
-                self._take(line)
-        except BaseException:
-            # interrupted between two lines: which reply is whose can't be told any more
-            self.stop()
-            raise
+        for line in lines:
+            self._take(line)
 
     def _take(self, line: bytes) -> None:
         """Takes in one line: a hit, or the last line of the reply to the first request that waits for one."""
@@ -445,7 +450,10 @@ def _launcher() -> str:
 
 
 class Index:
-    """One session of the program: rows of a key and a code, and queries over them. A context manager; `close` ends it."""
+    """One session of the program: rows of a key and a code, and queries over them. A context manager; `close` ends it.
+
+    An interrupt from the keyboard leaves it usable, or ended with `Ended`, and never with an answer that is another's.
+    """
 
     def __init__(
         self, bits: int = 64, parts: Optional[int] = None, shards: int = 4, program: Optional[str] = None, entries: int = 1_048_576
@@ -698,7 +706,7 @@ def _row(number: int, line: str, bits: int, named: bool) -> _Row:
         raise ValueError("it has one word, where a key and a code are wanted")
     name, code = words[0].strip(), words[1]
     if len(code) * 4 != bits or not _is_hex(code):
-        raise ValueError(f"{code!r} is no code of {bits} bits, {bits // 4} hexadecimal digits")
+        raise ValueError(f"{code!r} at its end is no code of {bits} bits, {bits // 4} hexadecimal digits")
     if named:
         return _Row(number, number, name, code)
     if not (name.isascii() and name.isdigit() and len(name) <= 20 and int(name) < 1 << 64):
@@ -776,6 +784,8 @@ def _search(words: argparse.Namespace) -> int:
     with open(0 if words.file == "-" else words.file, encoding="utf-8", errors="surrogateescape") as it:
         lines = it.read().split("\n")
     bits = words.bits or _bits_of(lines)
+    if words.near is not None:
+        _within(words.near, 1, NEAREST - 1, "--near")
     with Index(bits, words.parts, words.shards, words.program) as index:
         rows = _rows(lines, bits, words.names, tell)
         index.add_many(((row.key, row.code) for row in rows), _Bar("adding", len(rows)))

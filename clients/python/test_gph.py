@@ -11,6 +11,7 @@ import signal
 import subprocess
 import sys
 import tempfile
+import time
 import unittest
 from contextlib import contextmanager
 from typing import Dict, Iterator, List, Tuple
@@ -35,6 +36,29 @@ def worked(**words: object) -> Iterator[Index]:
     with index(**{"bits": 8, "parts": 2, "shards": 1, **words}) as it:
         it.add_many(ROWS.items())
         yield it
+
+
+@contextmanager
+def script(text: str) -> Iterator[str]:
+    """The path of a shell script, to be started in place of the program."""
+    with tempfile.TemporaryDirectory() as folder:
+        path = os.path.join(folder, "program")
+        with open(path, "w", encoding="ascii") as it:
+            it.write(f"#!/bin/sh\n{text}\n")
+        os.chmod(path, 0o755)
+        yield path
+
+
+@contextmanager
+def interrupt(seconds: float) -> Iterator[None]:
+    """A keyboard interrupt after so long, unless what is inside has ended by then."""
+    before = signal.signal(signal.SIGALRM, signal.default_int_handler)
+    signal.setitimer(signal.ITIMER_REAL, seconds)
+    try:
+        yield
+    finally:
+        signal.setitimer(signal.ITIMER_REAL, 0)
+        signal.signal(signal.SIGALRM, before)
 
 
 def distance(one: int, other: int) -> int:
@@ -68,6 +92,17 @@ class WorkedExamples(unittest.TestCase):
             self.assertEqual(list(query), [Hit(0, 1), Hit(1, 4)])
             self.assertEqual(query.plan(0), Plan(2, (-1, 1)))
             self.assertEqual(query.cost(), Cost(2, 2))
+
+    def test_each_shard_has_its_plan(self) -> None:
+        with worked(shards=2) as it:
+            it.add(6, 0x10)
+            with it.open_range(0, 1) as query:
+                self.assertEqual(list(query), [Hit(0, 1), Hit(1, 4), Hit(1, 6)])
+                self.assertEqual((query.plan(0), query.plan(1)), (Plan(2, (-1, 1)), Plan(1, (-1, 1))))
+                self.assertEqual(query.cost(), Cost(3, 3))
+                with self.assertRaises(BadRequest) as told:
+                    query.plan(2)
+                self.assertEqual(told.exception.number, 6)
 
     def test_an_entry_tells_its_number(self) -> None:
         with worked() as it:
@@ -155,16 +190,11 @@ class Refusals(unittest.TestCase):
             self.assertEqual(it.get(1), 0)
 
     def test_want_of_memory(self) -> None:
-        with tempfile.TemporaryDirectory() as folder:
-            small = os.path.join(folder, "small")
-            with open(small, "w", encoding="ascii") as it:
-                it.write(f'#!/bin/sh\nulimit -v 60000\nexec "{PROGRAM}" "$@"\n')
-            os.chmod(small, 0o755)
-            with Index(bits=256, program=small) as it:
-                with self.assertRaises(SomeRefused) as told:
-                    it.add_many((key, key) for key in range(400_000))
-                self.assertEqual({type(refusal) for refusal in told.exception.refusals}, {OutOfMemory})
-                self.assertEqual(it.get(0), 0)
+        with script(f'ulimit -v 60000\nexec "{PROGRAM}" "$@"') as small, Index(bits=256, program=small) as it:
+            with self.assertRaises(SomeRefused) as told:
+                it.add_many((key, key) for key in range(400_000))
+            self.assertEqual({type(refusal) for refusal in told.exception.refusals}, {OutOfMemory})
+            self.assertEqual(it.get(0), 0)
 
     def test_every_exception_tells_its_cause(self) -> None:
         told = [Taken(1, 2), Absent(1, 2), Full(2), OutOfMemory(), BadRequest(5, 3), BadRequest(99), Ended(6), Ended(-9), Ended(77)]
@@ -176,7 +206,9 @@ class Refusals(unittest.TestCase):
 class Ends(unittest.TestCase):
     def test_a_program_that_is_ended_is_told_and_stays_so(self) -> None:
         with worked() as it:
-            os.kill(it._channel._process.pid, signal.SIGKILL)
+            process = it._channel._process.pid
+            os.kill(process, signal.SIGKILL)
+            os.waitid(os.P_PID, process, os.WEXITED | os.WNOWAIT)
             for _ in range(2):
                 with self.assertRaises(Ended) as told:
                     list(it.range_many([0] * 10_000, 8))
@@ -197,12 +229,43 @@ class Ends(unittest.TestCase):
         self.assertRaises(Ended, next, query)
         query.close()
 
+    def test_closing_waits_for_what_was_asked(self) -> None:
+        with index(bits=8) as it:
+            it.add_many((key, 0) for key in range(10_000))
+            next(it.range_many([0] * 20, 0))
+        with self.assertRaises(Ended) as told:
+            it.add(1, 0)
+        self.assertEqual(told.exception.status, 0)
+
+    def test_an_interrupt_while_the_program_is_started(self) -> None:
+        with script("exec sleep 60") as slow:
+            begun = time.monotonic()
+            with self.assertRaises(KeyboardInterrupt), interrupt(0.2):
+                Index(program=slow)
+            self.assertLess(time.monotonic() - begun, 10)
+
+    def test_after_an_interrupt_no_answer_is_another_ones(self) -> None:
+        chance = random.Random(7)
+        for _ in range(20):
+            with index(bits=8) as it:
+                it.add_many((key, key % 2) for key in range(2_000))
+                try:
+                    with interrupt(0.001 + 0.03 * chance.random()):
+                        list(it.range_many([0, 1] * 20, 0))
+                except KeyboardInterrupt:
+                    pass
+                try:
+                    self.assertEqual(it.range(1, 0), [Hit(0, key) for key in range(1, 2_000, 2)])
+                    self.assertEqual(it.get(3), 1)
+                except Ended:
+                    pass
+
     def test_an_exception_inside_the_with_ends_the_program(self) -> None:
         with self.assertRaises(KeyError):
             with index() as it:
                 process = it._channel._process
                 raise KeyError
-        self.assertIsNotNone(process.poll())
+        self.assertEqual(process.returncode, -signal.SIGTERM)
 
     def test_the_launcher_of_the_repository_is_found(self) -> None:
         self.assertEqual(os.path.realpath(gph._launcher()), os.path.join(TOP, "gph"))
@@ -291,6 +354,13 @@ class Bulk(unittest.TestCase):
                     break
             self.assertEqual(it.range(0, 1), [Hit(0, 1), Hit(1, 4)])
 
+    def test_codes_are_taken_as_answers_are_consumed(self) -> None:
+        with index(bits=8) as it:
+            it.add_many((key, 0) for key in range(5_000))
+            codes = iter([0] * 1_000)
+            next(it.range_many(codes, 0))
+            self.assertGreaterEqual(len(list(codes)), 1_000 - gph.QUERIES)
+
     def test_codes_without_end(self) -> None:
         def codes() -> Iterator[int]:
             while True:
@@ -348,8 +418,10 @@ class Command(unittest.TestCase):
     def test_all_pairs(self) -> None:
         status, lines, told = self.run_on("1 00\n2 0f\n3 ff\n004 01\r\n\n5 00", "--within", "1")
         self.assertEqual((status, lines), (0, ["1\t5\t0", "1\t4\t1", "4\t5\t1"]))
-        self.assertIn("3 lines; 5 rows, 0 bad lines. Postings read: ", told)
-        self.assertIn("rows times queries: 25", told)
+        with index(bits=8) as it:
+            it.add_many([(1, 0), (2, 0x0F), (3, 0xFF), (4, 1), (5, 0)])
+            reads = sum(answer.cost.reads for answer in it.range_many([0, 0x0F, 0xFF, 1, 0], 1))
+        self.assertIn(f"3 lines; 5 rows, 0 bad lines. Postings read: {reads}; rows times queries: 25", told)
 
     def test_names(self) -> None:
         status, lines, _ = self.run_on("beach.jpg ffff\na  small beach.jpg fffe\n街.png 0000\n", "--names", "--within", "3")

@@ -14,7 +14,7 @@ use std::test::Fail;
 
 // A line, and what it is read as where codes have 8 bits and there is one shard: the word of the request, its tag, its number
 // and its code. A line without words is nothing.
-static REQUESTS: [(&[u8], &[u8], &[u8], u64, u64); 26] = [
+static REQUESTS: [(&[u8], &[u8], &[u8], u64, u64); 29] = [
     (b"", b"", b"", 0, 0),
     (b"   ", b"", b"", 0, 0),
     (b"add 1 00", b"add", b"", 1, 0x00),
@@ -35,6 +35,9 @@ static REQUESTS: [(&[u8], &[u8], &[u8], u64, u64); 26] = [
         1,
         0x00,
     ),
+    (b"near a 1 80", b"near", b"a", 1, 0x80),
+    (b" near  Zz09  1048576 01", b"near", b"Zz09", 1_048_576, 0x01),
+    (b"near a 0000009 0F", b"near", b"a", 9, 0x0f),
     (b"next a 1", b"next", b"a", 1, 0),
     (b"next 9 00002", b"next", b"9", 2, 0),
     (b"next a 65536", b"next", b"a", 65536, 0),
@@ -50,7 +53,7 @@ static REQUESTS: [(&[u8], &[u8], &[u8], u64, u64); 26] = [
 ];
 
 // A line that is no request there, the number of its first fault, and the place of the word at fault.
-static FAULTS: [(&[u8], u8, u8); 55] = [
+static FAULTS: [(&[u8], u8, u8); 63] = [
     (b"add\t1 00", 2, 0),
     (b"\x1f", 2, 0),
     (b"jump \x7f", 2, 0),
@@ -61,6 +64,7 @@ static FAULTS: [(&[u8], u8, u8); 55] = [
     (b"QUIT", 3, 0),
     (b"quits", 3, 0),
     (b"Del 1", 3, 0),
+    (b"nearest a 1 00", 3, 0),
     (b"delete 1", 3, 0),
     (b"1 add 00", 3, 0),
     (b"add", 4, 0),
@@ -74,6 +78,8 @@ static FAULTS: [(&[u8], u8, u8); 55] = [
     (b"cancel a b", 4, 0),
     (b"range a 1", 4, 0),
     (b"range a 1 00 00", 4, 0),
+    (b"near a 1", 4, 0),
+    (b"near a 1 00 00", 4, 0),
     (b"next a", 4, 0),
     (b"next a 1 1", 4, 0),
     (b"cost", 4, 0),
@@ -96,6 +102,11 @@ static FAULTS: [(&[u8], u8, u8); 55] = [
     (b"range a 9 0g", 5, 3),
     (b"range a 0001 00", 5, 3),
     (b"range a 1 0", 5, 4),
+    (b"near a_b 0 00", 5, 2),
+    (b"near a 0 0g", 5, 3),
+    (b"near a 1048577 00", 5, 3),
+    (b"near a 00000001 00", 5, 3),
+    (b"near a 1 0", 5, 4),
     (b"next a 0", 5, 3),
     (b"next a 65537", 5, 3),
     (b"cost a_b", 5, 2),
@@ -117,6 +128,9 @@ fn told(read: &Option<Request<1>>) -> (&[u8], &[u8], u64, u64) {
         Some(Request::Get { key }) => (b"get", b"", *key, 0),
         Some(Request::Range { tag, tau, code }) => {
             (b"range", tag.bytes(), u64::from(*tau), code.words()[0])
+        }
+        Some(Request::Near { tag, k, code }) => {
+            (b"near", tag.bytes(), u64::from(*k), code.words()[0])
         }
         Some(Request::Next { tag, n }) => (b"next", tag.bytes(), u64::from(*n), 0),
         Some(Request::Cost { tag }) => (b"cost", tag.bytes(), 0, 0),

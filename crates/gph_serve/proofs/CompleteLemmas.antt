@@ -10,34 +10,32 @@ use Rattle.part_layout.specs.declared.config.Config.{Config}
 use Rattle.gph_serve.specs.declared.outcome.Outcome.{Outcome}
 use Rattle.gph_serve.specs.declared.outcome.Outcome.TheVariants.{Done, Usage, NoMemory}
 use Rattle.gph_serve.specs.declared.outcome.Outcome.TheVariants.{ReadFault, WriteFault, InputLimit}
-use Rattle.session_model.specs.Ledger.{Ledgers, Rise}
+use Rattle.session_model.specs.Ledger.{Rise}
 use Rattle.session_model.specs.Run.{IsRunAlone, has_quit}
-use Rattle.session_model.specs.Outcomes.{Ends, EndsWith, ends, Untouched, IsWithin}
+use Rattle.session_model.specs.Outside.{Call, Untouched}
+use Rattle.session_model.specs.Outcomes.{EndsWith, IsWithin, IsInputLimit}
 use Rattle.gph_serve.specs.TopCall.{IsDoneOrNoMemory, IsUnread}
-use Rattle.session_model.specs.Outcomes.{IsInputLimit}
 use Rattle.gph_serve.specs.TopCall.{ForConfig, IsComplete}
 use Rattle.gph_serve.specs.TopCall.{ServedAs}
 
 -- ---- what the words asked for
 
 -- an ending, for what the words asked for
-pub for_config : (P : Config → Ends → Ends → Ends → Ends → Rise → Type 0) (asked : Result Config ℕ)
-    (config : Config) (source source' sink sink' : Ends) (old new : Ledgers) → Ok config ≡ asked
-    → EndsWith (P config) source source' sink sink' old new
-    → ForConfig P asked source source' sink sink' old new
-for_config P asked config source source' sink sink' old new is h =
-    (config, sym is, h)
+pub for_config : (outcome expected : Outcome) (P : Config → Call → Rise → Type 0) (asked : Result Config ℕ)
+    (config : Config) (it : Call) → outcome ≡ expected → Ok config ≡ asked → ServedAs outcome config it
+    → (ServedAs expected config it → EndsWith (P config) it) → ForConfig P asked it
+for_config outcome expected P asked config it is words served ends =
+    (config, sym words, ends (subst (λ o. ServedAs o config it) is served))
 
 -- a session that was served has read
-pub nothing_unread : (outcome : Outcome) (config : Config) (source source' sink sink' : Ends)
-    (old new : Ledgers) → ServedAs outcome config source source' sink sink' old new → IsUnread outcome
-    → Untouched source source' sink sink' old new
-nothing_unread Done config source source' sink sink' old new served unread = absurd unread
-nothing_unread (Usage word) config source source' sink sink' old new served unread = absurd served
-nothing_unread ReadFault config source source' sink sink' old new served unread = absurd unread
-nothing_unread WriteFault config source source' sink sink' old new served unread = absurd unread
-nothing_unread NoMemory config source source' sink sink' old new served unread = served
-nothing_unread InputLimit config source source' sink sink' old new served unread = absurd unread
+pub nothing_unread : (outcome : Outcome) (config : Config) (it : Call) → ServedAs outcome config it
+    → IsUnread outcome → Untouched it
+nothing_unread Done config it served unread = absurd unread
+nothing_unread (Usage word) config it served unread = absurd served
+nothing_unread ReadFault config it served unread = absurd unread
+nothing_unread WriteFault config it served unread = absurd unread
+nothing_unread NoMemory config it served unread = served
+nothing_unread InputLimit config it served unread = absurd unread
 
 -- ---- no input within the limit is turned away
 
@@ -57,48 +55,42 @@ front_taken input (Some rest) bytes past taken = (
       ∙ take_at bytes (past ∷ rest) (length bytes) refl,
 )
 
-not_within : (config : Config) (input : List ℕ) (source' sink sink' : Ends) (faults : ℕ) (rise : Rise)
-    → IsInputLimit IsRunAlone config (ends (Some input) faults) source' sink sink' rise
-    → IsWithin config input → ⊥
-not_within config input source' sink sink' faults rise reached (inl short) =
-    let front = front_taken input source'.bytes reached.bytes reached.past reached.read in
-    let long : length reached.bytes < length input = front.0 in
-    let full : length reached.bytes ≡ config.input = reached.full in
-    let never : suc (length input) ≤ length input = omega (arith, short) in
+-- an input of which more than the limit was taken, and no line of the front of it ends the session
+past_limit : (config : Config) (input bytes : List ℕ) → length bytes ≡ config.input
+    → has_quit config (lines bytes false) ≡ false
+    → (length bytes < length input) × (take (length bytes) input ≡ bytes) → IsWithin config input → ⊥
+past_limit config input bytes full goes front (inl short) =
+    let never : suc (length input) ≤ length input = omega (arith, short, front.0, full) in
     absurd (omega (arith, never))
-not_within config input source' sink sink' faults rise reached (inr quits) =
-    let front = front_taken input source'.bytes reached.bytes reached.past reached.read in
-    let same : take config.input input ≡ reached.bytes =
-    ap (λ n. take n input) (sym reached.full) ∙ front.1 in
-    let never : true ≡ false =
-    sym quits ∙ ap (λ b. has_quit config (lines b false)) same ∙ reached.goes_on in
+past_limit config input bytes full goes front (inr quits) =
+    let same : take config.input input ≡ bytes = ap (λ n. take n input) (sym full) ∙ front.1 in
+    let never : true ≡ false = sym quits ∙ ap (λ b. has_quit config (lines b false)) same ∙ goes in
     cc
 
-pub is_complete : (outcome : Outcome) (config : Config) (input : List ℕ) (faults : ℕ)
-    (source' sink sink' : Ends) (old new : Ledgers)
-    → ServedAs outcome config (ends (Some input) faults) source' sink sink' old new
-    → IsWithin config input → ¬ Rose faults source'.faults → ¬ Rose sink.faults sink'.faults
-    → IsDoneOrNoMemory outcome
-is_complete Done config input faults source' sink sink' old new served within read wrote = inl refl
-is_complete (Usage word) config input faults source' sink sink' old new served within read wrote =
-    absurd served
-is_complete ReadFault config input faults source' sink sink' old new served within read wrote =
-    absurd (read served.ended.rose)
-is_complete WriteFault config input faults source' sink sink' old new served within read wrote =
-    absurd (wrote served.ended.rose)
-is_complete NoMemory config input faults source' sink sink' old new served within read wrote = inr refl
-is_complete InputLimit config input faults source' sink sink' old new served within read wrote =
-    absurd (not_within config input source' sink sink' faults served.rise served.ended within)
+not_within : (config : Config) (input : List ℕ) (it : Call) (rise : Rise) → it.before.source.bytes ≡ Some input
+    → IsInputLimit IsRunAlone config it rise → IsWithin config input → ⊥
+not_within config input it rise told reached within =
+    let left' = it.after.source.bytes in
+    let front = front_taken input left' reached.bytes reached.past
+    (subst (λ left. Consumes left left' (reached.bytes ++ reached.past ∷ [])) told reached.read) in
+    past_limit config input reached.bytes reached.full reached.goes_on front within
 
-pub complete_as : (outcome : Outcome) (asked : Result Config ℕ) (config : Config)
-    (left : Option (List ℕ)) (faults : ℕ) (source' sink sink' : Ends) (old new : Ledgers)
-    → Ok config ≡ asked → ServedAs outcome config (ends left faults) source' sink sink' old new
-    → IsComplete outcome asked (ends left faults) source' sink sink'
-complete_as outcome asked config left faults source' sink sink' old new is served =
+pub is_complete : (outcome : Outcome) (config : Config) (input : List ℕ) (it : Call)
+    → it.before.source.bytes ≡ Some input → ServedAs outcome config it → IsWithin config input
+    → ¬ Rose it.before.source.faults it.after.source.faults → ¬ Rose it.before.sink.faults it.after.sink.faults
+    → IsDoneOrNoMemory outcome
+is_complete Done config input it told served within read wrote = inl refl
+is_complete (Usage word) config input it told served within read wrote = absurd served
+is_complete ReadFault config input it told served within read wrote = absurd (read served.ended.rose)
+is_complete WriteFault config input it told served within read wrote = absurd (wrote served.ended.rose)
+is_complete NoMemory config input it told served within read wrote = inr refl
+is_complete InputLimit config input it told served within read wrote =
+    absurd (not_within config input it served.rise told served.ended within)
+
+pub complete_as : (outcome : Outcome) (asked : Result Config ℕ) (config : Config) (it : Call)
+    → Ok config ≡ asked → ServedAs outcome config it → IsComplete outcome asked it
+complete_as outcome asked config it is served =
     λ config' input words told within read wrote.
     let both : Ok config ≡ Ok config' = is ∙ words in
     let same : config ≡ config' = cc in
-    is_complete outcome config' input faults source' sink sink' old new
-    (subst (λ c. ServedAs outcome c (ends (Some input) faults) source' sink sink' old new) same
-    (subst (λ l. ServedAs outcome config (ends l faults) source' sink sink' old new) told served))
-    within read wrote
+    is_complete outcome config' input it told (subst (λ c. ServedAs outcome c it) same served) within read wrote

@@ -1,13 +1,13 @@
 -- What the top call has read, written and counted, for what its words ask.
-use Rattle.std.specs.Prelude.{◌≡◌, ℕ, ◌-◌, ◌⊎◌, Some, Result, Ok}
-use Rattle.std.specs.Prelude.{List}
+use Rattle.std.specs.Prelude.{◌≡◌, ℕ, ◌⊎◌, Some, Result, Ok, List}
 use Rattle.part_layout.specs.declared.config.Config.{Config}
 use Rattle.line_io.specs.Faults.{Rose}
 use Rattle.gph_serve.specs.declared.outcome.Outcome.{Outcome}
 use Rattle.gph_serve.specs.declared.outcome.Outcome.TheVariants.{Done, Usage, NoMemory}
-use Rattle.session_model.specs.Ledger.{Ledgers, Rise}
+use Rattle.session_model.specs.Ledger.{Rise}
 use Rattle.session_model.specs.Run.{IsRunAlone}
-use Rattle.session_model.specs.Outcomes.{Ends, EndsWith, Untouched, IsWithin}
+use Rattle.session_model.specs.Outside.{Call, Untouched}
+use Rattle.session_model.specs.Outcomes.{EndsWith, IsWithin}
 use Rattle.session_model.specs.Outcomes.{IsDone, IsReadFault, IsWriteFault, IsInputLimit}
 use Rattle.gph_serve.specs.declared.outcome.Outcome.TheVariants as outcome
 
@@ -16,17 +16,15 @@ abbrev pub IsDoneOrNoMemory : Outcome → Type 0
 IsDoneOrNoMemory outcome = (outcome ≡ Done) ⊎ (outcome ≡ NoMemory)
 
 -- an ending, for what the words asked for
-abbrev pub ForConfig : (Config → Ends → Ends → Ends → Ends → Rise → Type 0) → Result Config ℕ
-    → Ends → Ends → Ends → Ends → Ledgers → Ledgers → Type 0
-ForConfig P asked source source' sink sink' old new =
-    (config : Config) × (asked ≡ Ok config) × EndsWith (P config) source source' sink sink' old new
+abbrev pub ForConfig : (Config → Call → Rise → Type 0) → Result Config ℕ → Call → Type 0
+ForConfig P asked it = (config : Config) × (asked ≡ Ok config) × EndsWith (P config) it
 
 -- within the limit and with no fault the call ends well, if memory doesn't lack
-abbrev pub IsComplete : Outcome → Result Config ℕ → Ends → Ends → Ends → Ends → Type 0
-IsComplete outcome asked source source' sink sink' =
-    (config : Config) (input : List ℕ) → asked ≡ Ok config → source.bytes ≡ Some input
-    → IsWithin config input → ¬ Rose source.faults source'.faults → ¬ Rose sink.faults sink'.faults
-    → IsDoneOrNoMemory outcome
+abbrev pub IsComplete : Outcome → Result Config ℕ → Call → Type 0
+IsComplete outcome asked it =
+    (config : Config) (input : List ℕ) → asked ≡ Ok config → it.before.source.bytes ≡ Some input
+    → IsWithin config input → ¬ Rose it.before.source.faults it.after.source.faults
+    → ¬ Rose it.before.sink.faults it.after.sink.faults → IsDoneOrNoMemory outcome
 
 -- the outcomes that come before the first read
 abbrev pub IsUnread : Outcome → Type 0
@@ -35,10 +33,10 @@ IsUnread NoMemory = Unit {0}
 IsUnread outcome = ⊥
 
 -- what the whole call has read, written and counted, by its outcome; no public clause cites this
-abbrev pub ServedAs : Outcome → Config → Ends → Ends → Ends → Ends → Ledgers → Ledgers → Type 0
+abbrev pub ServedAs : Outcome → Config → Call → Type 0
 ServedAs outcome.Done config = EndsWith (IsDone IsRunAlone config)
 ServedAs outcome.ReadFault config = EndsWith (IsReadFault IsRunAlone config)
 ServedAs outcome.WriteFault config = EndsWith (IsWriteFault IsRunAlone config)
 ServedAs outcome.InputLimit config = EndsWith (IsInputLimit IsRunAlone config)
-ServedAs (outcome.Usage word) config = λ source source' sink sink' old new. ⊥
+ServedAs (outcome.Usage word) config = λ it. ⊥
 ServedAs outcome.NoMemory config = Untouched

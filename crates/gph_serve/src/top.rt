@@ -2,16 +2,16 @@
 
 ghost use Rattle.std.specs.Prelude.{◌≡◌, ℕ, ◌↔◌, ◌≤◌, map, string_bytes, Err, true};
 ghost use Rattle.std.specs.Thread.{IsSync};
+ghost use Rattle.hamming_model.specs.declared.limits.TheConstants.{WORDS_MOST};
 ghost use Rattle.gph_codes.specs.Allowed.{IsAllowed};
 ghost use Rattle.part_layout.specs.Ranges.{IsConfig};
 ghost use Rattle.command_line.specs.CommandWords.{asked};
-ghost use Rattle.session_model.specs.Ledger.{ledgers};
 ghost use Rattle.session_model.specs.Run.{IsRunAlone};
-ghost use Rattle.session_model.specs.Outcomes.{Untouched, IsDone, IsReadFault, IsWriteFault};
+ghost use Rattle.session_model.specs.Outside.{Untouched};
+ghost use Rattle.session_model.specs.Outcomes.{IsDone, IsReadFault, IsWriteFault};
+ghost use Rattle.session_model.specs.Outside.{call};
 ghost use Rattle.session_model.specs.Outcomes.{IsInputLimit};
-ghost use Rattle.gph_serve.specs.TopCall.{ForConfig, IsComplete, IsUnread};
-ghost use Rattle.session_model.specs.Outcomes.{ends};
-ghost use Rattle.gph_serve.specs.TopCall.{ServedAs};
+ghost use Rattle.gph_serve.specs.TopCall.{ForConfig, IsComplete, IsUnread, ServedAs};
 
 use crate::outcome::Outcome;
 use command_line::read_words;
@@ -44,41 +44,25 @@ pub fn run<S: Source, K: Sink, R: Threads + Sync, G: Gate, L: Send, M>(
     // Words that ask for nothing, and want of memory, are told before the first read.
     ensures usage { (word : ℕ) →
         (asked (map string_bytes words.now) ≡ Err word) ↔ (result ≡ Outcome.Usage word) }
-    ensures unread { IsUnread result → Untouched
-        (ends (S.left source.old) (S.faults source.old))
-        (ends (S.left source.new) (S.faults source.new))
-        (ends (K.held sink.old) (K.faults sink.old)) (ends (K.held sink.new) (K.faults sink.new))
-        (ledgers meters.old upkeep.old) (ledgers meters.new upkeep.new) }
+    ensures unread { IsUnread result → Untouched (call S.left S.faults K.held K.faults
+        source.old source.new sink.old sink.new meters.old meters.new upkeep.old upkeep.new) }
     // What was read, written and counted, by each other outcome, with its cause.
-    ensures done { result ≡ Outcome.Done →
-        ForConfig (IsDone IsRunAlone) (asked (map string_bytes words.now))
-        (ends (S.left source.old) (S.faults source.old))
-        (ends (S.left source.new) (S.faults source.new))
-        (ends (K.held sink.old) (K.faults sink.old)) (ends (K.held sink.new) (K.faults sink.new))
-        (ledgers meters.old upkeep.old) (ledgers meters.new upkeep.new) }
-    ensures read_fault { result ≡ Outcome.ReadFault →
-        ForConfig (IsReadFault IsRunAlone) (asked (map string_bytes words.now))
-        (ends (S.left source.old) (S.faults source.old))
-        (ends (S.left source.new) (S.faults source.new))
-        (ends (K.held sink.old) (K.faults sink.old)) (ends (K.held sink.new) (K.faults sink.new))
-        (ledgers meters.old upkeep.old) (ledgers meters.new upkeep.new) }
-    ensures write_fault { result ≡ Outcome.WriteFault →
-        ForConfig (IsWriteFault IsRunAlone) (asked (map string_bytes words.now))
-        (ends (S.left source.old) (S.faults source.old))
-        (ends (S.left source.new) (S.faults source.new))
-        (ends (K.held sink.old) (K.faults sink.old)) (ends (K.held sink.new) (K.faults sink.new))
-        (ledgers meters.old upkeep.old) (ledgers meters.new upkeep.new) }
-    ensures input_limit { result ≡ Outcome.InputLimit →
-        ForConfig (IsInputLimit IsRunAlone) (asked (map string_bytes words.now))
-        (ends (S.left source.old) (S.faults source.old))
-        (ends (S.left source.new) (S.faults source.new))
-        (ends (K.held sink.old) (K.faults sink.old)) (ends (K.held sink.new) (K.faults sink.new))
-        (ledgers meters.old upkeep.old) (ledgers meters.new upkeep.new) }
+    ensures done { result ≡ Outcome.Done → ForConfig (IsDone IsRunAlone)
+        (asked (map string_bytes words.now)) (call S.left S.faults K.held K.faults source.old
+        source.new sink.old sink.new meters.old meters.new upkeep.old upkeep.new) }
+    ensures read_fault { result ≡ Outcome.ReadFault → ForConfig (IsReadFault IsRunAlone)
+        (asked (map string_bytes words.now)) (call S.left S.faults K.held K.faults source.old
+        source.new sink.old sink.new meters.old meters.new upkeep.old upkeep.new) }
+    ensures write_fault { result ≡ Outcome.WriteFault → ForConfig (IsWriteFault IsRunAlone)
+        (asked (map string_bytes words.now)) (call S.left S.faults K.held K.faults source.old
+        source.new sink.old sink.new meters.old meters.new upkeep.old upkeep.new) }
+    ensures input_limit { result ≡ Outcome.InputLimit → ForConfig (IsInputLimit IsRunAlone)
+        (asked (map string_bytes words.now)) (call S.left S.faults K.held K.faults source.old
+        source.new sink.old sink.new meters.old meters.new upkeep.old upkeep.new) }
     // No input within the limit is turned away, unless a fault rose or memory lacked.
-    ensures complete { IsComplete result (asked (map string_bytes words.now))
-        (ends (S.left source.old) (S.faults source.old))
-        (ends (S.left source.new) (S.faults source.new))
-        (ends (K.held sink.old) (K.faults sink.old)) (ends (K.held sink.new) (K.faults sink.new)) }
+    ensures complete { IsComplete result (asked (map string_bytes words.now)) (call S.left S.faults
+        K.held K.faults source.old source.new sink.old sink.new
+        meters.old meters.new upkeep.old upkeep.new) }
 {
     match read_words(words) {
         Ok(config) => serve_any(rt, alloc, &config, source, sink, gate, upkeep, meters),
@@ -99,11 +83,8 @@ fn serve_any<S: Source, K: Sink, R: Threads + Sync, G: Gate, L: Send, M>(
 ) -> Outcome
     requires sync { IsSync R.row }
     requires config { IsConfig config.now }
-    ensures { ServedAs result config.now
-        (ends (S.left source.old) (S.faults source.old))
-        (ends (S.left source.new) (S.faults source.new))
-        (ends (K.held sink.old) (K.faults sink.old)) (ends (K.held sink.new) (K.faults sink.new))
-        (ledgers meters.old upkeep.old) (ledgers meters.new upkeep.new) }
+    ensures { ServedAs result config.now (call S.left S.faults K.held K.faults
+        source.old source.new sink.old sink.new meters.old meters.new upkeep.old upkeep.new) }
 {
     for_width!(config.bits, serve_width<_, _, _, _, _, _>, rt, alloc, config, source, sink, gate, upkeep, meters)
 }
@@ -120,14 +101,11 @@ fn serve_width<const W: usize, S: Source, K: Sink, R: Threads + Sync, G: Gate, L
     meters: &mut Meters<L>,
 ) -> Outcome
     requires sync { IsSync R.row }
-    requires few_words { W ≤ 8 }
+    requires few_words { W ≤ WORDS_MOST }
     requires allowed { IsAllowed W config.now.bits }
     requires config { IsConfig config.now }
-    ensures { ServedAs result config.now
-        (ends (S.left source.old) (S.faults source.old))
-        (ends (S.left source.new) (S.faults source.new))
-        (ends (K.held sink.old) (K.faults sink.old)) (ends (K.held sink.new) (K.faults sink.new))
-        (ledgers meters.old upkeep.old) (ledgers meters.new upkeep.new) }
+    ensures { ServedAs result config.now (call S.left S.faults K.held K.faults
+        source.old source.new sink.old sink.new meters.old meters.new upkeep.old upkeep.new) }
 {
     let Ok(mut desk) = SoloDesk::<W>::new(alloc, config) else {
         return Outcome::NoMemory;

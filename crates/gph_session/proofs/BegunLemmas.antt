@@ -12,7 +12,7 @@ use Rattle.session_desk.specs.Desks.{DeskState, IsDesk, ShardPlace, no_place}
 use Rattle.session_desk.specs.Desks.{seen_history}
 use Rattle.session_model.specs.Step.{AreLayouts}
 use Rattle.session_model.specs.Ledger.{Ledgers}
-use Rattle.session_model.specs.Outcomes.{Ends, ends}
+use Rattle.session_model.specs.Outside.{Call}
 use Rattle.gph_session.specs.Sessions.{state_of}
 use Rattle.session_step.specs.KeptDesk.{layouts_of}
 use Rattle.session_step.specs.Moments.{Moment}
@@ -89,9 +89,8 @@ is_ready words config desk is same = subst (IsReady words) same (record {
 
 -- the ending by the status, over the desk as it was
 pub ended_as : (status expected : Status) → status ≡ expected → (config : Config) (desk before desk' : DeskState)
-    (requests position : ℕ) (source source' sink sink' : Ends) (old new : Ledgers) → desk ≡ before
-    → EndsAs status config desk desk' requests position source source' sink sink' old new
-    → EndsAs expected config before desk' requests position source source' sink sink' old new
-ended_as status expected is config desk before desk' requests position source source' sink sink' old new same ends =
-    subst (λ d. EndsAs expected config d desk' requests position source source' sink sink' old new) same
-    (subst (λ s. EndsAs s config desk desk' requests position source source' sink sink' old new) is ends)
+    (requests position : ℕ) (it : Call) → desk ≡ before → EndsAs status config desk desk' requests position it
+    → EndsAs expected config before desk' requests position it
+ended_as status expected is config desk before desk' requests position it same ends =
+    subst (λ d. EndsAs expected config d desk' requests position it) same
+    (subst (λ s. EndsAs s config desk desk' requests position it) is ends)

@@ -20,9 +20,11 @@ use Rattle.session_model.specs.Run.{before_quit}
 use Rattle.session_step.specs.declared.turn.Turn.{Turn}
 use Rattle.session_step.specs.declared.turn.Turn.TheVariants.{Goes, Quits}
 use Rattle.session_step.specs.Moments.{Moment}
-use Rattle.gph_session.specs.Flow.{Start, GoesOn, HasServed, HasEnded, WasRefused}
+use Rattle.gph_session.specs.Flow.{Start, GoesOn}
+use Rattle.gph_session.specs.Pieces.{HasServed, HasEnded, WasRefused}
 use Rattle.session_step.specs.Answering.{Stands}
-use Rattle.gph_session.specs.Flow.{FlowIs, FlowsOn, EndIs, history_after}
+use Rattle.gph_session.specs.Flow.{history_after}
+use Rattle.gph_session.specs.Pieces.{FlowIs, FlowsOn, EndIs}
 use Rattle.session_step.specs.Answering.{TurnIs, AnswersAs}
 use Rattle.gph_session.proofs.FlowLemmas.{served_so_far, all_before_quit, goes_line, served_last, stands_here}
 use Rattle.gph_session.proofs.FlowLemmas.{refused_line, ended_line, goes_bytes, refused_more, ended_more}

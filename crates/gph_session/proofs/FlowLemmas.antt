@@ -32,7 +32,8 @@ use Rattle.session_step.specs.KeptDesk.{KeepsDesk, pins_of}
 use Rattle.session_step.specs.Moments.{Moment, ReadsTo, Spends}
 use Rattle.session_step.specs.Meaning.{Means, IsSettled, AllKeep}
 use Rattle.session_step.specs.Answering.{OneLine}
-use Rattle.gph_session.specs.Flow.{Start, HasRun, GoesOn, HasServed, HasEnded, WasRefused}
+use Rattle.gph_session.specs.Flow.{Start, HasRun, GoesOn}
+use Rattle.gph_session.specs.Pieces.{HasServed, HasEnded, WasRefused}
 use Rattle.session_step.specs.Answering.{Stands, requests_with}
 use Rattle.gph_session.specs.Flow.{history_after}
 use Rattle.session_step.proofs.MomentLemmas.{reads_then, spends_then, vain_more, as_long}

@@ -13,17 +13,19 @@ use Rattle.part_layout.specs.declared.config.Config.{Config}
 use Rattle.session_desk.specs.Desks.{DeskState}
 use Rattle.session_model.specs.declared.limits.TheConstants.{BLOCK_MOST}
 use Rattle.session_model.specs.Entries.{Exchange}
-use Rattle.session_model.specs.Ledger.{Ledgers, Rise}
+use Rattle.session_model.specs.Ledger.{Rise}
 use Rattle.session_model.specs.Run.{AnswersLines, has_quit}
-use Rattle.session_model.specs.Outcomes.{Ends, EndsWith, Transfers, before_last}
+use Rattle.session_model.specs.Outside.{Call, Ends, Transfers}
+use Rattle.session_model.specs.Outcomes.{EndsWith, before_last}
 use Rattle.session_model.specs.Outcomes.{IsDone, IsReadFault, IsWriteFault, IsInputLimit}
 use Rattle.session_model.proofs.RunLemmas.{before_more, no_quit_in_front}
 use Rattle.session_step.specs.declared.turn.Turn.{Turn}
 use Rattle.session_step.specs.declared.turn.Turn.TheVariants.{Goes, Quits}
 use Rattle.gph_session.specs.Sessions.{IsServed}
 use Rattle.session_step.specs.Moments.{Moment}
-use Rattle.gph_session.specs.Flow.{Start, GoesOn, FlowIs, FlowsOn, EndIs, EndsOn}
-use Rattle.gph_session.specs.Flow.{HasEnded, HasServed, WasRefused}
+use Rattle.gph_session.specs.Flow.{Start, GoesOn}
+use Rattle.gph_session.specs.Pieces.{FlowIs, FlowsOn, EndIs, EndsOn}
+use Rattle.gph_session.specs.Pieces.{HasEnded, HasServed, WasRefused}
 use Rattle.gph_session.specs.Serving.{Serves}
 use Rattle.gph_session.proofs.FlowLemmas.{served_so_far, goes_on}
 use Rattle.gph_session.proofs.BlockLemmas.{no_fewer_lines}
@@ -74,11 +76,11 @@ pub record HasRead (before after : Option (List ℕ)) (taken limit : ℕ) (piece
   pub fits : taken + length piece ≤ limit
 
 -- what a read left in front of its room
-pub has_read : (before after : Option (List ℕ)) (taken limit count : ℕ) (room rest : List ℕ)
+pub has_read : {before after : Option (List ℕ)} {taken limit : ℕ} (count : ℕ) (room rest : List ℕ)
     → count ≤ length room → length room ≤ BLOCK_MOST → taken + length room ≤ limit
     → Consumes before after (take count room)
     → HasRead before after taken limit (take count (room ++ rest))
-has_read before after taken limit count room rest within few fits read =
+has_read {before} {after} count room rest within few fits read =
     let same : take count (room ++ rest) ≡ take count room = take-append-le count room rest within in
     let short : length (take count room) ≤ length room = omega (arith, length-take count room, within) in
     record {
@@ -94,9 +96,16 @@ length_read count room rest within =
 
 -- ---- the loop
 
-module _ {W : ℕ} (config : Config) (start : Start) (old : Moment W) (taken : ℕ)
-    (source0 sink0 source1 sink1 : Ends) (begun : Option (List ℕ))
+module _ {W : ℕ} {config : Config} {start : Start} {old : Moment W} {taken : ℕ}
+    {source0 source1 sink0 sink1 : Ends} {begun : Option (List ℕ)}
     (serves : Serves config start old taken source0 source1 sink0 sink1 begun) where
+  -- the call up to a moment
+  abbrev up_to : Ends → Ends → Moment W → Call
+  up_to source sink now = record {
+    before = record { source = source0; sink = sink0; ledgers = start.ledgers };
+    after = record { source = source; sink = sink; ledgers = now.ledgers };
+  }
+
   -- what makes a session of exchanges that end at a moment
   abbrev Served : Moment W → Config → List Exchange → Rise → Type 0
   Served now = IsServed start.desk now.desk now.requests now.position
@@ -108,10 +117,10 @@ module _ {W : ℕ} (config : Config) (start : Start) (old : Moment W) (taken : �
   goes : has_quit config (ended_lines [] serves.bytes) ≡ false
   goes = goes_on config start old serves.bytes serves.output begun serves.goes
 
-  pub read_fault : (source2 : Ends) → Keeps source1.bytes source2.bytes
+  pub read_fault : {source2 : Ends} → Keeps source1.bytes source2.bytes
       → Rose source1.faults source2.faults
-      → EndsWith (IsReadFault (Served old) config) source0 source2 sink0 sink1 start.ledgers old.ledgers
-  read_fault source2 keeps rose = record {
+      → EndsWith (IsReadFault (Served old) config) (up_to source2 sink1 old)
+  read_fault {source2} keeps rose = record {
     rise = served.rise;
     rises = served.rises;
     ended = record {
@@ -129,10 +138,10 @@ module _ {W : ℕ} (config : Config) (start : Start) (old : Moment W) (taken : �
     };
   }
 
-  pub limit_reached : (source2 : Ends) (past : ℕ) → Consumes source1.bytes source2.bytes (past ∷ [])
+  pub limit_reached : {source2 : Ends} (past : ℕ) → Consumes source1.bytes source2.bytes (past ∷ [])
       → source2.faults ≡ source1.faults → taken ≡ config.input
-      → EndsWith (IsInputLimit (Served old) config) source0 source2 sink0 sink1 start.ledgers old.ledgers
-  limit_reached source2 past more steady full = record {
+      → EndsWith (IsInputLimit (Served old) config) (up_to source2 sink1 old)
+  limit_reached {source2} past more steady full = record {
     rise = served.rise;
     rises = served.rises;
     ended = record {
@@ -159,7 +168,7 @@ module _ {W : ℕ} (config : Config) (start : Start) (old : Moment W) (taken : �
             × EndIs result config start new serves.bytes (serves.output ++ more)
         ends = flows start serves.bytes serves.output serves.goes
 
-        moved_all : Transfers config.input source0 source2 sink0 sink2 serves.bytes (serves.output ++ ends.0)
+        moved_all : Transfers config.input (up_to source2 sink2 new) serves.bytes (serves.output ++ ends.0)
         moved_all = record {
           read = subst (Consumes source0.bytes source2.bytes) (append-nil serves.bytes)
               (Consumes-trans source0.bytes source1.bytes source2.bytes serves.bytes [] serves.read none);
@@ -167,9 +176,9 @@ module _ {W : ℕ} (config : Config) (start : Start) (old : Moment W) (taken : �
           wrote = Appends-trans sink0.bytes sink1.bytes sink2.bytes serves.output ends.0 serves.wrote ends.1;
         }
 
-        pub done_at_end : (turn : Turn) → result ≡ Ok turn → sink2.faults ≡ sink1.faults
-            → EndsWith (IsDone (Served new) config) source0 source2 sink0 sink2 start.ledgers new.ledgers
-        done_at_end turn is steady =
+        pub done_at_end : {turn : Turn} → result ≡ Ok turn → sink2.faults ≡ sink1.faults
+            → EndsWith (IsDone (Served new) config) (up_to source2 sink2 new)
+        done_at_end {turn} is steady =
             let last = subst (λ r. EndIs r config start new serves.bytes (serves.output ++ ends.0)) is ends.2 in
             record {
               rise = last.rise;
@@ -187,9 +196,9 @@ module _ {W : ℕ} (config : Config) (start : Start) (old : Moment W) (taken : �
               };
             }
 
-        pub refused_at_end : (failed : Failed) → result ≡ Err failed → Rose sink1.faults sink2.faults
-            → EndsWith (IsWriteFault (Served new) config) source0 source2 sink0 sink2 start.ledgers new.ledgers
-        refused_at_end failed is rose =
+        pub refused_at_end : {failed : Failed} → result ≡ Err failed → Rose sink1.faults sink2.faults
+            → EndsWith (IsWriteFault (Served new) config) (up_to source2 sink2 new)
+        refused_at_end {failed} is rose =
             let last = subst (λ r. EndIs r config start new serves.bytes (serves.output ++ ends.0)) is ends.2 in
             let few = subst (λ l. length (ended_lines [] (before_last l)) ≤ length (ended_lines [] serves.bytes))
             (append-nil serves.bytes) (no_more_before serves.bytes [] (omega arith)) in
@@ -211,7 +220,7 @@ module _ {W : ℕ} (config : Config) (start : Start) (old : Moment W) (taken : �
 
     -- ---- one more block
 
-    module _ (piece : List ℕ) (block : HasRead source1.bytes source2.bytes taken config.input piece)
+    module _ {piece : List ℕ} (block : HasRead source1.bytes source2.bytes taken config.input piece)
         (begun' : Option (List ℕ)) (result : Result Turn Failed)
         (leads : FlowsOn result config old new begun begun' piece sink1.bytes sink2.bytes) where
       flows : (more : List ℕ) × Appends sink1.bytes sink2.bytes more
@@ -232,7 +241,7 @@ module _ {W : ℕ} (config : Config) (start : Start) (old : Moment W) (taken : �
       abbrev output : List ℕ
       output = serves.output ++ flows.0
 
-      moved_on : Transfers config.input source0 source2 sink0 sink2 all output
+      moved_on : Transfers config.input (up_to source2 sink2 new) all output
       moved_on = record {
         read = Consumes-trans source0.bytes source1.bytes source2.bytes serves.bytes piece serves.read
             block.read;
@@ -240,22 +249,22 @@ module _ {W : ℕ} (config : Config) (start : Start) (old : Moment W) (taken : �
         wrote = Appends-trans sink0.bytes sink1.bytes sink2.bytes serves.output flows.0 serves.wrote flows.1;
       }
 
-      pub serves_more : result ≡ Ok Goes → sink2.faults ≡ sink1.faults
-          → Serves config start new (taken + length piece) source0 source2 sink0 sink2 begun'
-      serves_more is steady = record {
+      pub serves_more : (count : ℕ) → length piece ≡ count → result ≡ Ok Goes → sink2.faults ≡ sink1.faults
+          → Serves config start new (taken + count) source0 source2 sink0 sink2 begun'
+      serves_more count number is steady = record {
         bytes = all;
         output = output;
         read = moved_on.read;
         wrote = moved_on.wrote;
-        long = omega (arith, length-append serves.bytes piece, serves.long);
-        few = block.fits;
+        long = omega (arith, length-append serves.bytes piece, serves.long, number);
+        few = omega (arith, block.fits, number);
         no_read_failed = no_read_failed ∙ serves.no_read_failed;
         no_write_failed = steady ∙ serves.no_write_failed;
         goes = flowed (Ok Goes) is;
       }
 
       pub done_by_quit : result ≡ Ok Quits → sink2.faults ≡ sink1.faults
-          → EndsWith (IsDone (Served new) config) source0 source2 sink0 sink2 start.ledgers new.ledgers
+          → EndsWith (IsDone (Served new) config) (up_to source2 sink2 new)
       done_by_quit is steady =
           let ended : HasEnded config start new (ended_lines [] all) output = flowed (Ok Quits) is in
           record {
@@ -276,9 +285,9 @@ module _ {W : ℕ} (config : Config) (start : Start) (old : Moment W) (taken : �
             };
           }
 
-      pub refused_in_block : (failed : Failed) → result ≡ Err failed → Rose sink1.faults sink2.faults
-          → EndsWith (IsWriteFault (Served new) config) source0 source2 sink0 sink2 start.ledgers new.ledgers
-      refused_in_block failed is rose =
+      pub refused_in_block : {failed : Failed} → result ≡ Err failed → Rose sink1.faults sink2.faults
+          → EndsWith (IsWriteFault (Served new) config) (up_to source2 sink2 new)
+      refused_in_block {failed} is rose =
           let last : WasRefused config start new (ended_lines [] all) output (length (ended_lines [] serves.bytes)) =
           flowed (Err failed) is in
           record {

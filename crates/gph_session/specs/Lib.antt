@@ -1,3 +1,4 @@
 pub mod Sessions
 pub mod Flow
+pub mod Pieces
 pub mod Serving

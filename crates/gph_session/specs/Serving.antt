@@ -4,8 +4,8 @@ use Rattle.std.specs.Prelude.{◌≡◌, ℕ, ◌≤◌, List, length, Option}
 use Rattle.std.specs.Io.KnownBytes.{Appends, Consumes}
 use Rattle.part_layout.specs.declared.config.Config.{Config}
 use Rattle.session_desk.specs.Desks.{DeskState}
-use Rattle.session_model.specs.Ledger.{Ledgers}
-use Rattle.session_model.specs.Outcomes.{Ends, EndsWith, Untouched}
+use Rattle.session_model.specs.Outside.{Call, Ends}
+use Rattle.session_model.specs.Outcomes.{EndsWith}
 use Rattle.session_model.specs.Outcomes.{IsDone, IsReadFault, IsWriteFault, IsInputLimit}
 use Rattle.gph_session.specs.declared.report.Status.{Status}
 use Rattle.gph_session.specs.declared.report.Status.TheVariants.{Done, ReadFault, WriteFault}
@@ -27,9 +27,8 @@ pub record Serves {W : ℕ} (config : Config) (start : Start) (now : Moment W) (
   pub no_write_failed : sink'.faults ≡ sink.faults
   pub goes : GoesOn config start now bytes output begun
 
--- what a session that was served has read, written and counted, by how it ended
-abbrev pub EndsAs : Status → Config → DeskState → DeskState → ℕ → ℕ → Ends → Ends → Ends → Ends
-    → Ledgers → Ledgers → Type 0
+-- what a session over a desk has read, written and counted, by its status
+abbrev pub EndsAs : Status → Config → DeskState → DeskState → ℕ → ℕ → Call → Type 0
 EndsAs Done config desk desk' requests position =
     EndsWith (IsDone (IsServed desk desk' requests position) config)
 EndsAs ReadFault config desk desk' requests position =
@@ -38,19 +37,4 @@ EndsAs WriteFault config desk desk' requests position =
     EndsWith (IsWriteFault (IsServed desk desk' requests position) config)
 EndsAs InputLimit config desk desk' requests position =
     EndsWith (IsInputLimit (IsServed desk desk' requests position) config)
-EndsAs NoMemory config desk desk' requests position =
-    λ source source' sink sink' old new. ⊥
-
--- the same of a session that may have had no memory to begin with, and had then done nothing
-abbrev pub EndsOrDidNothing : Status → Config → DeskState → DeskState → ℕ → ℕ → Ends → Ends → Ends
-    → Ends → Ledgers → Ledgers → Type 0
-EndsOrDidNothing NoMemory config desk desk' requests position =
-    λ source source' sink sink' old new. Untouched source source' sink sink' old new × (desk' ≡ desk)
-EndsOrDidNothing Done config desk desk' requests position =
-    EndsAs Done config desk desk' requests position
-EndsOrDidNothing ReadFault config desk desk' requests position =
-    EndsAs ReadFault config desk desk' requests position
-EndsOrDidNothing WriteFault config desk desk' requests position =
-    EndsAs WriteFault config desk desk' requests position
-EndsOrDidNothing InputLimit config desk desk' requests position =
-    EndsAs InputLimit config desk desk' requests position
+EndsAs NoMemory config desk desk' requests position = λ it. ⊥

@@ -7,13 +7,16 @@ use Rattle.session_model.specs.State.{State, new_session}
 use Rattle.session_model.specs.Entries.{Exchange}
 use Rattle.session_model.specs.Ledger.{Rise}
 use Rattle.session_model.specs.Run.{IsServedAlone, commits, requests_of}
+use Rattle.session_model.specs.Outside.{Call}
+use Rattle.session_model.specs.Outcomes.{EndsWith}
+use Rattle.gph_session.specs.declared.report.Report.{Report}
 
 -- the state in which a session over a desk that is alone begins
 abbrev pub state_of : DeskState → State
 state_of desk = new_session desk.who (length desk.seen) (layouts_of desk)
 
--- the exchanges are those of a session over a desk that is alone, which leaves it having seen what it
--- committed, and which reports so many requests and this position
+-- the exchanges are those of a session over a desk that is alone, which leaves it having seen what
+-- it committed, and which reports so many requests and this position
 pub record IsServed (old new : DeskState) (requests position : ℕ) (config : Config)
     (exchanges : List Exchange) (rise : Rise) : Type 0 where
   pub served : IsServedAlone config (seen_history old) (state_of old) (pins_of old) exchanges rise
@@ -21,3 +24,10 @@ pub record IsServed (old new : DeskState) (requests position : ℕ) (config : Co
   pub keeps : KeepsDesk old new
   pub requests_are : requests ≡ min (requests_of config exchanges) 18446744073709551615
   pub position_is : position ≡ served.last.position
+
+-- a session over a desk, of which this is the report, ended so, by what it has read, written and
+-- counted
+abbrev pub EndsBy : ((Config → List Exchange → Rise → Type 0) → Config → Call → Rise → Type 0)
+    → Config → Report → DeskState → DeskState → Call → Type 0
+EndsBy Ending config report desk desk' =
+    EndsWith (Ending (IsServed desk desk' report.requests report.position) config)

@@ -4,8 +4,8 @@ ghost use Rattle.std.specs.Prelude.{◌≡◌, ◌<◌, ◌≤◌, length, take,
 ghost use Rattle.std.specs.Thread.{IsSync};
 ghost use Rattle.open_queries.specs.Writing.{IsCaused};
 ghost use Rattle.session_step.specs.Meaning.{IsReady, HaveShards};
-ghost use Rattle.gph_session.specs.Flow.{FlowsOn, EndsOn};
-ghost use Rattle.session_step.specs.Moments.{moment_of};
+ghost use Rattle.gph_session.specs.Pieces.{FlowsBetween, EndsBetween};
+ghost use Rattle.session_step.specs.Moments.{point_of};
 
 use line_io::{Failed, Sink};
 use part_layout::Config;
@@ -42,11 +42,9 @@ pub(crate) fn answer_block<
     requires alone { (D.desk desk.old).alone ≡ true }
     requires config { (D.desk desk.old).config ≡ config.now }
     requires shards { HaveShards config.now.shards session.old.queries }
-    ensures flow { FlowsOn result config.now
-        (moment_of (D.desk desk.old) session.old meters.old upkeep.old)
-        (moment_of (D.desk desk.new) session.new meters.new upkeep.new)
-        session.old.cutter.held session.new.cutter.held block.now
-        (K.held sink.old) (K.held sink.new) }
+    ensures flow { FlowsBetween result config.now block.now
+        (point_of (D.desk desk.old) session.old meters.old upkeep.old (K.held sink.old))
+        (point_of (D.desk desk.new) session.new meters.new upkeep.new (K.held sink.new)) }
     ensures alone { (D.desk desk.new).alone ≡ true }
     ensures config { (D.desk desk.new).config ≡ config.now }
     ensures shards { HaveShards config.now.shards session.new.queries }
@@ -95,11 +93,9 @@ fn answer_line<const W: usize, D: Desk<W>, K: Sink, R: Threads + Sync, G: Gate, 
     requires shards { HaveShards config.now.shards session.old.queries }
     requires some { 0 < length bytes.now }
     ensures progress { (0 < result.0) × (result.0 ≤ length bytes.now) }
-    ensures flow { FlowsOn result.1 config.now
-        (moment_of (D.desk desk.old) session.old meters.old upkeep.old)
-        (moment_of (D.desk desk.new) session.new meters.new upkeep.new)
-        session.old.cutter.held session.new.cutter.held (take result.0 bytes.now)
-        (K.held sink.old) (K.held sink.new) }
+    ensures flow { FlowsBetween result.1 config.now (take result.0 bytes.now)
+        (point_of (D.desk desk.old) session.old meters.old upkeep.old (K.held sink.old))
+        (point_of (D.desk desk.new) session.new meters.new upkeep.new (K.held sink.new)) }
     ensures alone { (D.desk desk.new).alone ≡ true }
     ensures config { (D.desk desk.new).config ≡ config.now }
     ensures shards { HaveShards config.now.shards session.new.queries }
@@ -142,10 +138,9 @@ pub(crate) fn answer_end<
     requires alone { (D.desk desk.old).alone ≡ true }
     requires config { (D.desk desk.old).config ≡ config.now }
     requires shards { HaveShards config.now.shards session.old.queries }
-    ensures flow { EndsOn result config.now
-        (moment_of (D.desk desk.old) session.old meters.old upkeep.old)
-        (moment_of (D.desk desk.new) session.new meters.new upkeep.new)
-        session.old.cutter.held (K.held sink.old) (K.held sink.new) }
+    ensures flow { EndsBetween result config.now
+        (point_of (D.desk desk.old) session.old meters.old upkeep.old (K.held sink.old))
+        (point_of (D.desk desk.new) session.new meters.new upkeep.new (K.held sink.new)) }
     ensures cause { IsCaused (K.faults sink.old) (K.faults sink.new) result }
 {
     match session.cutter.finish() {

@@ -3,8 +3,7 @@
 ghost use Rattle.std.specs.Prelude.{◌≡◌, ◌≤◌, [], length, true};
 ghost use Rattle.std.specs.Thread.{IsSync};
 ghost use Rattle.session_model.specs.declared.limits.TheConstants.{BLOCK_MOST};
-ghost use Rattle.session_model.specs.Ledger.{ledgers};
-ghost use Rattle.session_model.specs.Outcomes.{ends};
+ghost use Rattle.session_model.specs.Outside.{call};
 ghost use Rattle.session_step.specs.Meaning.{IsReady, HaveShards};
 ghost use Rattle.gph_session.specs.Flow.{HasBegunWith};
 ghost use Rattle.session_step.specs.Moments.{moment_of};
@@ -53,12 +52,9 @@ pub(crate) fn serve<
     requires room { length block.old ≡ BLOCK_MOST }
     requires new { HasBegunWith config.now
         (moment_of (D.desk desk.old) session.old meters.old upkeep.old) session.old.cutter.held }
-    ensures { EndsAs result config.now (D.desk desk.old) (D.desk desk.new)
-        session.new.requests session.new.position
-        (ends (S.left source.old) (S.faults source.old))
-        (ends (S.left source.new) (S.faults source.new))
-        (ends (K.held sink.old) (K.faults sink.old)) (ends (K.held sink.new) (K.faults sink.new))
-        (ledgers meters.old upkeep.old) (ledgers meters.new upkeep.new) }
+    ensures { EndsAs result config.now (D.desk desk.old) (D.desk desk.new) session.new.requests
+        session.new.position (call S.left S.faults K.held K.faults source.old source.new
+        sink.old sink.new meters.old meters.new upkeep.old upkeep.new) }
 {
     let limit = config.input;
     let mut taken: u64 = 0;

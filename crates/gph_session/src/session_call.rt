@@ -2,11 +2,11 @@
 
 ghost use Rattle.std.specs.Prelude.{◌≡◌, ◌≤◌, true};
 ghost use Rattle.std.specs.Thread.{IsSync};
-ghost use Rattle.session_model.specs.Ledger.{ledgers};
-ghost use Rattle.session_model.specs.Outcomes.{Untouched, IsDone, IsReadFault, IsWriteFault};
-ghost use Rattle.session_model.specs.Outcomes.{IsInputLimit, EndsWith, ends};
-ghost use Rattle.gph_session.specs.Sessions.{IsServed};
-ghost use Rattle.gph_session.specs.Serving.{EndsOrDidNothing};
+ghost use Rattle.session_model.specs.Outside.{Untouched};
+ghost use Rattle.session_model.specs.Outcomes.{IsDone, IsReadFault, IsWriteFault};
+ghost use Rattle.session_model.specs.Outside.{call};
+ghost use Rattle.session_model.specs.Outcomes.{IsInputLimit};
+ghost use Rattle.gph_session.specs.Sessions.{EndsBy};
 
 use crate::report::{Report, Status};
 use crate::serve::serve;
@@ -45,41 +45,22 @@ pub fn session<
     requires alone { (D.desk desk.old).alone ≡ true }
     requires config { (D.desk desk.old).config ≡ config.now }
     // Where there was no memory to begin with nothing was done.
-    ensures unread { result.status ≡ Status.NoMemory → Untouched
-        (ends (S.left source.old) (S.faults source.old))
-        (ends (S.left source.new) (S.faults source.new))
-        (ends (K.held sink.old) (K.faults sink.old)) (ends (K.held sink.new) (K.faults sink.new))
-        (ledgers meters.old upkeep.old) (ledgers meters.new upkeep.new)
-        × (D.desk desk.new ≡ D.desk desk.old) }
+    ensures unread { result.status ≡ Status.NoMemory → (D.desk desk.new ≡ D.desk desk.old)
+        × Untouched (call S.left S.faults K.held K.faults source.old source.new sink.old sink.new
+        meters.old meters.new upkeep.old upkeep.new) }
     // What was read, written and counted, and what the desk has seen, by each other status, with its cause.
-    ensures done { result.status ≡ Status.Done →
-        EndsWith (IsDone (IsServed (D.desk desk.old) (D.desk desk.new)
-        result.requests result.position) config.now)
-        (ends (S.left source.old) (S.faults source.old))
-        (ends (S.left source.new) (S.faults source.new))
-        (ends (K.held sink.old) (K.faults sink.old)) (ends (K.held sink.new) (K.faults sink.new))
-        (ledgers meters.old upkeep.old) (ledgers meters.new upkeep.new) }
-    ensures read_fault { result.status ≡ Status.ReadFault →
-        EndsWith (IsReadFault (IsServed (D.desk desk.old) (D.desk desk.new)
-        result.requests result.position) config.now)
-        (ends (S.left source.old) (S.faults source.old))
-        (ends (S.left source.new) (S.faults source.new))
-        (ends (K.held sink.old) (K.faults sink.old)) (ends (K.held sink.new) (K.faults sink.new))
-        (ledgers meters.old upkeep.old) (ledgers meters.new upkeep.new) }
-    ensures write_fault { result.status ≡ Status.WriteFault →
-        EndsWith (IsWriteFault (IsServed (D.desk desk.old) (D.desk desk.new)
-        result.requests result.position) config.now)
-        (ends (S.left source.old) (S.faults source.old))
-        (ends (S.left source.new) (S.faults source.new))
-        (ends (K.held sink.old) (K.faults sink.old)) (ends (K.held sink.new) (K.faults sink.new))
-        (ledgers meters.old upkeep.old) (ledgers meters.new upkeep.new) }
-    ensures input_limit { result.status ≡ Status.InputLimit →
-        EndsWith (IsInputLimit (IsServed (D.desk desk.old) (D.desk desk.new)
-        result.requests result.position) config.now)
-        (ends (S.left source.old) (S.faults source.old))
-        (ends (S.left source.new) (S.faults source.new))
-        (ends (K.held sink.old) (K.faults sink.old)) (ends (K.held sink.new) (K.faults sink.new))
-        (ledgers meters.old upkeep.old) (ledgers meters.new upkeep.new) }
+    ensures done { result.status ≡ Status.Done → EndsBy IsDone config.now result
+        (D.desk desk.old) (D.desk desk.new) (call S.left S.faults K.held K.faults source.old
+        source.new sink.old sink.new meters.old meters.new upkeep.old upkeep.new) }
+    ensures read_fault { result.status ≡ Status.ReadFault → EndsBy IsReadFault config.now result
+        (D.desk desk.old) (D.desk desk.new) (call S.left S.faults K.held K.faults source.old
+        source.new sink.old sink.new meters.old meters.new upkeep.old upkeep.new) }
+    ensures write_fault { result.status ≡ Status.WriteFault → EndsBy IsWriteFault config.now result
+        (D.desk desk.old) (D.desk desk.new) (call S.left S.faults K.held K.faults source.old
+        source.new sink.old sink.new meters.old meters.new upkeep.old upkeep.new) }
+    ensures input_limit { result.status ≡ Status.InputLimit → EndsBy IsInputLimit config.now result
+        (D.desk desk.old) (D.desk desk.new) (call S.left S.faults K.held K.faults source.old
+        source.new sink.old sink.new meters.old meters.new upkeep.old upkeep.new) }
 {
     // The desk's own calls say what is true of it.
     let _who = desk.who();

@@ -69,7 +69,7 @@ all_placed P hit (other ∷ hits) p all = go (all_placed P hit hits p all.1) (is
     go rest true = (all.0, rest)
     go rest false = (p, all)
 
-all_in_order : (P : Hit → Type 0) (hits : List Hit) → AllByRecursion P hits → AllByRecursion P (in_order hits)
+pub all_in_order : (P : Hit → Type 0) (hits : List Hit) → AllByRecursion P hits → AllByRecursion P (in_order hits)
 all_in_order P [] all = tt
 all_in_order P (hit ∷ hits) all = all_placed P hit (in_order hits) all.0 (all_in_order P hits all.1)
 
@@ -83,7 +83,7 @@ all_hits asks stands law far (x ∷ xs) one =
     (recursion_from_All (λ (hit : Hit). hit.dist ≤ (asks x).farthest) (asks x).hits (law x).asked.reached))
     (all_hits asks stands law far xs one.1)
 
-last_of_all : (far n : ℕ) (hits : List Hit) → AllByRecursion (λ (hit : Hit). hit.dist ≤ far) hits
+pub last_of_all : (far n : ℕ) (hits : List Hit) → AllByRecursion (λ (hit : Hit). hit.dist ≤ far) hits
     → IfSome (last_distance (take n hits)) (λ last. last ≤ far)
 last_of_all far zero hits all = tt
 last_of_all far (suc n) [] all = tt

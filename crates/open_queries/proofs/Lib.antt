@@ -1,7 +1,7 @@
 mod WritingLemmas
 mod PlaceLemmas
 mod AnswerLemmas
-mod BoundLemmas
+pub mod BoundLemmas
 mod KeptLemmas
 mod GivingLemmas
 mod QueryLemmas

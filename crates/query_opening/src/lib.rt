@@ -4,6 +4,8 @@
 
 mod opening;
 mod pinning;
+mod wanted;
 
-pub use opening::{Opened, open_range};
+pub use opening::{Opened, Source, open_query, open_range};
 pub use pinning::{Pinned, pin_all};
+pub use wanted::Wanted;

@@ -6,12 +6,12 @@ use Rattle.part_layout.specs.declared.config.Config.{Config}
 use Rattle.line_forms.specs.Words.{words, is_printable}
 use Rattle.byte_lines.specs.declared.cutter.TheConstants.{LINE_MOST}
 use Rattle.query_protocol.specs.Requests.{LineReading, Del, Get, Cost, Cancel, bad}
-use Rattle.query_protocol.specs.Requests.{add_asked, range_asked, next_asked, plan_asked}
-use Rattle.query_protocol.specs.Requests.{layout_asked, quit_asked, key_alone, tag_alone}
-use Rattle.query_protocol.specs.Requests.{request_naming}
+use Rattle.query_protocol.specs.Requests.{add_asked, range_asked, near_asked, next_asked}
+use Rattle.query_protocol.specs.Requests.{plan_asked, layout_asked, quit_asked}
+use Rattle.query_protocol.specs.Requests.{key_alone, tag_alone, request_naming}
 use Rattle.query_protocol.specs.declared.request.RequestWord.{RequestWord}
 use Rattle.query_protocol.specs.declared.request.RequestWord.TheVariants.{AddWord, DelWord, GetWord}
-use Rattle.query_protocol.specs.declared.request.RequestWord.TheVariants.{RangeWord, NextWord}
+use Rattle.query_protocol.specs.declared.request.RequestWord.TheVariants.{RangeWord, NearWord, NextWord}
 use Rattle.query_protocol.specs.declared.request.RequestWord.TheVariants.{CostWord, PlanWord}
 use Rattle.query_protocol.specs.declared.request.RequestWord.TheVariants.{CancelWord, LayoutWord}
 use Rattle.query_protocol.specs.declared.request.RequestWord.TheVariants.{QuitWord}
@@ -23,6 +23,7 @@ request_word word =
     if bytes_eq word (codes "del") then Some DelWord else
     if bytes_eq word (codes "get") then Some GetWord else
     if bytes_eq word (codes "range") then Some RangeWord else
+    if bytes_eq word (codes "near") then Some NearWord else
     if bytes_eq word (codes "next") then Some NextWord else
     if bytes_eq word (codes "cost") then Some CostWord else
     if bytes_eq word (codes "plan") then Some PlanWord else
@@ -37,6 +38,7 @@ with_words config (Some AddWord) after = add_asked config.bits after
 with_words config (Some DelWord) after = request_naming (λ key. Del key) (key_alone after)
 with_words config (Some GetWord) after = request_naming (λ key. Get key) (key_alone after)
 with_words config (Some RangeWord) after = range_asked config.bits after
+with_words config (Some NearWord) after = near_asked config.bits after
 with_words config (Some NextWord) after = next_asked after
 with_words config (Some CostWord) after = request_naming (λ tag. Cost tag) (tag_alone after)
 with_words config (Some PlanWord) after = plan_asked config.shards after

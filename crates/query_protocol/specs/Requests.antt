@@ -1,7 +1,9 @@
 -- What the words after a request word ask, or their first fault. Codes have just their own bits.
 use Rattle.std.specs.Prelude.{ℕ, nat_lt, if◌then◌else◌, List, [], ◌∷◌}
 use Rattle.std.specs.Prelude.{Option, Some, None, Result, Ok, Err, ok_or}
-use Rattle.line_forms.specs.Forms.{key_form, radius_of, count_of, code_form, shard_form, tag_of}
+use Rattle.hamming_model.specs.declared.limits.TheConstants.{ENTRIES_MOST}
+use Rattle.line_forms.specs.Forms.{key_form, radius_of, count_of, code_form, number_of}
+use Rattle.line_forms.specs.Forms.{shard_form, tag_of}
 use Rattle.query_protocol.specs.declared.bad.Bad.{Bad}
 
 -- what a line asks, each code with its own bits
@@ -10,6 +12,7 @@ pub data LineRequest : Type 0 where
   Del : ℕ → LineRequest
   Get : ℕ → LineRequest
   Range : List ℕ → ℕ → List ℕ → LineRequest
+  Near : List ℕ → ℕ → List ℕ → LineRequest
   Next : List ℕ → ℕ → LineRequest
   Cost : List ℕ → LineRequest
   Plan : List ℕ → ℕ → LineRequest
@@ -29,18 +32,23 @@ bad number = record { number = number; word = 0 }
 abbrev pub bad_word : ℕ → Bad
 bad_word place = record { number = 5; word = place }
 
+-- how many of the nearest rows are asked: at most as many as there may be
+abbrev pub nearest_of : List ℕ → Option ℕ
+nearest_of word = number_of 7 1 ENTRIES_MOST word
+
 -- a key and a code, each where its word has the form
 abbrev pub add_of : Option ℕ → Option (List ℕ) → LineReading
 add_of None code = Err (bad_word 2)
 add_of (Some key) None = Err (bad_word 3)
 add_of (Some key) (Some code) = Ok (Some (Add key code))
 
--- a tag, a radius and a code
-abbrev pub range_of : Option (List ℕ) → Option ℕ → Option (List ℕ) → LineReading
-range_of None tau code = Err (bad_word 2)
-range_of (Some tag) None code = Err (bad_word 3)
-range_of (Some tag) (Some tau) None = Err (bad_word 4)
-range_of (Some tag) (Some tau) (Some code) = Ok (Some (Range tag tau code))
+-- a tag, a number and a code: what opens a query
+abbrev pub opening_of : (List ℕ → ℕ → List ℕ → LineRequest) → Option (List ℕ) → Option ℕ
+    → Option (List ℕ) → LineReading
+opening_of ask None number code = Err (bad_word 2)
+opening_of ask (Some tag) None code = Err (bad_word 3)
+opening_of ask (Some tag) (Some number) None = Err (bad_word 4)
+opening_of ask (Some tag) (Some number) (Some code) = Ok (Some (ask tag number code))
 
 -- a tag and how many hits
 abbrev pub next_of : Option (List ℕ) → Option ℕ → LineReading
@@ -66,11 +74,29 @@ abbrev pub add_asked : ℕ → List (List ℕ) → LineReading
 add_asked bits (key ∷ code ∷ []) = add_of (key_form key) (code_form bits code)
 add_asked bits after = Err (bad 4)
 
+-- the three words of a request that opens a query
+abbrev pub opening_words : List (List ℕ) → Result (List ℕ × List ℕ × List ℕ) Bad
+opening_words (tag ∷ number ∷ code ∷ []) = Ok (tag, number, code)
+opening_words after = Err (bad 4)
+
+-- what they ask, where the number has a form of its own
+abbrev pub opening_asked : (List ℕ → ℕ → List ℕ → LineRequest) → (List ℕ → Option ℕ) → ℕ
+    → Result (List ℕ × List ℕ × List ℕ) Bad → LineReading
+opening_asked ask form bits (Ok words) =
+    opening_of ask (tag_of words.0) (form words.1) (code_form bits words.2)
+opening_asked ask form bits (Err fault) = Err fault
+
 -- the words after `range`
 abbrev pub range_asked : ℕ → List (List ℕ) → LineReading
-range_asked bits (tag ∷ tau ∷ code ∷ []) =
-    range_of (tag_of tag) (radius_of bits tau) (code_form bits code)
-range_asked bits after = Err (bad 4)
+range_asked bits after =
+    opening_asked (λ tag tau code. Range tag tau code) (λ word. radius_of bits word) bits
+    (opening_words after)
+
+-- the words after `near`
+abbrev pub near_asked : ℕ → List (List ℕ) → LineReading
+near_asked bits after =
+    opening_asked (λ tag k code. Near tag k code) (λ word. nearest_of word) bits
+    (opening_words after)
 
 -- the words after `next`
 abbrev pub next_asked : List (List ℕ) → LineReading

@@ -1,8 +1,8 @@
 -- What a request that was read asks: it keeps its code with zeros after the code's own bits.
 use Rattle.std.specs.Prelude.{◌≡◌, ℕ, ◌<◌, ◌≤◌, take, Option, Some, None, Result, Ok, Err}
 use Rattle.hamming_model.specs.Codes.{StandsFor}
-use Rattle.query_protocol.specs.Requests.{LineRequest, LineReading, Add, Del, Get, Range, Next}
-use Rattle.query_protocol.specs.Requests.{Cost, Plan, Cancel, Layout, Quit}
+use Rattle.query_protocol.specs.Requests.{LineRequest, LineReading, Add, Del, Get, Range, Near}
+use Rattle.query_protocol.specs.Requests.{Next, Cost, Plan, Cancel, Layout, Quit}
 use Rattle.query_protocol.specs.declared.bad.Bad.{Bad}
 use Rattle.query_protocol.specs.declared.request.Request.{Request}
 use Rattle.query_protocol.specs.declared.request.Request.TheVariants as kept
@@ -13,6 +13,7 @@ unstored bits (kept.Add key stored) = Add key (take bits stored)
 unstored bits (kept.Del key) = Del key
 unstored bits (kept.Get key) = Get key
 unstored bits (kept.Range tag tau stored) = Range tag tau (take bits stored)
+unstored bits (kept.Near tag k stored) = Near tag k (take bits stored)
 unstored bits (kept.Next tag n) = Next tag n
 unstored bits (kept.Cost tag) = Cost tag
 unstored bits (kept.Plan tag shard) = Plan tag shard
@@ -30,6 +31,7 @@ unstored_reading bits (Err fault) = Err fault
 abbrev pub IsFit : (W bits : ℕ) → Request W → Type 0
 IsFit W bits (kept.Add key stored) = StandsFor W bits stored (take bits stored)
 IsFit W bits (kept.Range tag tau stored) = StandsFor W bits stored (take bits stored) × (tau ≤ bits)
+IsFit W bits (kept.Near tag k stored) = StandsFor W bits stored (take bits stored)
 IsFit W bits other = Unit {0}
 
 -- what is asked is fit, where anything is

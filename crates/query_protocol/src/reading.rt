@@ -1,16 +1,19 @@
 //! A line as a request.
 
-ghost use Rattle.std.specs.Prelude.{◌≡◌, ℕ, ◌≤◌, length};
+ghost use Rattle.std.specs.Prelude.{◌≡◌, ℕ, ◌≤◌, List, [], ◌∷◌, length, Err, MatchResult};
 ghost use Rattle.gph_codes.specs.Allowed.{IsAllowed};
 ghost use Rattle.hamming_model.specs.declared.limits.TheConstants.{WORDS_MOST};
 ghost use Rattle.byte_lines.specs.declared.cutter.TheConstants.{LINE_MOST};
 ghost use Rattle.line_forms.specs.Words.{words};
 ghost use Rattle.query_protocol.specs.Lines.{reading, of_words, request_word, with_words};
-ghost use Rattle.query_protocol.specs.Requests.{add_asked, range_asked, next_asked, plan_asked, layout_asked, quit_asked, key_alone, tag_alone};
+ghost use Rattle.query_protocol.specs.Requests.{add_asked, range_asked, near_asked, next_asked, plan_asked, layout_asked, quit_asked, key_alone, tag_alone, opening_words, nearest_of};
 ghost use Rattle.query_protocol.specs.Stored.{ReadsAs, NamesShard};
 
 use crate::{Bad, Request, RequestWord};
-use line_forms::{Tag, code_of, count_of, is_printable, key_of, next_word, radius_of, shard_of};
+use hamming_model::ENTRIES_MOST;
+use line_forms::{
+    Tag, code_of, count_of, is_printable, key_of, next_word, number_of, radius_of, shard_of,
+};
 use part_layout::Config;
 
 /// What a line asks of a server that was asked for so: None where the line has no word, else a request or the
@@ -66,6 +69,7 @@ fn read_after<const W: usize>(
             key: key_alone(after)?,
         })),
         Some(RequestWord::RangeWord) => read_range(config.bits, after),
+        Some(RequestWord::NearWord) => read_near(config.bits, after),
         Some(RequestWord::NextWord) => read_next(after),
         Some(RequestWord::CostWord) => Ok(Some(Request::Cost {
             tag: tag_alone(after)?,
@@ -91,6 +95,8 @@ fn request_word(word: &[u8]) -> Option<RequestWord>
         Some(RequestWord::GetWord)
     } else if word == b"range".as_slice() {
         Some(RequestWord::RangeWord)
+    } else if word == b"near".as_slice() {
+        Some(RequestWord::NearWord)
     } else if word == b"next".as_slice() {
         Some(RequestWord::NextWord)
     } else if word == b"cost".as_slice() {
@@ -140,18 +146,7 @@ fn read_range<const W: usize>(bits: u32, after: &[u8]) -> Result<Option<Request<
     ensures reads { ReadsAs W bits result (range_asked bits (words after.now)) }
     ensures shard { (shards : ℕ) → NamesShard shards result }
 {
-    let Some((tag, after)) = next_word(after) else {
-        return Err(Bad::other_number_of_words());
-    };
-    let Some((tau, after)) = next_word(after) else {
-        return Err(Bad::other_number_of_words());
-    };
-    let Some((code, after)) = next_word(after) else {
-        return Err(Bad::other_number_of_words());
-    };
-    if next_word(after).is_some() {
-        return Err(Bad::other_number_of_words());
-    }
+    let (tag, tau, code) = opening_words(after)?;
     let Some(tag) = Tag::of(tag) else {
         return Err(Bad::of_word(2));
     };
@@ -162,6 +157,57 @@ fn read_range<const W: usize>(bits: u32, after: &[u8]) -> Result<Option<Request<
         return Err(Bad::of_word(4));
     };
     Ok(Some(Request::Range { tag, tau, code }))
+}
+
+// The words after `near`.
+fn read_near<const W: usize>(bits: u32, after: &[u8]) -> Result<Option<Request<W>>, Bad>
+    requires few_words { W ≤ WORDS_MOST }
+    requires allowed { IsAllowed W bits }
+    ensures reads { ReadsAs W bits result (near_asked bits (words after.now)) }
+    ensures shard { (shards : ℕ) → NamesShard shards result }
+{
+    let (tag, k, code) = opening_words(after)?;
+    let Some(tag) = Tag::of(tag) else {
+        return Err(Bad::of_word(2));
+    };
+    let Some(k) = nearest_of(k) else {
+        return Err(Bad::of_word(3));
+    };
+    let Some(code) = code_of(bits, code) else {
+        return Err(Bad::of_word(4));
+    };
+    Ok(Some(Request::Near { tag, k, code }))
+}
+
+// How many of the nearest rows are asked.
+fn nearest_of(word: &[u8]) -> Option<u32>
+    ensures { result ≡ nearest_of word.now }
+{
+    match number_of(7, 1, ENTRIES_MOST, word) {
+        None => None,
+        Some(value) => Some(value as u32),
+    }
+}
+
+// The three words of a request that opens a query.
+fn opening_words(after: &[u8]) -> Result<(&[u8], &[u8], &[u8]), Bad>
+    ensures { MatchResult result
+        (λ three. words after.now ≡ three.0.now ∷ three.1.now ∷ three.2.now ∷ [])
+        (λ fault. opening_words (words after.now) ≡ Err fault) }
+{
+    let Some((tag, after)) = next_word(after) else {
+        return Err(Bad::other_number_of_words());
+    };
+    let Some((number, after)) = next_word(after) else {
+        return Err(Bad::other_number_of_words());
+    };
+    let Some((code, after)) = next_word(after) else {
+        return Err(Bad::other_number_of_words());
+    };
+    if next_word(after).is_some() {
+        return Err(Bad::other_number_of_words());
+    }
+    Ok((tag, number, code))
 }
 
 // The words after `next`.

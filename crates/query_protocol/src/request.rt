@@ -8,6 +8,7 @@ pub enum RequestWord {
     DelWord,
     GetWord,
     RangeWord,
+    NearWord,
     NextWord,
     CostWord,
     PlanWord,
@@ -27,6 +28,8 @@ pub enum Request<const W: usize> {
     Get { key: u64 },
     /// Opens a query for all codes at most `tau` positions away.
     Range { tag: Tag, tau: u32, code: Code<W> },
+    /// Opens a query for the `k` rows that come first, by distance and then by key, or for all where there are fewer.
+    Near { tag: Tag, k: u32, code: Code<W> },
     /// Asks for the next hits of a query, at most `n`.
     Next { tag: Tag, n: u32 },
     /// Asks what a query has cost so far.

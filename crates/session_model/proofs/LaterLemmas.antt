@@ -7,8 +7,8 @@ use Rattle.hamming_model.specs.Scan.{Ask}
 use Rattle.hamming_model.specs.Scan as ask
 use Rattle.hamming_model.specs.declared.hit.Hit.{Hit}
 use Rattle.part_layout.specs.declared.config.Config.{Config}
-use Rattle.query_protocol.specs.Requests.{LineRequest, Add, Del, Get, Range, Next, Cost, Plan}
-use Rattle.query_protocol.specs.Requests.{Cancel, Layout, Quit}
+use Rattle.query_protocol.specs.Requests.{LineRequest, Add, Del, Get, Range, Near, Next, Cost}
+use Rattle.query_protocol.specs.Requests.{Plan, Cancel, Layout, Quit}
 use Rattle.query_protocol.specs.declared.bad.Bad.{Bad}
 use Rattle.session_model.specs.State.{Query, State, has_tag, query_of, replaced, open_queries}
 use Rattle.session_model.specs.Entries.{Exchange}
@@ -171,6 +171,8 @@ module _ (config : Config) (history : List JournalEntry) (s : State) (e : Exchan
   answers_later (Ok (Some (Get key))) h = moved_later s t e.position h.position
   answers_later (Ok (Some (Range tag tau code))) h =
       opens_unused_later (query_of tag s.queries) history tag (ask.Range tau code) s e t h
+  answers_later (Ok (Some (Near tag number code))) h =
+      opens_unused_later (query_of tag s.queries) history tag (ask.Near number code) s e t h
   answers_later (Ok (Some (Next tag count))) h = gives_later tag count (query_of tag s.queries) refl h
   answers_later (Ok (Some (Cost tag))) h = costs_later tag (query_of tag s.queries) h
   answers_later (Ok (Some (Plan tag shard))) h = plans_later tag shard (query_of tag s.queries) h

@@ -7,8 +7,8 @@ use Rattle.std.proofs.lemmas.List.Concat.{flat_map-append}
 use Rattle.std.proofs.lemmas.List.Elements.{filter-append}
 use Rattle.hamming_model.specs.History.{JournalEntry, Operation}
 use Rattle.part_layout.specs.declared.config.Config.{Config}
-use Rattle.query_protocol.specs.Requests.{LineRequest, Add, Del, Get, Range, Next, Cost, Plan}
-use Rattle.query_protocol.specs.Requests.{Cancel, Layout, Quit}
+use Rattle.query_protocol.specs.Requests.{LineRequest, Add, Del, Get, Range, Near, Next, Cost}
+use Rattle.query_protocol.specs.Requests.{Plan, Cancel, Layout, Quit}
 use Rattle.query_protocol.specs.Replies.{text}
 use Rattle.query_protocol.specs.declared.bad.Bad.{Bad}
 use Rattle.session_model.specs.State.{State}
@@ -74,6 +74,7 @@ not_quit (Ok (Some (Add key code))) config history s e t h = refl
 not_quit (Ok (Some (Del key))) config history s e t h = refl
 not_quit (Ok (Some (Get key))) config history s e t h = refl
 not_quit (Ok (Some (Range tag tau code))) config history s e t h = refl
+not_quit (Ok (Some (Near tag number code))) config history s e t h = refl
 not_quit (Ok (Some (Next tag count))) config history s e t h = refl
 not_quit (Ok (Some (Cost tag))) config history s e t h = refl
 not_quit (Ok (Some (Plan tag shard))) config history s e t h = refl

@@ -5,5 +5,6 @@ pub mod Upkeep
 pub mod QuerySteps
 pub mod Step
 pub mod Run
+pub mod Outside
 pub mod Outcomes
 pub mod Later

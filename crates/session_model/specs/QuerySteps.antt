@@ -1,5 +1,5 @@
 -- What a line on queries is told, and the queries that it leaves.
-use Rattle.std.specs.Prelude.{◌≡◌, ℕ, ℤ, ◌+◌, ◌≤◌, ◌⊎◌, min, nat_lt, nat_le}
+use Rattle.std.specs.Prelude.{◌≡◌, ℕ, ℤ, ◌+◌, ◌^◌, ◌<◌, ◌≤◌, ◌⊎◌, min, nat_lt, nat_le}
 use Rattle.std.specs.Prelude.{Bool, true, false, if◌then◌else◌, Option, Some, None}
 use Rattle.std.specs.Prelude.{List, [], ◌∷◌, ◌++◌, length, map, take, drop, replicate, slice_index}
 use Rattle.hamming_model.specs.History.{JournalEntry}
@@ -98,6 +98,7 @@ pub record Costs (config : Config) (history : List JournalEntry) (tag : List ℕ
   pub is_bound : IsBound config history query (last_given config history query) bound
   pub given : query.given ≤ sum_of query.reads
   pub within : sum_of query.reads ≤ bound
+  pub small : bound < 2 ^ 64
   pub said_is : e.replies ≡ reply.Cost tag (sum_of query.reads) bound ∷ []
   pub position : e.position ≡ s.position
   pub same : t ≡ s

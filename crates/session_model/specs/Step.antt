@@ -8,8 +8,8 @@ use Rattle.hamming_model.specs.Layouts.{IsLayout}
 use Rattle.hamming_model.specs.Scan as ask
 use Rattle.part_layout.specs.declared.config.Config.{Config}
 use Rattle.part_layout.specs.Text.{layout_text}
-use Rattle.query_protocol.specs.Requests.{LineRequest, Add, Del, Get, Range, Next, Cost, Plan}
-use Rattle.query_protocol.specs.Requests.{Cancel, Layout, Quit}
+use Rattle.query_protocol.specs.Requests.{LineRequest, Add, Del, Get, Range, Near, Next, Cost}
+use Rattle.query_protocol.specs.Requests.{Plan, Cancel, Layout, Quit}
 use Rattle.query_protocol.specs.Lines.{reading}
 use Rattle.query_protocol.specs.declared.bad.Bad.{Bad}
 use Rattle.query_protocol.specs.Replies as reply
@@ -41,6 +41,8 @@ Answers (Ok (Some (Del key))) config history s e t =
 Answers (Ok (Some (Get key))) config history s e t = Gets history key s e t
 Answers (Ok (Some (Range tag tau code))) config history s e t =
     OpensUnlessUsed (query_of tag s.queries) history tag (ask.Range tau code) s e t
+Answers (Ok (Some (Near tag number code))) config history s e t =
+    OpensUnlessUsed (query_of tag s.queries) history tag (ask.Near number code) s e t
 Answers (Ok (Some (Next tag count))) config history s e t =
     IfOpen (query_of tag s.queries) (Gives config history tag count) s e t
 Answers (Ok (Some (Cost tag))) config history s e t =

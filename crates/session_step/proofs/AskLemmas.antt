@@ -1,42 +1,41 @@
 -- Lemmas on `cost`, `plan` and `cancel`: what each tells is a step of a session that is alone.
-use Rattle.std.proofs.Common.{◌≡◌, ℕ, ◌+◌, ◌≤◌, ◌<◌, min, Bool, true, false, cond, List, [], ◌∷◌, ◌++◌, take, map}
-use Rattle.std.proofs.Common.{Option, Some, None, Result, Ok, refl, sym, ap, ◌∙◌, subst, arith, inl, inr}
-use Rattle.std.proofs.Common.{slice_index_or, length}
-use Rattle.std.specs.List.{AllByRecursion, sum_by}
+use Rattle.std.proofs.Common.{◌≡◌, ℕ, ◌<◌, min, cond, List, [], ◌∷◌, ◌++◌, take, map}
+use Rattle.std.proofs.Common.{Option, Some, Result, Ok, refl, sym, ap, ◌∙◌, subst, arith, inl, inr}
+use Rattle.std.specs.List.{sum_by}
 use Rattle.std.proofs.lemmas.List.Sums.{sum-map}
-use Rattle.hamming_model.specs.declared.limits.TheConstants.{PARTS_MOST, SHARDS_MOST, ENTRIES_MOST}
+use Rattle.hamming_model.specs.declared.limits.TheConstants.{PARTS_MOST}
 use Rattle.hamming_model.specs.History.{JournalEntry}
 use Rattle.line_io.specs.declared.source.Failed.{Failed}
-use Rattle.shard_query.specs.declared.range_task.RangeTask.{RangeTask}
+use Rattle.part_layout.specs.Ranges.{IsConfig}
 use Rattle.query_protocol.specs.Requests.{LineRequest, Cost, Plan, Cancel}
 use Rattle.query_protocol.specs.Replies.{text, reply_line}
 use Rattle.query_protocol.specs.Replies.{LineReply}
 use Rattle.query_protocol.specs.Replies as reply
-use Rattle.session_model.specs.State.{Query, State, query_of, open_queries, replaced}
+use Rattle.session_model.specs.State.{State, query_of, open_queries, replaced}
 use Rattle.session_model.specs.Upkeep.{vain_steps}
-use Rattle.session_model.specs.Ledger.{sum_of, last_given, IsPlanOfQuery, IsBound}
+use Rattle.session_model.specs.Ledger.{sum_of, last_given, IsPlanOfQuery}
 use Rattle.session_model.specs.QuerySteps.{IfOpen, Costs, TellsPlan, Cancels, closed_query, end_reply}
 use Rattle.session_model.specs.Step.{Answers}
 use Rattle.session_model.specs.Run.{accepted}
-use Rattle.open_queries.specs.Queries.{IsFree, Changes, Removes, IsSame, last_in}
+use Rattle.open_queries.specs.Queries.{Changes, Removes, IsSame, last_in}
 use Rattle.open_queries.specs.Answers.{CostsAs, IsCost, IsPlan, TellsOfQuery, CancelsAs, reply_to_cancel}
 use Rattle.open_queries.specs.Writing.{Writes}
-use Rattle.session_step.specs.Cursors.{Cursor, asks, stands, reads_in}
+use Rattle.session_step.specs.Cursors.{Source, Cursor, asks, stands}
 use Rattle.session_step.specs.Moments.{Moment, ReadsTo, Spends}
-use Rattle.session_step.specs.Meaning.{AllKeep, IsSettled, Keeps, Means}
+use Rattle.session_step.specs.Meaning.{AllKeep, IsSettled, Means}
 use Rattle.session_step.specs.KeptDesk.{KeepsDesk}
-use Rattle.session_step.proofs.MomentLemmas.{spends_still, reads_still}
+use Rattle.session_step.proofs.MomentLemmas.{spends_still}
 use Rattle.session_step.proofs.QueryLemmas.{IsFound, found_changed, found_removed, found_holds, of_open}
 use Rattle.session_step.proofs.QueryLemmas.{replaced_same, replaced_closed, keeps_same, keeps_later, all_replaced}
-use Rattle.session_step.proofs.QueryLemmas.{read_replaced, without}
-use Rattle.session_step.proofs.BoundLemmas.{last_is, is_bound, all_bounds_are, plan_at, reads_few, sum_is_of}
+use Rattle.session_step.proofs.QueryLemmas.{read_replaced}
+use Rattle.session_step.proofs.BoundLemmas.{last_is, given_near, is_bound, all_bounds_are, plan_at, reads_few, sum_is_of}
 use Rattle.session_step.proofs.NextLemmas.{unknown_step}
 use Rattle.session_step.proofs.Here.{Here, StepTo, asked_here, exchange_here, quiet, quiet_by}
 use Rattle.session_step.proofs.Here.{on_ok, means_to, writes_one}
 use Rattle.session_step.proofs.MomentLemmas.{desk_keeps}
 
 module _ {A : Type 0} {W : ℕ} (p : Here W) (after : Option (List ℕ)) (result : Result A Failed)
-    (new : Moment W) (some_shards : 1 ≤ p.config.shards) (few_shards : p.config.shards ≤ SHARDS_MOST)
+    (new : Moment W) (ranges : IsConfig p.config)
     (desk : new.desk ≡ p.old.desk) (position : new.position ≡ p.old.position)
     (ledgers : new.ledgers ≡ p.old.ledgers) where
   -- ---- a cursor that was only asked
@@ -73,19 +72,24 @@ module _ {A : Type 0} {W : ℕ} (p : Here W) (after : Option (List ℕ)) (result
         let query = it.query in
         let keeps = keeps_later p.config p.history later was query it.keeps in
         let last = last_given p.config (p.history ++ later) query in
+        let same_last : was.gather.last ≡ last = cost.last ∙ last_is p.config (p.history ++ later) was query keeps ranges in
+        let near = given_near p.config (p.history ++ later) was query keeps ranges query.given in
         let sources = was.gather.sources in
-        let reads = λ (source : RangeTask W). (stands {W = W} source).reads in
-        let bound = sum_of (map (λ source. (asks {W = W} source).bound was.gather.last) sources) in
+        let reads = λ (source : Source W). (stands {W = W} source).reads in
+        let bound = sum_of (map (λ source. (asks {W = W} source).bound last) sources) in
         let settled = found_holds (IsSettled p.config p.history) tag p.s.queries query found p.stands.settled in
-        let few = reads_few p.config p.history was query it.keeps some_shards few_shards settled in
-        let same_bound = all_bounds_are p.config p.history was query it.keeps some_shards few_shards was.gather.last in
+        let few = reads_few p.config p.history was query it.keeps ranges settled in
+        let same_bound : min (sum_by (λ source. (asks {W = W} source).bound was.gather.last) sources) 18446744073709551615 ≡ bound =
+        ap (λ l. min (sum_by (λ source. (asks {W = W} source).bound l) sources) 18446744073709551615) same_last
+        ∙ all_bounds_are p.config (p.history ++ later) was query keeps ranges last near in
         let same_reads : min (sum_by reads sources) 18446744073709551615 ≡ sum_of query.reads =
-        omega (arith, sym (sum-map reads sources) ∙ sum_is_of (map reads sources), ap sum_of it.keeps.reads, few, few_shards) in
+        omega (arith, sym (sum-map reads sources) ∙ sum_is_of (map reads sources), ap sum_of it.keeps.reads, few, ranges.few_shards) in
         record {
           bound = bound;
-          is_bound = is_bound p.config (p.history ++ later) was query keeps some_shards few_shards last was.gather.last;
+          is_bound = is_bound p.config (p.history ++ later) was query keeps ranges last near;
           given = omega (arith, cost.given, it.keeps.given, same_reads);
           within = omega (arith, cost.within, same_reads, same_bound);
+          small = omega (arith, same_bound);
           said_is = ap (λ (r : LineReply). r ∷ []) cost.told
               ∙ ap (λ (n : ℕ). reply.Cost tag n (min (sum_by (λ source. (asks {W = W} source).bound was.gather.last) sources)
               18446744073709551615) ∷ []) same_reads
@@ -109,7 +113,8 @@ module _ {A : Type 0} {W : ℕ} (p : Here W) (after : Option (List ℕ)) (result
           cost = plan.1;
           is_plan = subst (λ source. IsPlanOfQuery p.config (p.history ++ later) query shard
               (take PARTS_MOST ((asks source).plan last).0) ((asks source).plan last).1) (told.at told.source)
-              (plan_at p.config (p.history ++ later) was query keeps some_shards few_shards last last shard told.source lt);
+              (plan_at p.config (p.history ++ later) was query keeps ranges last
+              (last_is p.config (p.history ++ later) was query keeps ranges) shard told.source lt);
           said_is = ap (λ (r : LineReply). r ∷ []) told.told;
           position = refl;
           same = refl;

@@ -1,6 +1,6 @@
 -- Lemmas on `add` and `del`: what becomes of an operation is a step of a session that is alone.
-use Rattle.std.proofs.Common.{◌≡◌, ℕ, ◌+◌, ◌-◌, ◌≤◌, ◌<◌, nat_le, Bool, true, false, cond}
-use Rattle.std.proofs.Common.{List, [], ◌∷◌, ◌++◌, length, take, map, slice_get, Option, Some, None, is_some}
+use Rattle.std.proofs.Common.{◌≡◌, ℕ, ◌+◌, ◌-◌, ◌≤◌, nat_le, Bool, true, false, cond}
+use Rattle.std.proofs.Common.{List, [], ◌∷◌, ◌++◌, length, take, map, slice_get, Option, Some, is_some}
 use Rattle.std.proofs.Common.{Result, Ok, refl, sym, ap, ◌∙◌, subst, arith, inl, inr}
 use Rattle.std.proofs.Common.{append_assoc, append-nil, length-append}
 use Rattle.std.specs.List.{AllByRecursion}
@@ -34,7 +34,7 @@ use Rattle.session_step.proofs.MomentLemmas.{reads_still, spends_seen, as_long}
 use Rattle.session_step.proofs.BoundLemmas.{all_settled_later}
 use Rattle.session_step.proofs.QueryLemmas.{keep_later}
 use Rattle.session_step.proofs.Here.{Here, StepTo, asked_here, exchange_here, quiet, prefix_here, on_ok}
-use Rattle.session_step.proofs.MomentLemmas.{desk_keeps, learns_nothing}
+use Rattle.session_step.proofs.MomentLemmas.{learns_nothing}
 use Rattle.session_step.proofs.Here.{writes_one}
 
 slice_get_at : (history : List JournalEntry) (entry : JournalEntry) (later : List JournalEntry)

@@ -1,15 +1,16 @@
 -- Lemmas on what stays: a source behind each cursor for each shard, and what the desk is.
-use Rattle.std.proofs.Common.{◌≡◌, ◌<◌, ℕ, true, List, [], ◌∷◌, ◌++◌, length, map, refl, sym, ap, ◌∙◌, subst, inl, inr}
+use Rattle.std.proofs.Common.{◌≡◌, ◌<◌, ℕ, true, List, [], ◌∷◌, ◌++◌, length, map, sym, ap, ◌∙◌, subst, inl, inr}
 use Rattle.std.specs.List.{AllByRecursion}
 use Rattle.std.specs.declared.option.Option.{Option}
 use Rattle.std.specs.Prelude.{Result}
 use Rattle.line_io.specs.declared.source.Failed.{Failed}
 use Rattle.hamming_model.specs.History.{Operation}
+use Rattle.hamming_model.specs.Scan.{Ask}
 use Rattle.part_layout.specs.declared.config.Config.{Config}
 use Rattle.query_protocol.specs.Replies.{LineReply}
 use Rattle.session_desk.specs.Desks.{DeskState}
 use Rattle.session_desk.specs.Calls.{OnlyLearns, TellsLayout}
-use Rattle.open_queries.specs.Queries.{Changes, Removes, HaveShard, opened_query}
+use Rattle.open_queries.specs.Queries.{Changes, HaveShard, opened_query}
 use Rattle.open_queries.specs.Answers.{GivesAs, TellsOfQuery, CancelsAs}
 use Rattle.session_step.specs.Cursors.{Cursor, asks, stands}
 use Rattle.session_step.specs.Moments.{Moment}
@@ -47,16 +48,16 @@ here_commits config old new before position key operation this (inl decides) = h
 here_commits config old new before position key operation this (inr no_memory) =
     here_learns config old new no_memory.learns
 
-module _ {W : ℕ} (config : Config) (old new : Moment W) (tag : List ℕ) (tau : ℕ) (code : List ℕ)
+module _ {W : ℕ} (config : Config) (old new : Moment W) (tag : List ℕ) (asked : Ask)
     (room : ℕ) (this : LineReply) where
-  pub here_opens : OpensAs old new tag tau code room this → old.desk.alone ≡ true
+  pub here_opens : OpensAs old new tag asked room this → old.desk.alone ≡ true
       → old.desk.config ≡ config → IsHere config new.desk
   here_opens (inl was) = here_same config old.desk new.desk
       (ap (λ (m : Moment W). m.desk.alone) was.same) (ap (λ (m : Moment W). m.desk.config) was.same)
   here_opens (inr (inl was)) = here_same config old.desk new.desk
       (ap (λ (m : Moment W). m.desk.alone) was.same) (ap (λ (m : Moment W). m.desk.config) was.same)
   here_opens (inr (inr (inl had))) = here_same config old.desk new.desk had.opens.keeps.alone had.opens.keeps.config
-  here_opens (inr (inr (inr was))) = here_same config old.desk new.desk was.opens.keeps.alone was.opens.keeps.config
+  here_opens (inr (inr (inr was))) = here_same config old.desk new.desk was.opened.opens.keeps.alone was.opened.opens.keeps.config
 
 -- ---- the cursors
 
@@ -113,16 +114,16 @@ module _ {W : ℕ} (shards : ℕ) (old new : List (Cursor W)) (have : HaveShards
       subst (AllByRecursion P) (sym removes.new_is)
       (all_parts P removes.front told.0 removes.back (subst (AllByRecursion P) removes.old_is have)).1.1
 
-pub opened_shards : {W : ℕ} (config : Config) (old new : Moment W) (tag : List ℕ) (tau : ℕ) (code : List ℕ)
+pub opened_shards : {W : ℕ} (config : Config) (old new : Moment W) (tag : List ℕ) (asked : Ask)
     (room : ℕ) (this : LineReply) → old.desk.config ≡ config → HaveShards config.shards old.cursors
-    → OpensAs old new tag tau code room this → HaveShards config.shards new.cursors
-opened_shards {W} config old new tag tau code room this is have (inl was) =
+    → OpensAs old new tag asked room this → HaveShards config.shards new.cursors
+opened_shards {W} config old new tag asked room this is have (inl was) =
     subst (λ (m : Moment W). HaveShards config.shards m.cursors) (sym was.same) have
-opened_shards {W} config old new tag tau code room this is have (inr (inl was)) =
+opened_shards {W} config old new tag asked room this is have (inr (inl was)) =
     subst (λ (m : Moment W). HaveShards config.shards m.cursors) (sym was.same) have
-opened_shards config old new tag tau code room this is have (inr (inr (inl had))) =
+opened_shards config old new tag asked room this is have (inr (inr (inl had))) =
     subst (HaveShards config.shards) (sym had.cursors) have
-opened_shards {W} config old new tag tau code room this is have (inr (inr (inr was))) =
+opened_shards {W} config old new tag asked room this is have (inr (inr (inr was))) =
     subst (HaveShards config.shards) (sym was.cursors)
     (all_last (λ (cursor : Cursor W). length cursor.gather.sources ≡ config.shards) old.cursors
-    (opened_query tag was.gather) have (was.opens.number ∙ ap (λ (c : Config). c.shards) is))
+    (opened_query tag was.gather) have (was.opened.opens.number ∙ ap (λ (c : Config). c.shards) is))

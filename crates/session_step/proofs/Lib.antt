@@ -1,12 +1,13 @@
 pub mod MomentLemmas
 pub mod Here
 pub mod QueryLemmas
+pub mod QuestionLemmas
 pub mod BoundLemmas
 pub mod NextLemmas
 pub mod AskLemmas
 pub mod CommitLemmas
 pub mod LookLemmas
-pub mod RangeLemmas
+pub mod OpenedLemmas
 pub mod FrameLemmas
 pub mod TurnLemmas
 pub mod OpeningLemmas

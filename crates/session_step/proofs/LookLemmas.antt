@@ -1,12 +1,12 @@
 -- Lemmas on `get` and `layout`: what each tells is a step of a session that is alone.
-use Rattle.std.proofs.Common.{◌≡◌, ℕ, ◌+◌, ◌≤◌, ◌<◌, List, [], ◌∷◌, ◌++◌, length, take, map, slice_index_or}
+use Rattle.std.proofs.Common.{◌≡◌, ℕ, List, [], ◌∷◌, ◌++◌, length, take}
 use Rattle.std.proofs.Common.{Option, Some, None, Result, Ok, refl, sym, ap, ◌∙◌, subst, arith}
 use Rattle.std.proofs.Math.ListN.{get_or-map}
 use Rattle.line_io.specs.declared.source.Failed.{Failed}
 use Rattle.std.proofs.Common.{length-append, append-nil}
 use Rattle.std.specs.Option.{option_map}
 use Rattle.hamming_model.specs.History.{JournalEntry, code_at, rows_of}
-use Rattle.hamming_model.specs.Recoded.{cut_history, recoded_rows}
+use Rattle.hamming_model.specs.Recoded.{cut_history}
 use Rattle.hamming_model.proofs.RecodedLemmas.{code_recoded, rows_recoded}
 use Rattle.part_layout.specs.declared.config.Config.{Config}
 use Rattle.part_layout.specs.Laid.{Laid}
@@ -15,19 +15,18 @@ use Rattle.query_protocol.specs.Requests.{Get, Layout}
 use Rattle.query_protocol.specs.Replies.{text, reply_line, LineReply}
 use Rattle.query_protocol.specs.Replies as reply
 use Rattle.session_desk.specs.Calls.{OnlyLearns, TellsLayout}
-use Rattle.session_desk.specs.Desks.{DeskState, ShardPlace, place_at, no_place, seen_history}
-use Rattle.session_model.specs.State.{State, open_queries}
+use Rattle.session_desk.specs.Desks.{DeskState, ShardPlace, no_place, seen_history}
+use Rattle.session_model.specs.State.{open_queries}
 use Rattle.session_model.specs.Ledger.{layout_at}
-use Rattle.session_model.specs.Entries.{Gets, code_reply}
-use Rattle.session_model.specs.Step.{Answers}
+use Rattle.session_model.specs.Entries.{code_reply}
 use Rattle.session_model.specs.Upkeep.{vain_steps}
 use Rattle.session_model.specs.Run.{accepted}
 use Rattle.open_queries.specs.Writing.{Writes}
-use Rattle.session_step.specs.KeptDesk.{KeepsDesk, layouts_of, pins_of}
+use Rattle.session_step.specs.KeptDesk.{KeepsDesk, pins_of}
 use Rattle.session_step.specs.Moments.{Moment, ReadsTo, Spends}
-use Rattle.session_step.specs.Meaning.{AllKeep, Means}
+use Rattle.session_step.specs.Meaning.{AllKeep}
 use Rattle.session_step.proofs.MomentLemmas.{reads_still, spends_seen, as_long}
-use Rattle.session_step.proofs.Here.{Here, StepTo, asked_here, exchange_here, quiet, quiet_by, prefix_here, on_ok}
+use Rattle.session_step.proofs.Here.{Here, StepTo, asked_here, quiet, quiet_by, prefix_here, on_ok}
 use Rattle.session_step.proofs.MomentLemmas.{learns_nothing}
 use Rattle.session_step.proofs.Here.{means_to, writes_one}
 

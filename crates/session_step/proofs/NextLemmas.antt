@@ -1,20 +1,17 @@
 -- Lemmas on `next`: what it gives is a step of a session that is alone.
-use Rattle.std.proofs.Common.{◌≡◌, ℕ, ◌+◌, ◌≤◌, ◌<◌, min, nat_lt, nat_le, Bool, true, false, cond}
+use Rattle.std.proofs.Common.{◌≡◌, ℕ, ◌+◌, ◌≤◌, ◌<◌, min, nat_lt, Bool, true, false, cond}
 use Rattle.std.proofs.Common.{List, [], ◌∷◌, ◌++◌, length, map, take, slice_index, slice_index_or}
-use Rattle.std.proofs.Common.{Option, Some, None, Result, Ok, Err, OnOk, inl, inr}
-use Rattle.std.proofs.Common.{refl, sym, ap, ◌∙◌, subst, arith, length-append}
-use Rattle.std.specs.List.{AllByRecursion}
+use Rattle.std.proofs.Common.{Option, Some, None, Result, Ok, inl, inr}
+use Rattle.std.proofs.Common.{refl, sym, ap, ◌∙◌, subst, arith}
 use Rattle.std.proofs.Math.ListN.{get_or-eq_default}
 use Rattle.std.proofs.lemmas.Bool.{ltb-true, ltb-false}
 use Rattle.std.proofs.lemmas.List.{take-append-le, length-map, get_or-map}
 use Rattle.line_io.specs.declared.source.Failed.{Failed}
-use Rattle.hamming_model.specs.declared.limits.TheConstants.{SHARDS_MOST}
 use Rattle.hamming_model.specs.declared.hit.Hit.{Hit}
 use Rattle.hamming_model.specs.History.{JournalEntry, rows_of}
 use Rattle.hamming_model.specs.Scan.{answer}
 use Rattle.threshold_model.specs.Bounds.{last_distance}
-use Rattle.part_layout.specs.declared.config.Config.{Config}
-use Rattle.shard_query.specs.declared.range_task.RangeTask.{RangeTask}
+use Rattle.part_layout.specs.Ranges.{IsConfig}
 use Rattle.hit_source.specs.Sources.{Asked}
 use Rattle.scatter_gather.specs.Gathering.{merged}
 use Rattle.query_protocol.specs.Requests.{LineRequest, Next, bad}
@@ -23,21 +20,21 @@ use Rattle.query_protocol.specs.Replies as reply
 use Rattle.session_model.specs.State.{Query, State, query_of, replaced, open_queries}
 use Rattle.session_model.specs.Entries.{Exchange}
 use Rattle.session_model.specs.Upkeep.{vain_steps}
-use Rattle.session_model.specs.Ledger.{ledgers, column, readings_of, answer_to, IsBounded, rows_at, layout_at}
+use Rattle.session_model.specs.Ledger.{ledgers, answer_to, IsBounded, rows_at, layout_at}
 use Rattle.session_model.specs.QuerySteps.{ReadsOn, Gives, IfOpen, given_more, next_replies}
 use Rattle.session_model.specs.Step.{Answers}
 use Rattle.session_model.specs.Run.{accepted}
 use Rattle.open_queries.specs.Queries.{IsFree, Changes, answer_in}
 use Rattle.open_queries.specs.Answers.{GivesAs, GivesQuery, IsGiven}
 use Rattle.open_queries.specs.Writing.{Writes}
-use Rattle.session_step.specs.Cursors.{Cursor, asks, stands, reads_in}
+use Rattle.session_step.specs.Cursors.{Source, Cursor, asks, stands, reads_in}
 use Rattle.session_step.specs.Moments.{Moment, ReadsTo, Spends}
 use Rattle.session_step.specs.Meaning.{AllKeep, AsksOn, IsSettled, Keeps, Means}
 use Rattle.session_step.specs.KeptDesk.{KeepsDesk}
 use Rattle.session_step.proofs.MomentLemmas.{spends_still}
 use Rattle.session_step.proofs.QueryLemmas.{IsFound, found_changed, found_holds, not_open, of_open, replaced_open}
-use Rattle.session_step.proofs.QueryLemmas.{all_replaced, read_replaced, same_asks, same_number_of, keeps_later}
-use Rattle.session_step.proofs.BoundLemmas.{answer_is, bound_at, first_of_some}
+use Rattle.session_step.proofs.QueryLemmas.{all_replaced, read_replaced, same_asks, same_number_of}
+use Rattle.session_step.proofs.BoundLemmas.{answer_is, answer_near, bound_at, first_of_some}
 use Rattle.session_step.proofs.Here.{Here, StepTo, asked_here, exchange_here, quiet, quiet_by}
 use Rattle.session_step.proofs.Here.{on_ok_then, means_to, writes_one}
 use Rattle.session_step.proofs.MomentLemmas.{desk_keeps}
@@ -71,7 +68,7 @@ unknown_step p after result new request tag Answered reads none answers free sam
 
 module _ {A : Type 0} {W : ℕ} (p : Here W) (after : Option (List ℕ)) (result : Result A Failed)
     (new : Moment W) (tag : List ℕ) (count : ℕ) (is_asked : asked_here p ≡ Ok (Some (Next tag count)))
-    (some_shards : 1 ≤ p.config.shards) (few_shards : p.config.shards ≤ SHARDS_MOST)
+    (ranges : IsConfig p.config)
     (desk : new.desk ≡ p.old.desk) (position : new.position ≡ p.old.position)
     (upkeep : new.ledgers.upkeep ≡ p.old.ledgers.upkeep)
     (number : length new.ledgers.reads ≡ length p.old.ledgers.reads) where
@@ -95,7 +92,7 @@ module _ {A : Type 0} {W : ℕ} (p : Here W) (after : Option (List ℕ)) (result
     hits = answer_to p.config p.history query
 
     answer_here : answer_in (asks {W = W}) was ≡ hits
-    answer_here = answer_is p.config p.history was query it.keeps some_shards few_shards
+    answer_here = answer_is p.config p.history was query it.keeps ranges
 
     -- the query after it
     abbrev this : Query
@@ -111,14 +108,14 @@ module _ {A : Type 0} {W : ℕ} (p : Here W) (after : Option (List ℕ)) (result
     new_sources = same_number_of (asks {W = W}) was.gather.sources is.gather.sources gives.asked ∙ old_sources
 
     -- what a source has read, by place
-    read_old : (shard : ℕ) (d : RangeTask W) → shard < shards
+    read_old : (shard : ℕ) (d : Source W) → shard < shards
         → slice_index query.reads shard ≡ (stands (slice_index_or was.gather.sources shard d)).reads
     read_old shard d lt =
         ap (λ l. slice_index l shard) it.keeps.reads
         ∙ get_or-map (λ source. (stands {W = W} source).reads) was.gather.sources shard d 0
         (omega (arith, lt, old_sources))
 
-    read_new : (shard : ℕ) (d : RangeTask W) → shard < shards
+    read_new : (shard : ℕ) (d : Source W) → shard < shards
         → slice_index (reads_in is) shard ≡ (stands (slice_index_or is.gather.sources shard d)).reads
     read_new shard d lt =
         get_or-map (λ source. (stands {W = W} source).reads) is.gather.sources shard d 0
@@ -137,7 +134,7 @@ module _ {A : Type 0} {W : ℕ} (p : Here W) (after : Option (List ℕ)) (result
     none_new shard le = get_or-eq_default (reads_in is) 0 (omega (arith, le, size_new))
 
     -- one ledger, and what was read on its shard
-    read_by : (first : RangeTask W) (ledger : ℕ) (here : Bool) → nat_lt ledger shards ≡ here
+    read_by : (first : Source W) (ledger : ℕ) (here : Bool) → nat_lt ledger shards ≡ here
         → slice_index new.ledgers.reads ledger + slice_index query.reads ledger
         ≡ slice_index p.old.ledgers.reads ledger + slice_index (reads_in is) ledger
     read_by first ledger true is_here =
@@ -157,7 +154,7 @@ module _ {A : Type 0} {W : ℕ} (p : Here W) (after : Option (List ℕ)) (result
           none_new ledger le,
         )
 
-    no_less_by : (first : RangeTask W) (shard : ℕ) (here : Bool) → nat_lt shard shards ≡ here
+    no_less_by : (first : Source W) (shard : ℕ) (here : Bool) → nat_lt shard shards ≡ here
         → slice_index query.reads shard ≤ slice_index (reads_in is) shard
     no_less_by first shard true is_here =
         let lt : shard < shards = ltb-true shard shards is_here in
@@ -171,8 +168,8 @@ module _ {A : Type 0} {W : ℕ} (p : Here W) (after : Option (List ℕ)) (result
         omega (arith, none_old shard (ltb-false shard shards is_here))
 
     -- the first source, since there is one
-    first : RangeTask W
-    first = first_of_some was.gather.sources (omega (arith, some_shards, old_sources))
+    first : Source W
+    first = first_of_some was.gather.sources (omega (arith, ranges.some_shards, old_sources))
 
     reads_to : ReadsTo p.old.ledgers.reads new.ledgers.reads p.s.queries (replaced tag this p.s.queries)
     reads_to = record {
@@ -202,7 +199,8 @@ module _ {A : Type 0} {W : ℕ} (p : Here W) (after : Option (List ℕ)) (result
           let before = slice_index_or was.gather.sources shard first in
           record {
             bound = (asks before).bound last;
-            is_bound = bound_at p.config p.history was query it.keeps some_shards few_shards last last shard first lt;
+            is_bound = bound_at p.config p.history was query it.keeps ranges last
+                (answer_near p.config p.history was query it.keeps ranges) shard first lt;
             within =
                 let reads = gives.within.at shard first (omega (arith, lt, new_sources)) in
                 let same = same_asks was.gather.sources is.gather.sources gives.asked shard first in
@@ -228,7 +226,7 @@ module _ {A : Type 0} {W : ℕ} (p : Here W) (after : Option (List ℕ)) (result
       pinned = it.keeps.pinned;
       sources = new_sources;
       each_asks = λ shard d lt.
-          subst (AsksOn query.ask (rows_at p.config p.history query shard) (layout_at query.pinned shard))
+          subst (AsksOn p.config.bits query.ask (rows_at p.config p.history query shard) (layout_at query.pinned shard))
           (sym (same_asks was.gather.sources is.gather.sources gives.asked shard d)) (it.keeps.each_asks shard d lt);
       limit = gives.limit ∙ it.keeps.limit;
       given = given.given ∙ ap (λ n. min (n + count) (length (answer_in (asks {W = W}) was))) it.keeps.given

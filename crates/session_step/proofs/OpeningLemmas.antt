@@ -1,21 +1,35 @@
 -- Lemmas on an opening over a desk that is alone.
-use Rattle.std.proofs.Common.{◌≡◌, ℕ, zero, suc, ◌+◌, ◌-◌, ◌*◌, ◌≤◌, ◌<◌, true, false, List, [], ◌∷◌, ◌++◌}
-use Rattle.std.proofs.Common.{length, map, replicate, slice_index_or, Option, Some, None}
-use Rattle.std.proofs.Common.{refl, sym, ap, ◌∙◌, subst, arith, append-nil, inl}
-use Rattle.std.specs.List.{AllByRecursion}
-use Rattle.std.proofs.lemmas.List.{length-map}
+use Rattle.std.proofs.Common.{◌≡◌, ℕ, zero, suc, ◌+◌, ◌-◌, ◌*◌, ◌≤◌, ◌<◌, ◌&&◌, min, nat_le, Bool, true}
+use Rattle.std.proofs.Common.{List, [], ◌∷◌, ◌++◌, sum, take}
+use Rattle.std.proofs.Common.{length, map, replicate, slice_index_or, Option, None}
+use Rattle.std.proofs.Common.{refl, sym, ap, ◌∙◌, subst, arith, append-nil, inl, inr}
+use Rattle.std.specs.List.{AllByRecursion, list_all, sum_by}
+use Rattle.std.proofs.lemmas.Bool.{le-leb}
+use Rattle.std.proofs.lemmas.List.{length-map, get_or-map}
+use Rattle.std.proofs.lemmas.List.Sums.{sum-map}
+use Rattle.hamming_model.specs.History.{rows_of, shard_rows}
+use Rattle.hamming_model.specs.Scan.{Ask, Range, Near}
 use Rattle.hit_source.specs.Sources.{Asked, Standing, IsFresh}
 use Rattle.part_layout.specs.declared.config.Config.{Config}
-use Rattle.shard_query.specs.declared.range_task.RangeTask.{RangeTask}
-use Rattle.session_desk.specs.Desks.{DeskState, IsDesk, Pin, ShardPlace, no_place, pin_position, pinned_at, place_at, IsVersionOf}
+use Rattle.shard_version.specs.Contents.{Contents}
+use Rattle.session_desk.specs.Desks.{DeskState, IsDesk, Pin, ShardPlace, no_place, pin_position, pinned_at, IsVersionOf}
+use Rattle.session_desk.specs.Desks.{seen_history}
 use Rattle.session_model.specs.Upkeep.{entries_beyond}
 use Rattle.scatter_gather.specs.Gathering.{Gathered, gathered}
 use Rattle.scatter_gather.specs.Kept.{AreOneLength}
 use Rattle.query_opening.specs.Pinning.{ComesOn, behind}
-use Rattle.query_opening.specs.Opening.{OpensRange}
-use Rattle.session_step.specs.KeptDesk.{KeepsDesk, layouts_of, pins_of}
-use Rattle.session_step.specs.Opening.{OpensAll, OpensNone, IsGathered}
-use Rattle.session_step.specs.Cursors.{asks, stands}
+use Rattle.query_opening.specs.Opening.{AsksWanted, OpensSources, is_nearest}
+use Rattle.query_opening.specs.declared.wanted.Wanted.{Wanted}
+use Rattle.query_opening.specs.declared.wanted.Wanted.TheVariants.{Within, Nearest}
+use Rattle.hamming_model.specs.Shards.{AreShardNumbers}
+use Rattle.hamming_model.proofs.ShardLemmas.{numbers_add_up}
+use Rattle.open_queries.specs.Kept.{AreOfOneKind}
+use Rattle.session_step.specs.Questions.{ask_of, code_in, limit_in, wanted_in}
+use Rattle.session_step.specs.declared.question.Question.{Question}
+use Rattle.session_step.specs.declared.question.Question.TheVariants as question
+use Rattle.session_step.specs.KeptDesk.{KeepsDesk, pins_of}
+use Rattle.session_step.specs.Opening.{OpensAll, OpensNone, OpensGathered}
+use Rattle.session_step.specs.Cursors.{Source, asks, stands}
 use Rattle.session_step.proofs.BoundLemmas.{first_of_some}
 
 -- ---- lists by place
@@ -134,15 +148,16 @@ module _ (words : ℕ) (old new : DeskState) (is_old : IsDesk words old) (is_new
   }
 
   pub opens_all : {S : Type 0} (asks : S → Asked) (stands : S → Standing) (sources : List S)
-      (position rows : ℕ) (code : List ℕ) (tau room from to : ℕ)
-      → OpensRange asks stands old new position rows code tau room sources
+      (position rows : ℕ) (asked : Ask) (room from to : ℕ)
+      → OpensSources asks stands old new position rows (wanted_in asked) (code_in asked) room sources
       → to ≤ from + behind old.pins (length new.seen) old.config.shards
-      → OpensAll asks stands old new sources position code tau room from to
-  opens_all asks stands sources position rows code tau room from to opens steps =
+      → OpensAll asks stands old new sources position rows asked room from to
+  opens_all asks stands sources position rows asked room from to opens steps =
       let some = first_of_some sources (omega (arith, opens.number, is_old.config.some_shards)) in
       let at : position ≡ length new.seen = omega (arith, opens.after, opens.within, ap length seen_same) in
       record {
         position_is = at;
+        rows_are = opens.rows_are;
         seen = seen_same;
         keeps = keeps;
         pins = one_list pin_position new.pins None position (λ i lt.
@@ -158,49 +173,88 @@ module _ (words : ℕ) (old new : DeskState) (is_old : IsDesk words old) (is_new
               version = one.version;
               version_is = subst (λ n. IsVersionOf new shard n one.version) at one.pinned.version_is;
               layout = one.pinned.layout alone ∙ sym (comes.layouts alone shard);
-              asks = one.range_is.asks;
-              begins = one.range_is.begins;
+              source_is = one.source_is;
             };
       }
 
--- ---- sources on codes of one length
+-- ---- a gathering of what was opened
 
-all_far : (asked : List Asked) (bits : ℕ) → AllByRecursion (λ a. a.farthest ≡ bits) asked
-    → (far : ℕ) → far ≡ bits → AllByRecursion (λ a. a.farthest ≡ far) asked
-all_far [] bits all far same = tt
-all_far (a ∷ asked) bits all far same = (all.0 ∙ sym same, all_far asked bits all.1 far same)
+-- the code of a question is the one that it was made with
+pub code_of_ask : (asked : Question) (code : List ℕ) → code_in (ask_of asked code) ≡ code
+code_of_ask (question.Range tau) code = refl
+code_of_ask (question.Near number) code = refl
 
-pub one_length : (asked : List Asked) (bits : ℕ) → AllByRecursion (λ a. a.farthest ≡ bits) asked → AreOneLength asked
-one_length [] bits all = tt
-one_length (a ∷ asked) bits all = all_far (a ∷ asked) bits all a.farthest all.0
+-- each is near
+all_near : (asked : List Asked) → AllByRecursion (λ (a : Asked). a.near ≡ true) asked
+    → list_all (λ (a : Asked). a.near) asked ≡ true
+all_near [] all = refl
+all_near (a ∷ asked) all = ap (λ b. b && list_all (λ (a : Asked). a.near) asked) all.0 ∙ all_near asked all.1
 
--- the gathering of what was opened has given nothing
-module _ {W : ℕ} (words : ℕ) (old new : DeskState) (sources : List (RangeTask W)) (position : ℕ) (code : List ℕ)
-    (tau room from to : ℕ) (is_old : IsDesk words old)
-    (opens : OpensAll (asks {W = W}) (stands {W = W}) old new sources position code tau room from to) where
-  some : RangeTask W
+both : (a b : Bool) → a ≡ true → b ≡ true → (a && b) ≡ true
+both a b first second = ap (λ x. x && b) first ∙ second
+
+-- what was opened is of one kind, and near queries have as many rows as the limit
+one_kind_of : (asked : Ask) (rows : ℕ) (all : List Asked) → AllByRecursion (λ (a : Asked). a.near ≡ is_nearest (wanted_in asked)) all
+    → sum_by (λ (a : Asked). a.rows) all ≡ rows → AreOfOneKind all (limit_in asked rows)
+one_kind_of (Range tau code) rows all kind sum = inl kind
+one_kind_of (Near number code) rows all kind sum =
+    inr (both (list_all (λ (a : Asked). a.near) all) (nat_le (min number rows) (sum_by (λ (a : Asked). a.rows) all))
+    (all_near all kind) (le-leb (min number rows) (sum_by (λ (a : Asked). a.rows) all) (omega (arith, sum))))
+
+sum_of_rows : (all : List Asked) → sum_by (λ (a : Asked). a.rows) all ≡ sum (map (λ (a : Asked). a.rows) all)
+sum_of_rows all = sym (sum-map (λ (a : Asked). a.rows) all)
+
+-- a gathering of what was opened has given nothing
+module _ {W : ℕ} (words : ℕ) (old new : DeskState) (sources : List (Source W)) (position rows : ℕ) (asked : Ask)
+    (room from to : ℕ) (is_old : IsDesk words old)
+    (opens : OpensAll (asks {W = W}) (stands {W = W}) old new sources position rows asked room from to) where
+  some : Source W
   some = first_of_some sources (omega (arith, opens.number, is_old.config.some_shards))
 
-  pub same_length : AreOneLength (map (asks {W = W}) sources)
-  same_length = one_length (map (asks {W = W}) sources) new.config.bits
-      (all_places (λ a. a.farthest ≡ new.config.bits) (asks {W = W}) sources some (λ i lt.
-      let one = opens.each i some (omega (arith, lt, opens.number)) in
-      one.asks.farthest ∙ one.version_is.bits_are))
+  abbrev numbers : List ℕ
+  numbers = map (λ (a : Asked). a.rows) (map (asks {W = W}) sources)
 
-  none_near : AllByRecursion (λ (a : Asked). a.near ≡ false) (map (asks {W = W}) sources)
-  none_near = all_places (λ (a : Asked). a.near ≡ false) (asks {W = W}) sources some (λ i lt.
-      (opens.each i some (omega (arith, lt, opens.number))).asks.near)
+  -- what the rows of a version are
+  rows_asked : (wanted : Wanted) (version : Contents) (code : List ℕ) (a : Asked) → AsksWanted wanted version code room a
+      → a.rows ≡ length version.rows
+  rows_asked (Within tau) version code a asks = asks.rows
+  rows_asked Nearest version code a asks = asks.rows
 
-  pub is_gathered : (gather : Gathered (RangeTask W)) → gather ≡ gathered sources 18446744073709551615 0 None
-      → AllByRecursion (λ source. IsFresh (stands {W = W} source)) sources → IsGathered gather
-  is_gathered gather same fresh =
-      subst (λ g. IsGathered {W = W} g) (sym same) (record {
-        limit = refl;
-        given = refl;
-        untouched = record {
-          is_new = refl;
-          fresh = fresh;
-          one_length = same_length;
-          one_kind = inl none_near;
+  numbers_are : AreShardNumbers old.config.shards (rows_of (take position (seen_history new))) numbers
+  numbers_are = record {
+    some = is_old.config.some_shards;
+    number = length-map (map (asks {W = W}) sources) (λ (a : Asked). a.rows) ∙ length-map sources (asks {W = W}) ∙ opens.number;
+    each = λ shard other lt.
+        let one = opens.each shard some lt in
+        get_or-map (λ (a : Asked). a.rows) (map (asks {W = W}) sources) shard (asks some) other
+        (omega (arith, lt, opens.number, length-map sources (asks {W = W})))
+        ∙ ap (λ (a : Asked). a.rows) (get_or-map (asks {W = W}) sources shard some (asks some) (omega (arith, lt, opens.number)))
+        ∙ rows_asked (wanted_in asked) one.version (code_in asked) _ one.source_is.asks
+        ∙ ap length one.version_is.rows
+        ∙ ap (λ n. length (shard_rows shard n (rows_of (take (length new.seen) (seen_history new))))) (ap (λ (c : Config). c.shards) opens.keeps.config)
+        ∙ ap (λ n. length (shard_rows shard old.config.shards (rows_of (take n (seen_history new))))) (sym opens.position_is);
+  }
+
+  pub is_gathered : (gather : Gathered (Source W)) → gather ≡ gathered sources (limit_in asked rows) 0 None
+      → AllByRecursion (λ source. IsFresh (stands {W = W} source)) sources
+      → AreOneLength (map (asks {W = W}) sources)
+      → AllByRecursion (λ (a : Asked). a.near ≡ is_nearest (wanted_in asked)) (map (asks {W = W}) sources)
+      → OpensGathered old new gather position asked room from to
+  is_gathered gather same fresh one_length kind =
+      subst (λ g. OpensGathered {W = W} old new g position asked room from to) (sym same) (record {
+        rows = rows;
+        gathers = record {
+          limit = refl;
+          given = refl;
+          untouched = record {
+            is_new = refl;
+            fresh = fresh;
+            one_length = one_length;
+            one_kind = one_kind_of asked rows (map (asks {W = W}) sources) kind
+                (sum_of_rows (map (asks {W = W}) sources)
+                ∙ numbers_add_up old.config.shards (rows_of (take position (seen_history new))) numbers numbers_are
+                ∙ sym opens.rows_are);
+          };
         };
+        opens = opens;
       })

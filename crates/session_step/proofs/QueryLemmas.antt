@@ -1,6 +1,6 @@
 -- Lemmas on the queries of a state: those that are open, the one of a tag, and after one is opened,
 -- changed or closed.
-use Rattle.std.proofs.Common.{◌≡◌, ℕ, ◌+◌, ◌≤◌, ◌<◌, Bool, true, false, cond, not, ◌&&◌, Option, Some, None}
+use Rattle.std.proofs.Common.{◌≡◌, ℕ, ◌+◌, ◌≤◌, ◌<◌, Bool, true, false, cond, not, ◌&&◌, Some, None}
 use Rattle.std.proofs.Common.{List, [], ◌∷◌, ◌++◌, length, take, drop, map, slice_index, slice_index_or}
 use Rattle.std.proofs.Common.{refl, sym, ap, ◌∙◌, subst, arith, length-append}
 use Rattle.std.specs.List.{AllByRecursion}
@@ -11,12 +11,12 @@ use Rattle.std.proofs.Math.ListN.{get_or-map}
 use Rattle.std.proofs.lemmas.List.Elements.{filter-append}
 use Rattle.hamming_model.specs.History.{JournalEntry, rows_of, shard_rows}
 use Rattle.part_layout.specs.declared.config.Config.{Config}
-use Rattle.shard_query.specs.declared.range_task.RangeTask.{RangeTask}
 use Rattle.session_model.specs.State.{Query, is_open, has_tag, query_of, replaced, open_queries}
 use Rattle.session_model.specs.Ledger.{column, readings_of, layout_at, rows_at}
 use Rattle.hit_source.specs.Sources.{Standing}
 use Rattle.open_queries.specs.Queries.{IsFree, IsUsed, IsSame, Changes, Removes}
-use Rattle.session_step.specs.Cursors.{Cursor, asks, stands}
+use Rattle.session_step.specs.Questions.{limit_in}
+use Rattle.session_step.specs.Cursors.{Source, Cursor, asks, stands}
 use Rattle.session_step.specs.Meaning.{AsksOn, Keeps, AllKeep}
 
 -- a list, parted at a place
@@ -212,10 +212,11 @@ keeps_later {W} config history later cursor query keeps =
       pinned = keeps.pinned;
       sources = keeps.sources;
       each_asks = λ shard d lt.
-          subst (λ h. AsksOn query.ask (shard_rows shard config.shards (rows_of h)) (layout_at query.pinned shard)
+          subst (λ h. AsksOn config.bits query.ask (shard_rows shard config.shards (rows_of h)) (layout_at query.pinned shard)
           (asks (slice_index_or cursor.gather.sources shard d)))
           (sym (take-append-le query.position history later within)) (keeps.each_asks shard d lt);
-      limit = keeps.limit;
+      limit = subst (λ h. cursor.gather.limit ≡ limit_in query.ask (length (rows_of h)))
+          (sym (take-append-le query.position history later within)) keeps.limit;
       given = keeps.given;
       done = keeps.done;
       reads = keeps.reads;
@@ -364,8 +365,8 @@ replaced_same tag query (first ∷ queries) is =
     replaced_by tag query first queries (has_tag tag first) is (replaced_same tag query queries)
 
 -- what is asked of the source of a shard, where all are asked the same
-pub same_asks : {W : ℕ} (old new : List (RangeTask W)) → map (asks {W = W}) new ≡ map (asks {W = W}) old
-    → (shard : ℕ) (d : RangeTask W)
+pub same_asks : {W : ℕ} (old new : List (Source W)) → map (asks {W = W}) new ≡ map (asks {W = W}) old
+    → (shard : ℕ) (d : Source W)
     → asks (slice_index_or new shard d) ≡ asks (slice_index_or old shard d)
 same_asks {W} old new same shard d =
     sym (get_or-map (asks {W = W}) new shard d) ∙ ap (λ l. slice_index_or l shard (asks d)) same
@@ -377,13 +378,13 @@ same_number_of f old new same =
     sym (length-map new f) ∙ ap length same ∙ length-map old f
 
 -- the reads by shard, where the sources stand the same
-reads_of_standings : {W : ℕ} (sources : List (RangeTask W))
+reads_of_standings : {W : ℕ} (sources : List (Source W))
     → map (λ source. (stands {W = W} source).reads) sources
     ≡ map (λ (s : Standing). s.reads) (map (stands {W = W}) sources)
 reads_of_standings [] = refl
 reads_of_standings (source ∷ sources) = ap (λ l. (stands source).reads ∷ l) (reads_of_standings sources)
 
-pub same_reads : {W : ℕ} (old new : List (RangeTask W)) → map (stands {W = W}) new ≡ map (stands {W = W}) old
+pub same_reads : {W : ℕ} (old new : List (Source W)) → map (stands {W = W}) new ≡ map (stands {W = W}) old
     → map (λ source. (stands {W = W} source).reads) new ≡ map (λ source. (stands {W = W} source).reads) old
 same_reads old new same =
     reads_of_standings new ∙ ap (map (λ (s : Standing). s.reads)) same ∙ sym (reads_of_standings old)
@@ -397,7 +398,7 @@ keeps_same {W} config history before after query keeps same = record {
   pinned = keeps.pinned;
   sources = same_number_of (asks {W = W}) before.gather.sources after.gather.sources same.asked ∙ keeps.sources;
   each_asks = λ shard d lt.
-      subst (AsksOn query.ask (rows_at config history query shard) (layout_at query.pinned shard))
+      subst (AsksOn config.bits query.ask (rows_at config history query shard) (layout_at query.pinned shard))
       (sym (same_asks before.gather.sources after.gather.sources same.asked shard d))
       (keeps.each_asks shard d lt);
   limit = same.limit ∙ keeps.limit;

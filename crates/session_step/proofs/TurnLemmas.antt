@@ -1,6 +1,6 @@
 -- Lemmas on one line: what a request, a fault and nothing make of a session that is alone.
-use Rattle.std.proofs.Common.{◌≡◌, ℕ, ◌+◌, min, Bool, true, false, cond, List, [], ◌∷◌, ◌++◌, Option, None, Some}
-use Rattle.std.proofs.Common.{Result, Ok, Err, refl, sym, ap, ◌∙◌, subst}
+use Rattle.std.proofs.Common.{◌≡◌, ℕ, ◌+◌, min, true, cond, List, [], ◌∷◌, Option, None}
+use Rattle.std.proofs.Common.{Result, Ok, Err, refl, sym, ap, ◌∙◌}
 use Rattle.std.specs.Io.KnownBytes.{Appends}
 use Rattle.line_io.specs.declared.source.Failed.{Failed}
 use Rattle.query_protocol.specs.Requests.{LineReading}
@@ -8,14 +8,12 @@ use Rattle.query_protocol.specs.Replies.{reply_line}
 use Rattle.query_protocol.specs.Replies as reply
 use Rattle.query_protocol.specs.declared.bad.Bad.{Bad}
 use Rattle.session_model.specs.Run.{is_answered}
-use Rattle.session_model.specs.State.{open_queries}
 use Rattle.open_queries.specs.Writing.{Writes, IsCaused}
 use Rattle.session_step.specs.declared.turn.Turn.{Turn}
 use Rattle.session_step.specs.declared.turn.Turn.TheVariants.{Goes}
 use Rattle.session_step.specs.Moments.{Moment}
-use Rattle.session_step.specs.Meaning.{AllKeep}
-use Rattle.session_step.specs.Answering.{OneStep, OneLine, TurnIs, turn_after, requests_with}
-use Rattle.session_step.proofs.Here.{Here, StepTo, asked_here, exchange_here, quiet, writes_one}
+use Rattle.session_step.specs.Answering.{TurnIs, turn_after, requests_with}
+use Rattle.session_step.proofs.Here.{Here, StepTo, asked_here, quiet, writes_one}
 
 -- a step with the requests counted
 counted_step : {A : Type 0} {W : ℕ} (p : Here W) (after : Option (List ℕ)) (result : Result A Failed) (mid : Moment W)

@@ -1,8 +1,10 @@
 -- What one line makes of a session: the step that answers it, from one moment to the next.
 use Rattle.std.specs.Prelude.{◌≡◌, ℕ, ◌+◌, min, true, Option, Some, Result, Ok, Err, OnOk}
-use Rattle.std.specs.Prelude.{List, [], ◌++◌, if◌then◌else◌}
+use Rattle.std.specs.Prelude.{List, [], ◌∷◌, ◌++◌, if◌then◌else◌}
 use Rattle.std.specs.List.{AllByRecursion}
 use Rattle.std.specs.Io.KnownBytes.{Appends}
+use Rattle.byte_lines.specs.Cut.{TellsOf}
+use Rattle.byte_lines.specs.declared.cutter.Cut.{Cut}
 use Rattle.line_io.specs.declared.source.Failed.{Failed}
 use Rattle.hamming_model.specs.History.{JournalEntry}
 use Rattle.part_layout.specs.declared.config.Config.{Config}
@@ -19,8 +21,10 @@ use Rattle.session_model.specs.Run.{asks_quit}
 use Rattle.open_queries.specs.Writing.{Writes}
 use Rattle.session_step.specs.declared.turn.Turn.{Turn}
 use Rattle.session_step.specs.declared.turn.Turn.TheVariants.{Goes, Quits}
-use Rattle.session_step.specs.Moments.{Moment, ReadsTo, Spends}
+use Rattle.session_step.specs.Moments.{Moment, Point, ReadsTo, Spends, moment_of}
+use Rattle.session_step.specs.declared.open_session.Session.{Session}
 use Rattle.session_step.specs.Meaning.{Means, AllKeep, IsSettled}
+use Rattle.session_desk.specs.Desks.{DeskState}
 use Rattle.session_step.specs.KeptDesk.{KeepsDesk}
 
 -- one answered line more, if it is one: the count stays at the greatest number
@@ -95,3 +99,22 @@ AnswersAs {W} result config line before after old new =
 abbrev pub turn_after : Result (Unit {0}) Failed → Result Turn Failed
 turn_after (Ok unit) = Ok Goes
 turn_after (Err failed) = Err failed
+
+-- the line of a cut is answered so between two points of a session
+abbrev pub AnswersCut : {W : ℕ} → Cut → Result Turn Failed → Config → Point W → Point W → Type 0
+AnswersCut cut result config old new =
+    (line : List ℕ) → TellsOf (Some cut) old.cutter.line (line ∷ [])
+    → AnswersAs result config line old.written new.written old.moment new.moment
+
+-- a request is answered so between two points of a session
+abbrev pub AnswersBetween : {A : Type 0} {W : ℕ} → LineRequest → Result A Failed → Config
+    → Point W → Point W → Type 0
+AnswersBetween asked result config old new =
+    AnswersRequest asked result config old.written new.written old.moment new.moment
+
+-- a request is answered so that reads no posting and has no shard follow an entry
+abbrev pub AnswersUncounted : {A : Type 0} {W : ℕ} → LineRequest → Result A Failed → Config
+    → DeskState → DeskState → Session W → Session W → Option (List ℕ) → Option (List ℕ) → Type 0
+AnswersUncounted asked result config desk desk' session session' before after =
+    (reads : List ℕ) (upkeep : ℕ) → AnswersRequest asked result config before after
+    (moment_of desk session reads upkeep) (moment_of desk' session' reads upkeep)

@@ -1,3 +1,4 @@
+pub mod Questions
 pub mod Cursors
 pub mod KeptDesk
 pub mod Moments

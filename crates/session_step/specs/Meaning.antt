@@ -1,14 +1,12 @@
--- How a desk and the cursors mean a state. No public clause cites this module.
+-- How a desk and the cursors mean a state.
 use Rattle.std.specs.Prelude.{◌≡◌, ℕ, ◌<◌, ◌≤◌, true, false, None, List, [], ◌∷◌, length}
-use Rattle.std.specs.Prelude.{slice_index_or, Option}
+use Rattle.std.specs.Prelude.{slice_index_or, take, Option, IfSome}
 use Rattle.std.specs.List.{AllByRecursion}
 use Rattle.hamming_model.specs.declared.limits.TheConstants.{ENTRIES_MOST, WORDS_MOST}
-use Rattle.hamming_model.specs.History.{JournalEntry}
+use Rattle.hamming_model.specs.History.{JournalEntry, rows_of}
 use Rattle.hamming_model.specs.Scan.{Ask, scan}
-use Rattle.hamming_model.specs.Scan as ask
 use Rattle.hit_source.specs.Sources.{Asked}
-use Rattle.shard_query.specs.declared.range_task.RangeTask.{RangeTask}
-use Rattle.threshold_model.specs.Vectors.{IsChoice, IsLeast, row_counts}
+use Rattle.threshold_model.specs.Bounds.{IsBoundOf, IsPlanOf}
 use Rattle.part_layout.specs.declared.config.Config.{Config}
 use Rattle.part_layout.specs.Ranges.{IsConfig}
 use Rattle.gph_codes.specs.Allowed.{IsAllowed}
@@ -18,26 +16,21 @@ use Rattle.session_desk.specs.Desks.{DeskState, seen_history}
 use Rattle.session_model.specs.State.{Query, State}
 use Rattle.session_model.specs.Step.{AreLayouts}
 use Rattle.session_model.specs.Ledger.{IsBounded, layout_at, rows_at}
-use Rattle.session_step.specs.Cursors.{Cursor, asks, reads_in}
+use Rattle.session_step.specs.Questions.{code_in, radius_in, limit_in}
+use Rattle.session_step.specs.Cursors.{Source, Cursor, asks, reads_in}
 use Rattle.session_step.specs.KeptDesk.{layouts_of}
 
--- a source is asked for all rows of a shard within a radius, in a layout of its codes
-pub record AsksWithin (rows : List (ℕ × List ℕ)) (layout : List (List ℕ)) (code : List ℕ) (tau : ℕ)
+-- a source is asked this question on the rows of a shard, in a layout of their codes
+pub record AsksOn (bits : ℕ) (asked : Ask) (rows : List (ℕ × List ℕ)) (layout : List (List ℕ))
     (a : Asked) : Type 0 where
-  pub hits : a.hits ≡ scan rows code tau
+  pub radius : radius_in bits asked ≤ bits
+  pub hits : a.hits ≡ scan rows (code_in asked) (radius_in bits asked)
   pub rows_are : a.rows ≡ length rows
   pub few : length rows ≤ ENTRIES_MOST
-  pub vector : (given : Option ℕ) →
-      IsChoice (row_counts rows layout code) tau (length layout) (a.plan given).0
-  pub cost : (given : Option ℕ) →
-      IsLeast (row_counts rows layout code) tau (length layout) (a.plan given).1
-  pub bound : (given : Option ℕ) →
-      IsLeast (row_counts rows layout code) tau (length layout) (a.bound given)
-
--- a source is asked this question on the rows of a shard
-abbrev pub AsksOn : Ask → List (ℕ × List ℕ) → List (List ℕ) → Asked → Type 0
-AsksOn (ask.Range tau code) rows layout a = AsksWithin rows layout code tau a
-AsksOn (ask.Near number code) rows layout a = ⊥
+  pub plan : (last : Option ℕ) → IfSome last (λ distance. distance ≤ bits) →
+      IsPlanOf asked rows layout last (a.plan last).0 (a.plan last).1
+  pub bound : (last : Option ℕ) → IfSome last (λ distance. distance ≤ bits) →
+      IsBoundOf asked rows layout last (a.bound last)
 
 -- a cursor is this open query of the state, in a history
 pub record Keeps {W : ℕ} (config : Config) (history : List JournalEntry) (cursor : Cursor W)
@@ -46,10 +39,11 @@ pub record Keeps {W : ℕ} (config : Config) (history : List JournalEntry) (curs
   pub within : query.position ≤ length history
   pub pinned : AreLayouts config query.pinned
   pub sources : length cursor.gather.sources ≡ config.shards
-  pub each_asks : (shard : ℕ) (d : RangeTask W) → shard < config.shards →
-      AsksOn query.ask (rows_at config history query shard) (layout_at query.pinned shard)
-      (asks (slice_index_or cursor.gather.sources shard d))
-  pub limit : cursor.gather.limit ≡ 18446744073709551615
+  pub each_asks : (shard : ℕ) (d : Source W) → shard < config.shards →
+      AsksOn config.bits query.ask (rows_at config history query shard)
+      (layout_at query.pinned shard) (asks (slice_index_or cursor.gather.sources shard d))
+  pub limit : cursor.gather.limit
+      ≡ limit_in query.ask (length (rows_of (take query.position history)))
   pub given : cursor.gather.given ≡ query.given
   pub done : cursor.done ≡ query.done
   pub reads : query.reads ≡ reads_in cursor

@@ -1,6 +1,7 @@
 -- A session between two lines: the desk, the open queries, the ledgers and the report so far.
--- No public clause but those of private calls cites this module.
 use Rattle.std.specs.Prelude.{◌≡◌, ℕ, ◌+◌, ◌<◌, ◌≤◌, List, length, slice_index}
+use Rattle.std.specs.declared.option.Option.{Option}
+use Rattle.byte_lines.specs.Cut.{CutterState}
 use Rattle.session_desk.specs.Desks.{DeskState}
 use Rattle.session_model.specs.State.{Query}
 use Rattle.session_model.specs.Ledger.{Ledgers, ledgers, column, readings_of}
@@ -9,7 +10,8 @@ use Rattle.session_step.specs.KeptDesk.{pins_of}
 use Rattle.session_step.specs.declared.open_session.Session.{Session}
 use Rattle.session_step.specs.Cursors.{Cursor}
 
--- the desk, the open queries and the ledgers, how many requests were answered, and the last position
+-- the desk, the open queries and the ledgers, how many requests were answered, and the last
+-- position
 pub record Moment (W : ℕ) : Type 0 where
   pub desk : DeskState
   pub cursors : List (Cursor W)
@@ -39,4 +41,19 @@ moment_of {W} desk session reads upkeep = record {
   ledgers = ledgers reads upkeep;
   requests = session.requests;
   position = session.position;
+}
+
+-- a session between two pieces of its input: its moment, what it holds of a line, and what the sink
+-- holds
+pub record Point (W : ℕ) : Type 0 where
+  pub moment : Moment W
+  pub cutter : CutterState
+  pub written : Option (List ℕ)
+
+-- the point at which a session stands, with its desk, its ledgers and its sink
+abbrev pub point_of : {W : ℕ} → DeskState → Session W → List ℕ → ℕ → Option (List ℕ) → Point W
+point_of {W} desk session reads upkeep written = record {
+  moment = moment_of desk session reads upkeep;
+  cutter = session.cutter;
+  written = written;
 }

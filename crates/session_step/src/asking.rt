@@ -14,11 +14,11 @@ use crate::open_session::Session;
 use line_io::{Failed, Sink};
 use open_queries::{OpenQueries, say, send};
 use part_layout::Config;
+use query_opening::Source;
 use query_protocol::{Tag, write_layout};
 use read_meter::Meters;
 use scatter_gather::Gate;
 use session_desk::Desk;
-use shard_query::RangeTask;
 use std::thread::Threads;
 
 /// Answers the next hits of the query of a tag.
@@ -101,7 +101,7 @@ pub(crate) fn plan<const W: usize, K: Sink>(
 // A source stands behind each query for the shard.
 fn every_query_has_shard<const W: usize>(
     config: &Config,
-    queries: &OpenQueries<RangeTask<W>>,
+    queries: &OpenQueries<Source<W>>,
     shard: u32,
 )
     requires few_words { W ≤ 8 }

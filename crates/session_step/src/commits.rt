@@ -2,6 +2,7 @@
 
 ghost use Rattle.std.specs.Prelude.{◌≡◌, ◌≤◌, ℕ, List, [], true, take, IfSome};
 ghost use Rattle.gph_codes.specs.Allowed.{IsAllowed};
+ghost use Rattle.hamming_model.specs.declared.limits.TheConstants.{WORDS_MOST};
 ghost use Rattle.hamming_model.specs.Codes.{StandsFor};
 ghost use Rattle.hamming_model.specs.Recoded.{IsStoredOperation};
 ghost use Rattle.entry_log.specs.Entries.{kept_operation};
@@ -11,8 +12,7 @@ ghost use Rattle.session_model.specs.Entries.{code_reply};
 ghost use Rattle.std.specs.Option.{option_map};
 ghost use Rattle.open_queries.specs.Writing.{IsCaused};
 ghost use Rattle.session_step.specs.Commits.{CommitsAs, decided_reply};
-ghost use Rattle.session_step.specs.Answering.{AnswersRequest};
-ghost use Rattle.session_step.specs.Moments.{moment_of};
+ghost use Rattle.session_step.specs.Answering.{AnswersUncounted};
 
 use crate::open_session::Session;
 use byte_lines::LineBuf;
@@ -34,15 +34,13 @@ pub(crate) fn add<const W: usize, D: Desk<W>, K: Sink>(
     code: Code<W>,
     sink: &mut K,
 ) -> Result<(), Failed>
-    requires few_words { W ≤ 8 }
+    requires few_words { W ≤ WORDS_MOST }
     requires alone { (D.desk desk.old).alone ≡ true }
     requires config { (D.desk desk.old).config ≡ config.now }
     requires code { StandsFor W config.now.bits code (take config.now.bits code) }
-    ensures answers { (reads : List ℕ) (upkeep : ℕ) →
-        AnswersRequest (Add key (take config.now.bits code.entry)) result config.now
-        (K.held sink.old) (K.held sink.new)
-        (moment_of (D.desk desk.old) session.old reads upkeep)
-        (moment_of (D.desk desk.new) session.new reads upkeep) }
+    ensures answers { AnswersUncounted (Add key (take config.now.bits code.entry)) result config.now
+        (D.desk desk.old) (D.desk desk.new) session.old session.new
+        (K.held sink.old) (K.held sink.new) }
     ensures cutter { session.new.cutter ≡ session.old.cutter }
     ensures requests { session.new.requests ≡ session.old.requests }
     ensures queries { session.new.queries ≡ session.old.queries }
@@ -62,13 +60,12 @@ pub(crate) fn delete<const W: usize, D: Desk<W>, K: Sink>(
     key: u64,
     sink: &mut K,
 ) -> Result<(), Failed>
-    requires few_words { W ≤ 8 }
+    requires few_words { W ≤ WORDS_MOST }
     requires alone { (D.desk desk.old).alone ≡ true }
     requires config { (D.desk desk.old).config ≡ config.now }
-    ensures answers { (reads : List ℕ) (upkeep : ℕ) →
-        AnswersRequest (Del key) result config.now (K.held sink.old) (K.held sink.new)
-        (moment_of (D.desk desk.old) session.old reads upkeep)
-        (moment_of (D.desk desk.new) session.new reads upkeep) }
+    ensures answers { AnswersUncounted (Del key) result config.now
+        (D.desk desk.old) (D.desk desk.new) session.old session.new
+        (K.held sink.old) (K.held sink.new) }
     ensures cutter { session.new.cutter ≡ session.old.cutter }
     ensures requests { session.new.requests ≡ session.old.requests }
     ensures queries { session.new.queries ≡ session.old.queries }
@@ -88,14 +85,13 @@ pub(crate) fn get<const W: usize, D: Desk<W>, K: Sink>(
     key: u64,
     sink: &mut K,
 ) -> Result<(), Failed>
-    requires few_words { W ≤ 8 }
+    requires few_words { W ≤ WORDS_MOST }
     requires allowed { IsAllowed W config.now.bits }
     requires alone { (D.desk desk.old).alone ≡ true }
     requires config { (D.desk desk.old).config ≡ config.now }
-    ensures answers { (reads : List ℕ) (upkeep : ℕ) →
-        AnswersRequest (Get key) result config.now (K.held sink.old) (K.held sink.new)
-        (moment_of (D.desk desk.old) session.old reads upkeep)
-        (moment_of (D.desk desk.new) session.new reads upkeep) }
+    ensures answers { AnswersUncounted (Get key) result config.now
+        (D.desk desk.old) (D.desk desk.new) session.old session.new
+        (K.held sink.old) (K.held sink.new) }
     ensures cutter { session.new.cutter ≡ session.old.cutter }
     ensures requests { session.new.requests ≡ session.old.requests }
     ensures queries { session.new.queries ≡ session.old.queries }
@@ -118,7 +114,7 @@ fn write_found<const W: usize>(
     at: u64,
     out: &mut LineBuf,
 )
-    requires few_words { W ≤ 8 }
+    requires few_words { W ≤ WORDS_MOST }
     requires allowed { IsAllowed W bits }
     requires stands { IfSome code (λ code. StandsFor W bits code (take bits code)) }
     requires empty { out.old ≡ [] }

@@ -7,6 +7,7 @@ mod commits;
 mod line_answer;
 mod open_session;
 mod opening;
+mod question;
 mod turn;
 
 pub use line_answer::answer;

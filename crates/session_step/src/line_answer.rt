@@ -8,13 +8,14 @@ ghost use Rattle.query_protocol.specs.Lines.{reading};
 ghost use Rattle.query_protocol.specs.Stored.{unstored, IsFit, IsFitReading, NamesShard, ReadsAs};
 ghost use Rattle.open_queries.specs.Writing.{IsCaused};
 ghost use Rattle.session_step.specs.Meaning.{IsReady, HaveShards, IsAnswered};
-ghost use Rattle.session_step.specs.Answering.{AnswersAs, AnswersRequest, turn_after};
-ghost use Rattle.session_step.specs.Moments.{moment_of};
+ghost use Rattle.session_step.specs.Answering.{AnswersBetween, AnswersCut, turn_after};
+ghost use Rattle.session_step.specs.Moments.{point_of};
 
 use crate::asking::{cancel, cost, layout, next, plan};
 use crate::commits::{add, delete, get};
 use crate::open_session::Session;
-use crate::opening::range;
+use crate::opening::begin_query;
+use crate::question::Question;
 use crate::turn::Turn;
 use byte_lines::{Cut, Cutter};
 use line_io::{Failed, Sink};
@@ -45,10 +46,9 @@ pub fn answer<const W: usize, D: Desk<W>, K: Sink, R: Threads + Sync, G: Gate, L
     requires alone { (D.desk desk.old).alone ≡ true }
     requires config { (D.desk desk.old).config ≡ config.now }
     requires shards { HaveShards config.now.shards session.old.queries }
-    ensures answers { (line : List ℕ) → TellsOf (Some cut) session.old.cutter.line (line ∷ []) →
-        AnswersAs result config.now line (K.held sink.old) (K.held sink.new)
-        (moment_of (D.desk desk.old) session.old meters.old upkeep.old)
-        (moment_of (D.desk desk.new) session.new meters.new upkeep.new) }
+    ensures answers { AnswersCut cut result config.now
+        (point_of (D.desk desk.old) session.old meters.old upkeep.old (K.held sink.old))
+        (point_of (D.desk desk.new) session.new meters.new upkeep.new (K.held sink.new)) }
     ensures cutter { session.new.cutter ≡ session.old.cutter }
     ensures alone { (D.desk desk.new).alone ≡ true }
     ensures config { (D.desk desk.new).config ≡ config.now }
@@ -104,10 +104,9 @@ fn meet<const W: usize, D: Desk<W>, K: Sink, R: Threads + Sync, G: Gate, L: Send
     requires fit { IsFit W config.now.bits request }
     requires shard { NamesShard config.now.shards (Ok (Some request)) }
     requires goes { IsAnswered request }
-    ensures answers { AnswersRequest (unstored config.now.bits request.entry) result config.now
-        (K.held sink.old) (K.held sink.new)
-        (moment_of (D.desk desk.old) session.old meters.old upkeep.old)
-        (moment_of (D.desk desk.new) session.new meters.new upkeep.new) }
+    ensures answers { AnswersBetween (unstored config.now.bits request.entry) result config.now
+        (point_of (D.desk desk.old) session.old meters.old upkeep.old (K.held sink.old))
+        (point_of (D.desk desk.new) session.new meters.new upkeep.new (K.held sink.new)) }
     ensures cutter { session.new.cutter ≡ session.old.cutter }
     ensures requests { session.new.requests ≡ session.old.requests }
     ensures alone { (D.desk desk.new).alone ≡ true }
@@ -120,7 +119,16 @@ fn meet<const W: usize, D: Desk<W>, K: Sink, R: Threads + Sync, G: Gate, L: Send
         Request::Del { key } => delete(config, session, desk, key, sink),
         Request::Get { key } => get(config, session, desk, key, sink),
         Request::Range { tag, tau, code } => {
-            range(alloc, config, session, desk, tag, tau, code, sink, upkeep)
+            let question = Question::Range(tau);
+            begin_query(
+                alloc, config, session, desk, tag, question, code, sink, upkeep,
+            )
+        }
+        Request::Near { tag, k, code } => {
+            let question = Question::Near(k);
+            begin_query(
+                alloc, config, session, desk, tag, question, code, sink, upkeep,
+            )
         }
         Request::Next { tag, n } => next(rt, config, session, &tag, n, sink, gate, meters),
         Request::Cost { tag } => cost(config, session, &tag, sink),

@@ -1,38 +1,37 @@
-//! `range`.
+//! `range` and `near`.
 
 ghost use Rattle.std.specs.Prelude.{◌≡◌, ◌≤◌, ℕ, List, true, take, IfOk, OnErr};
 ghost use Rattle.hamming_model.specs.Codes.{StandsFor};
 ghost use Rattle.hamming_model.specs.declared.limits.TheConstants.{ROOM_MOST, WORDS_MOST};
-ghost use Rattle.query_protocol.specs.Requests.{Range};
 ghost use Rattle.query_protocol.specs.Replies.{line_of};
 ghost use Rattle.open_queries.specs.Writing.{IsCaused};
-ghost use Rattle.session_step.specs.Cursors.{asks, stands};
+ghost use Rattle.session_step.specs.Questions.{ask_of, opening_request, radius_in};
 ghost use Rattle.session_step.specs.Meaning.{IsReady, HaveShards};
 ghost use Rattle.session_step.specs.Answering.{AnswersRequest};
 ghost use Rattle.session_step.specs.Moments.{moment_of};
-ghost use Rattle.session_step.specs.Opening.{OpensAll, OpensNone, OpensAs, IsGathered};
+ghost use Rattle.session_step.specs.Opening.{OpensGathered, OpensNone, OpensAs};
 
 use crate::open_session::Session;
+use crate::question::Question;
 use gph_codes::Code;
 use line_io::{Failed, Sink};
 use open_queries::say;
 use part_layout::Config;
-use query_opening::open_range;
+use query_opening::{Source, open_query};
 use query_protocol::{Bad, Reply, Tag};
 use read_meter::{NoMemory, Steps};
 use scatter_gather::Gather;
 use session_desk::Desk;
-use shard_query::RangeTask;
 use std::alloc::Global;
 
-/// Opens a query for all codes at most `tau` away, on a source for each shard, and answers the position on which it stands.
-pub(crate) fn range<const W: usize, D: Desk<W>, K: Sink, M>(
+/// Opens a query on a source for each shard, and answers the position on which it stands.
+pub(crate) fn begin_query<const W: usize, D: Desk<W>, K: Sink, M>(
     alloc: Global,
     config: &Config,
     session: &mut Session<W>,
     desk: &mut D,
     tag: Tag,
-    tau: u32,
+    question: Question,
     code: Code<W>,
     sink: &mut K,
     upkeep: &mut Steps<M>,
@@ -42,9 +41,10 @@ pub(crate) fn range<const W: usize, D: Desk<W>, K: Sink, M>(
     requires config { (D.desk desk.old).config ≡ config.now }
     requires shards { HaveShards config.now.shards session.old.queries }
     requires code { StandsFor W config.now.bits code (take config.now.bits code) }
-    requires near { tau ≤ config.now.bits }
-    ensures answers { (reads : List ℕ) →
-        AnswersRequest (Range tag tau (take config.now.bits code.entry)) result config.now
+    requires within { radius_in config.now.bits (ask_of question (take config.now.bits code))
+        ≤ config.now.bits }
+    ensures answers { (reads : List ℕ) → AnswersRequest
+        (opening_request tag (ask_of question (take config.now.bits code.entry))) result config.now
         (K.held sink.old) (K.held sink.new)
         (moment_of (D.desk desk.old) session.old reads upkeep.old)
         (moment_of (D.desk desk.new) session.new reads upkeep.new) }
@@ -55,18 +55,18 @@ pub(crate) fn range<const W: usize, D: Desk<W>, K: Sink, M>(
     ensures config { (D.desk desk.new).config ≡ config.now }
     ensures cause { IsCaused (K.faults sink.old) (K.faults sink.new) result }
 {
-    let reply = open(alloc, config, session, desk, tag, tau, code, upkeep);
+    let reply = opened(alloc, config, session, desk, tag, question, code, upkeep);
     say(&mut session.out, sink, &reply)
 }
 
 // Opens a query, and tells the reply.
-fn open<const W: usize, D: Desk<W>, M>(
+fn opened<const W: usize, D: Desk<W>, M>(
     alloc: Global,
     config: &Config,
     session: &mut Session<W>,
     desk: &mut D,
     tag: Tag,
-    tau: u32,
+    question: Question,
     code: Code<W>,
     upkeep: &mut Steps<M>,
 ) -> Reply
@@ -74,11 +74,12 @@ fn open<const W: usize, D: Desk<W>, M>(
     requires alone { (D.desk desk.old).alone ≡ true }
     requires config { (D.desk desk.old).config ≡ config.now }
     requires code { StandsFor W config.now.bits code (take config.now.bits code) }
-    requires near { tau ≤ config.now.bits }
+    requires within { radius_in config.now.bits (ask_of question (take config.now.bits code))
+        ≤ config.now.bits }
     ensures opens { (reads : List ℕ) →
         OpensAs (moment_of (D.desk desk.old) session.old reads upkeep.old)
-        (moment_of (D.desk desk.new) session.new reads upkeep.new) tag tau
-        (take config.now.bits code.entry) config.now.room (line_of result) }
+        (moment_of (D.desk desk.new) session.new reads upkeep.new) tag
+        (ask_of question (take config.now.bits code.entry)) config.now.room (line_of result) }
     ensures cutter { session.new.cutter ≡ session.old.cutter }
     ensures requests { session.new.requests ≡ session.old.requests }
 {
@@ -88,7 +89,7 @@ fn open<const W: usize, D: Desk<W>, M>(
     if session.queries.is_full() {
         return Reply::Bad(Bad::too_many_queries());
     }
-    let Ok((gather, at)) = open_all(alloc, config.room, desk, tau, code, upkeep) else {
+    let Ok((gather, at)) = open_all(alloc, config.room, desk, question, code, upkeep) else {
         return Reply::NoMemory;
     };
     session.position = at;
@@ -101,31 +102,32 @@ fn open_all<const W: usize, D: Desk<W>, M>(
     alloc: Global,
     room: u32,
     desk: &mut D,
-    tau: u32,
+    question: Question,
     code: Code<W>,
     upkeep: &mut Steps<M>,
-) -> Result<(Gather<RangeTask<W>>, u64), NoMemory>
+) -> Result<(Gather<Source<W>>, u64), NoMemory>
     requires few_words { W ≤ WORDS_MOST }
     requires alone { (D.desk desk.old).alone ≡ true }
     requires code { StandsFor W (D.desk desk.old).config.bits code
         (take (D.desk desk.old).config.bits code) }
-    requires near { tau ≤ (D.desk desk.old).config.bits }
+    requires within { radius_in (D.desk desk.old).config.bits
+        (ask_of question (take (D.desk desk.old).config.bits code)) ≤ (D.desk desk.old).config.bits }
     requires some_room { 1 ≤ room }
     requires small_room { room ≤ ROOM_MOST }
-    ensures opened { IfOk result (λ opened. OpensAll asks stands (D.desk desk.old) (D.desk desk.new)
-        opened.0.sources opened.1 (take (D.desk desk.old).config.bits code.entry) tau room
+    ensures opened { IfOk result (λ opened. OpensGathered (D.desk desk.old) (D.desk desk.new)
+        opened.0 opened.1 (ask_of question (take (D.desk desk.old).config.bits code.entry)) room
         upkeep.old upkeep.new) }
-    ensures gathers { IfOk result (λ opened. IsGathered opened.0) }
     ensures none { OnErr result (OpensNone (D.desk desk.old) (D.desk desk.new)
         upkeep.old upkeep.new) }
 {
     // The desk's own calls say what is true of it.
     let _who = desk.who();
-    let Ok(opened) = open_range(alloc, desk, code, tau, room as usize, upkeep) else {
+    let wanted = question.wanted();
+    let Ok(opened) = open_query(alloc, desk, wanted, code, room as usize, upkeep) else {
         return Err(NoMemory);
     };
     let position = opened.position;
-    match Gather::new(alloc, opened.sources, u64::MAX) {
+    match Gather::new(alloc, opened.sources, question.limit(opened.rows)) {
         Ok(gather) => Ok((gather, position)),
         Err(NoMemory) => Err(NoMemory),
     }

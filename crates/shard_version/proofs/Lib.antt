@@ -1,6 +1,6 @@
 mod PlaceLemmas
 mod SumLemmas
-mod PartLemmas
+pub mod PartLemmas
 mod HistoryLemmas
 mod KeptLemmas
 mod BucketLemmas

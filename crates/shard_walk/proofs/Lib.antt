@@ -1,9 +1,4 @@
-pub mod ChoiceLemmas
 pub mod KeepLemmas
-pub mod NearPlanLemmas
 pub mod PlanLemmas
-pub mod ProbeLemmas
-pub mod RadiusLemmas
-pub mod RingWalkLemmas
 pub mod StartLemmas
 pub mod WalkLemmas

@@ -1,17 +1,10 @@
 -- What was planned by a table of counts is a plan.
-use Rattle.std.proofs.Common.{ℕ, ◌+◌, ◌<◌, ◌≤◌, ℤ, pos, ◌≤ℤ◌, List, length}
-use Rattle.std.specs.List.{All}
-use Rattle.threshold_model.specs.Vectors.{row_counts, IsVector, IsChoice, IsLeast}
-use Rattle.shard_walk.specs.Counted.{count_in, HasCounts}
+use Rattle.std.proofs.Common.{ℕ, ◌+◌, ◌<◌, ◌≤◌, ℤ, List, length}
+use Rattle.threshold_model.specs.Vectors.{row_counts, IsChoice, IsLeast}
+use Rattle.shard_probe.specs.Counted.{count_in, HasCounts}
 use Rattle.shard_walk.specs.Planned.{IsPlanned, planned_of}
-use Rattle.shard_walk.specs.Probed.{Probed, IsProbed, parts_in, code_in}
-use Rattle.shard_walk.proofs.ChoiceLemmas.{choice_agrees, least_agrees}
-
--- no threshold of a vector is over its radius
-abbrev pub NoneOver : Type 0
-NoneOver =
-    (tau parts : ℕ) (thresholds : List ℤ) → IsVector tau parts thresholds
-    → All (λ threshold. threshold ≤ℤ pos tau) thresholds
+use Rattle.shard_probe.specs.Probed.{Probed, IsProbed, parts_in, code_in}
+use Rattle.shard_probe.proofs.ChoiceLemmas.{NoneOver, choice_agrees, least_agrees}
 
 -- the least cost is at most the number of rows
 abbrev pub AtMostRows : Type 0

@@ -10,7 +10,7 @@ use Rattle.threshold_model.specs.Finding.{first_part, part_distances, threshold_
 use Rattle.search_model.specs.Keeping.{is_kept}
 use Rattle.shard_version.specs.Contents.{IsVersion}
 use Rattle.shard_version.specs.Tables.{Tabled, tabled_code, HasTables}
-use Rattle.shard_walk.specs.Probed.{parts_in, part_in, code_in, probed_list, KeepsCode}
+use Rattle.shard_probe.specs.Probed.{parts_in, part_in, code_in, probed_list, KeepsCode}
 
 -- the version, the words of the query, its radius, and the threshold vector with its cost
 pub record Planned : Type 0 where

@@ -7,15 +7,14 @@ ghost use Rattle.hamming_model.specs.declared.limits.TheConstants.{WORDS_MOST};
 ghost use Rattle.threshold_model.specs.Vectors.{units_of};
 ghost use Rattle.shard_walk.specs.Planned.{IsPlanned, PlansQuery, IsStored, parts_of, part_of, code_of_plan};
 ghost use Rattle.shard_walk.specs.Planned.{list_of, is_found, part_found, kept_hit};
-ghost use Rattle.shard_walk.specs.Probed.{KeepsCode};
+ghost use Rattle.shard_probe.specs.Probed.{KeepsCode};
 ghost use Rattle.shard_walk.specs.Walks.{ball_of};
 
-use crate::probe::Probe;
-use crate::radius_counts::RadiusCounts;
 use ball_walk::Ball;
 use gph_codes::Code;
 use hamming_model::Hit;
 use read_meter::{NoMemory, Steps};
+use shard_probe::{Probe, RadiusCounts};
 use shard_version::Version;
 use std::alloc::Global;
 use std::marker::Model;

@@ -44,21 +44,15 @@ loop-done-preserved g c =
 
 pub returns-in-Ok-Quits-clause-flow : goal.returns-in-Ok-Quits-clause-flow
 returns-in-Ok-Quits-clause-flow g c = λ start bytes output going.
-    let i = c.loop-done.invariant in
-    let line = c.answer_line-taken in
-    quits_then c.args.config.now start _ _ c.loop-done.done line.result.0 c.args.block.now bytes output
-    (g.K.Sink.held c.args.sink.now) (g.K.Sink.held c.loop-done.sink) (g.K.Sink.held line.new.sink)
-    c.loop-done.session.cutter.held line.new.session.cutter.held (i.goes start bytes output going)
-    line.result.1 line.ensures.flow (search rules)
+    quits_then c.args.config.now start _ _ c.loop-done.done c.answer_line-taken.result.0 c.args.block.now bytes output
+    _ _ _ _ _ (c.loop-done.invariant.goes start bytes output going) c.answer_line-taken.result.1
+    c.answer_line-taken.ensures.flow (search rules)
 
 pub returns-in-Err-clause-flow : goal.returns-in-Err-clause-flow
 returns-in-Err-clause-flow g c = λ start bytes output going.
-    let i = c.loop-done.invariant in
-    let line = c.answer_line-taken in
-    refused_then c.args.config.now start _ _ c.loop-done.done line.result.0 c.args.block.now bytes output
-    (g.K.Sink.held c.args.sink.now) (g.K.Sink.held c.loop-done.sink) (g.K.Sink.held line.new.sink)
-    c.loop-done.session.cutter.held line.new.session.cutter.held (i.goes start bytes output going)
-    line.result.1 line.ensures.flow c.in-Err.field-0 c.in-Err.is
+    refused_then c.args.config.now start _ _ c.loop-done.done c.answer_line-taken.result.0 c.args.block.now bytes output
+    _ _ _ _ _ (c.loop-done.invariant.goes start bytes output going) c.answer_line-taken.result.1
+    c.answer_line-taken.ensures.flow c.in-Err.field-0 c.in-Err.is
 
 pub returns-clause-flow : goal.returns-clause-flow
 returns-clause-flow g c = λ start bytes output going.

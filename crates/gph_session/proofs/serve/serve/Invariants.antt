@@ -1,5 +1,5 @@
 use Rattle.std.proofs.Common.{◌≡◌, ◌-◌, true}
-use Rattle.session_model.specs.Outcomes.{ends}
+use Rattle.session_model.specs.Outside.{ends}
 use Rattle.session_step.specs.Meaning.{HaveShards}
 use Rattle.session_step.specs.Moments.{moment_of}
 use Rattle.gph_session.specs.Flow.{start_at}

@@ -1,15 +1,12 @@
 -- A session begins with nothing answered, and ends as it was served.
-use Rattle.std.proofs.Common.{◌≡◌, [], refl, sym, ap, ◌∙◌, subst, arith, rules, true, Result, IfOk}
-use Rattle.part_layout.specs.declared.config.Config.{Config}
-use Rattle.part_layout.specs.Ranges.{IsConfig}
+use Rattle.std.proofs.Common.{◌≡◌, [], sym, ap, ◌∙◌, subst, rules, true}
+use Rattle.std.proofs.lemmas.Result.{IfOk-at_ok}
 use Rattle.byte_lines.specs.Cut.{held_of}
-use Rattle.read_meter.specs.declared.no_memory.NoMemory.{NoMemory}
 use Rattle.session_desk.specs.Desks.{DeskState, IsDesk}
 use Rattle.session_step.specs.declared.open_session.Session.{Session}
 use Rattle.gph_session.specs.declared.report.Status.TheVariants as status
-use Rattle.session_step.specs.Meaning.{IsReady, HaveShards}
+use Rattle.session_step.specs.Meaning.{HaveShards}
 use Rattle.session_step.specs.Moments.{moment_of}
-use Rattle.gph_session.specs.Flow.{HasBegunWith}
 use Rattle.session_step.proofs.MomentLemmas.{learns_nothing}
 use Rattle.gph_session.proofs.BegunLemmas.{begun_session, is_ready, ended_as}
 use Rattle.gph_session.proofs.session_call.session.Goals as goal
@@ -26,15 +23,10 @@ serve-status-requires-after_bounds g c κs within =
     let config : now.config ≡ c.args.config.now = ap (λ (d : DeskState). d.config) same ∙ c.requires.config in
     let made = c.new_session-begun.ensures in
     let ok = c.in-Ok-Ok.is-0 in
-    let queries : session.queries ≡ [] =
-    subst (λ (r : Result (Session g.row.W) NoMemory). IfOk r (λ made. made.queries ≡ [])) ok made.queries in
-    let cutter : session.cutter.held ≡ held_of [] =
-    subst (λ (r : Result (Session g.row.W) NoMemory). IfOk r (λ made. made.cutter.held ≡ held_of [])) ok made.cutter in
-    let requests : session.requests ≡ 0 =
-    subst (λ (r : Result (Session g.row.W) NoMemory). IfOk r (λ made. made.requests ≡ 0)) ok made.requests in
-    let position : session.position ≡ c.length-position.result =
-    subst (λ (r : Result (Session g.row.W) NoMemory). IfOk r (λ made. made.position ≡ c.length-position.result)) ok
-    made.position in (
+    let queries = IfOk-at_ok (λ (session : Session g.row.W). session.queries ≡ []) ok made.queries in
+    let cutter = IfOk-at_ok (λ (session : Session g.row.W). session.cutter.held ≡ held_of []) ok made.cutter in
+    let requests = IfOk-at_ok (λ (session : Session g.row.W). session.requests ≡ 0) ok made.requests in
+    let position = IfOk-at_ok (λ (session : Session g.row.W). session.position ≡ c.length-position.result) ok made.position in (
       search rules,
       (
         c.requires.sync,
@@ -61,24 +53,24 @@ serve-status-requires-after_bounds g c κs within =
 
 pub returns-clause-done : goal.returns-clause-done
 returns-clause-done g c = λ is.
-    ended_as c.serve-status.result status.Done is c.args.config.now _ (g.D.Desk.desk c.args.desk.now) _ _ _ _ _ _ _ _ _
+    ended_as c.serve-status.result status.Done is c.args.config.now _ (g.D.Desk.desk c.args.desk.now) _ _ _ _
     (learns_nothing (g.D.Desk.desk c.args.desk.now) (g.D.Desk.desk c.length-position.new.self) c.requires.alone
     c.length-position.ensures.learns) c.serve-status.ensures
 
 pub returns-clause-read_fault : goal.returns-clause-read_fault
 returns-clause-read_fault g c = λ is.
-    ended_as c.serve-status.result status.ReadFault is c.args.config.now _ (g.D.Desk.desk c.args.desk.now) _ _ _ _ _ _ _ _ _
+    ended_as c.serve-status.result status.ReadFault is c.args.config.now _ (g.D.Desk.desk c.args.desk.now) _ _ _ _
     (learns_nothing (g.D.Desk.desk c.args.desk.now) (g.D.Desk.desk c.length-position.new.self) c.requires.alone
     c.length-position.ensures.learns) c.serve-status.ensures
 
 pub returns-clause-write_fault : goal.returns-clause-write_fault
 returns-clause-write_fault g c = λ is.
-    ended_as c.serve-status.result status.WriteFault is c.args.config.now _ (g.D.Desk.desk c.args.desk.now) _ _ _ _ _ _ _ _ _
+    ended_as c.serve-status.result status.WriteFault is c.args.config.now _ (g.D.Desk.desk c.args.desk.now) _ _ _ _
     (learns_nothing (g.D.Desk.desk c.args.desk.now) (g.D.Desk.desk c.length-position.new.self) c.requires.alone
     c.length-position.ensures.learns) c.serve-status.ensures
 
 pub returns-clause-input_limit : goal.returns-clause-input_limit
 returns-clause-input_limit g c = λ is.
-    ended_as c.serve-status.result status.InputLimit is c.args.config.now _ (g.D.Desk.desk c.args.desk.now) _ _ _ _ _ _ _ _ _
+    ended_as c.serve-status.result status.InputLimit is c.args.config.now _ (g.D.Desk.desk c.args.desk.now) _ _ _ _
     (learns_nothing (g.D.Desk.desk c.args.desk.now) (g.D.Desk.desk c.length-position.new.self) c.requires.alone
     c.length-position.ensures.learns) c.serve-status.ensures

@@ -1,10 +1,8 @@
 -- The call is a step of a session that is alone.
-use Rattle.std.proofs.Common.{◌≡◌, refl, sym, ap, ◌∙◌, subst, arith, rules, Some, Ok, take}
-use Rattle.query_protocol.specs.Replies.{line_of, reply_line}
+use Rattle.std.proofs.Common.{refl, subst}
 use Rattle.open_queries.specs.Writing.{Writes}
 use Rattle.session_step.specs.Moments.{moment_of}
 use Rattle.session_step.proofs.Here.{here_of}
-use Rattle.query_protocol.specs.Replies as reply
 use Rattle.session_step.proofs.LookLemmas.{layout_step}
 use Rattle.session_step.proofs.FrameLemmas.{here_tells}
 use Rattle.session_step.proofs.asking.layout.Goals as goal

@@ -1,12 +1,11 @@
 -- The call is a step of a session that is alone.
-use Rattle.std.proofs.Common.{◌≡◌, refl, sym, ap, ◌∙◌, subst, arith, rules, Some, Ok, take}
-use Rattle.query_protocol.specs.Replies.{line_of, reply_line}
+use Rattle.std.proofs.Common.{refl, subst}
 use Rattle.open_queries.specs.Writing.{Writes}
 use Rattle.session_step.specs.Moments.{moment_of}
 use Rattle.session_step.proofs.Here.{here_of}
 use Rattle.session_step.proofs.AskLemmas.{plan_step}
 use Rattle.open_queries.specs.Answers.{IsPlan}
-use Rattle.session_step.specs.Cursors.{asks, stands}
+use Rattle.session_step.specs.Cursors.{asks}
 use Rattle.session_step.proofs.FrameLemmas.{told_shards}
 use Rattle.session_step.proofs.asking.plan.Goals as goal
 
@@ -16,7 +15,7 @@ returns-clause-answers g c = λ desk reads upkeep alone line asked history s sta
     let held = g.K.Sink.held in
     let p = here_of c.args.config.now (moment_of desk c.args.session.now reads upkeep) (held c.args.sink.now) line
     history s stands in
-    plan_step p (held c.send.new.sink) c.send.result _ ready.some_shards ready.few_shards refl refl refl c.args.tag.now
+    plan_step p (held c.send.new.sink) c.send.result _ ready refl refl refl c.args.tag.now
     c.args.shard c.plan.ensures.this asked c.plan.ensures.tells
     (subst (Writes (held c.args.sink.now) (held c.send.new.sink) c.send.result) c.plan.ensures.is_line
     c.send.ensures.written)

@@ -1,7 +1,6 @@
 -- The commit is a step of a session that is alone.
-use Rattle.std.proofs.Common.{◌≡◌, refl, sym, ap, ◌∙◌, subst, arith, rules, Some, Ok, take}
-use Rattle.query_protocol.specs.Replies.{line_of, reply_line}
-use Rattle.open_queries.specs.Writing.{Writes}
+use Rattle.std.proofs.Common.{refl, rules}
+use Rattle.query_protocol.specs.Replies.{line_of}
 use Rattle.session_step.specs.Moments.{moment_of}
 use Rattle.session_step.proofs.Here.{here_of}
 use Rattle.session_step.proofs.CommitLemmas.{delete_step}

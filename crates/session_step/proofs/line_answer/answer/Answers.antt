@@ -1,5 +1,5 @@
 -- A line is answered by a step of a session that is alone.
-use Rattle.std.proofs.Common.{Ok, Some, refl, sym, ap, ◌∙◌, subst, rules}
+use Rattle.std.proofs.Common.{Ok, refl, sym, ap, ◌∙◌, subst}
 use Rattle.std.proofs.KnownBytes.{Appends-nil}
 use Rattle.query_protocol.specs.Stored.{unstored_reading}
 use Rattle.session_model.specs.Run.{is_answered}
@@ -12,13 +12,9 @@ use Rattle.session_step.proofs.line_answer.answer.Goals as goal
 
 pub returns-in-Ok-None-clause-answers : goal.returns-in-Ok-None-clause-answers
 returns-in-Ok-None-clause-answers g c = λ line tells history s stands.
-    let held = g.K.Sink.held c.args.sink.now in
-    let config = c.args.config.now in
-    let old = moment_of (g.D.Desk.desk c.args.desk.now) c.args.session.now c.args.meters.now c.args.upkeep.now in
-    let p = here_of config old held line history s stands in
-    nothing_turn p held
+    nothing_turn (here_of c.args.config.now _ (g.K.Sink.held c.args.sink.now) line history s stands) _
     (sym (c.in-Ok-None.ensures.reads line tells).asked
-    ∙ ap (λ r. unstored_reading config.bits (Ok r)) c.in-Ok-None.field-0-is) (Appends-nil held)
+    ∙ ap (λ r. unstored_reading c.args.config.now.bits (Ok r)) c.in-Ok-None.field-0-is) (Appends-nil _)
 
 pub returns-in-Ok-Some : goal.returns-in-Ok-Some
 returns-in-Ok-Some g c =

@@ -1,6 +1,6 @@
 use Rattle.std.proofs.Common.{◌≤◌, sym, subst}
 use Rattle.threshold_model.specs.Vectors.{IsChoice, IsLeast}
-use Rattle.shard_walk.specs.Counted.{count_in}
+use Rattle.shard_probe.specs.Counted.{count_in}
 use Rattle.shard_walk.proofs.PlanLemmas.{plan_of_table}
 use Rattle.shard_walk.proofs.plan.Plan.open.Goals as goal
 

@@ -1,0 +1,5 @@
+pub mod NearLemmas
+pub mod NearWorkLemmas
+pub mod OpenLemmas
+pub mod StepLemmas
+pub mod WalkedLemmas

@@ -1,0 +1,2 @@
+pub mod NearPlanLemmas
+pub mod RingWalkLemmas

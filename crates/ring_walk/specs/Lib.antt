@@ -1,0 +1,3 @@
+pub mod NearKept
+pub mod NearPlanned
+pub mod RingWalks

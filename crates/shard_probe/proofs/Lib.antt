@@ -1,0 +1,3 @@
+pub mod ChoiceLemmas
+pub mod ProbeLemmas
+pub mod RadiusLemmas

@@ -1,0 +1,57 @@
+-- What a query on a version keeps: its values at the parts, and the masks of the parts.
+use Rattle.std.proofs.Common.{◌≡◌, ℕ, ◌+◌, ◌-◌, ◌*◌, ◌^◌, ◌<◌, ◌≤◌, List, [], length, replicate}
+use Rattle.std.proofs.Common.{drop, set, get_or, sym, ap, ◌∙◌, subst, arith}
+use Rattle.std.proofs.lemmas.List.{drop_more, drop_all, get_or-map, length-append, length-replicate}
+use Rattle.hamming_model.specs.Codes.{IsCode, StandsFor}
+use Rattle.hamming_model.specs.Layouts.{part_value, part_distance}
+use Rattle.gph_codes.specs.Masks.{with_ones}
+use Rattle.threshold_model.specs.Finding.{part_distances}
+use Rattle.search_model.proofs.PostingLemmas.{value_below}
+use Rattle.shard_probe.specs.Kept.{AreValues}
+
+-- the value of a code at a part, below the bound of its width
+pub value_small : (bits : ℕ) (parts : List (List ℕ)) (query values : List ℕ) (part value width : ℕ)
+    → IsCode bits query → AreValues parts query values → part < length parts
+    → value ≡ get_or values part 0 → width ≡ length (get_or parts part []) → value < 2 ^ width
+value_small bits parts query values part value width is_code are_values less at wide =
+    let positions : List ℕ = get_or parts part [] in
+    let below = value_below bits query positions is_code in
+    let is : value ≡ part_value query positions = at ∙ are_values.each part less in
+    subst (λ n. value < 2 ^ n) (sym wide) (subst (λ n. n < 2 ^ length positions) (sym is) below)
+
+-- a mask with one position more has ones at what is left still to add
+pub mask_step : (mask new part all : List ℕ) (place position : ℕ) → place < length part
+    → position ≡ get_or part place 0 → new ≡ set mask position 1
+    → with_ones mask (drop place part) ≡ all → with_ones new (drop (place + 1) part) ≡ all
+mask_step mask new part all place position less at is before =
+    ap (λ one. with_ones one (drop (place + 1) part)) (is ∙ ap (λ p. set mask p 1) at)
+    ∙ sym (ap (with_ones mask) (drop_more part place 0 less)) ∙ before
+
+-- a mask to which nothing is left to add
+pub mask_end : (mask part all : List ℕ) (place : ℕ) → length part ≤ place
+    → with_ones mask (drop place part) ≡ all → mask ≡ all
+mask_end mask part all place past before =
+    sym (ap (with_ones mask) (drop_all place part past)) ∙ before
+
+-- words that keep a code have all their positions
+pub stored_size : (words bits : ℕ) (stored code : List ℕ)
+    → StandsFor words bits stored code → bits ≤ 64 * words
+    → length stored ≡ 64 * words
+stored_size words bits stored code stands room =
+    let size = stands.is_code.size in
+    let zeros : length (replicate {A = ℕ} (64 * words - length code) 0) ≡ 64 * words - length code =
+    length-replicate (64 * words - length code) 0 in
+    let joined = length-append code (replicate (64 * words - length code) 0) in
+    let all = ap length stands.is_padded ∙ joined in
+    omega arith
+
+-- codes that are alike at all parts are alike at one
+pub alike_at : (layout : List (List ℕ)) (part : ℕ) (stored other code query : List ℕ)
+    → part < length layout
+    → part_distances layout stored other ≡ part_distances layout code query
+    → part_distance (get_or layout part []) stored other
+    ≡ part_distance (get_or layout part []) code query
+alike_at layout part stored other code query less same =
+    sym (get_or-map (λ positions. part_distance positions stored other) layout part [] 0 less)
+    ∙ ap (λ ns. get_or ns part 0) same
+    ∙ get_or-map (λ positions. part_distance positions code query) layout part [] 0 less

@@ -1,0 +1,193 @@
+//! A query on a version.
+
+ghost use Rattle.std.specs.Prelude.{◌≡◌, ℕ, ◌+◌, ◌^◌, ◌<◌, ◌≤◌, negsuc, ◌≤ℤ◌, All, IfOk};
+ghost use Rattle.std.specs.Prelude.{List, length, slice_index, slice_index_or};
+ghost use Rattle.std.specs.Arc.{arc_value};
+ghost use Rattle.hamming_model.specs.Codes.{distance};
+ghost use Rattle.hamming_model.specs.declared.limits.TheConstants.{PARTS_MOST, WORDS_MOST};
+ghost use Rattle.hamming_model.specs.Layouts.{part_distance, part_value};
+ghost use Rattle.ball_walk.specs.Balls.{ball, ring};
+ghost use Rattle.threshold_model.specs.Vectors.{units_of};
+ghost use Rattle.shard_probe.specs.Probed.{KeepsCode, IsProbed, probed_of};
+ghost use Rattle.shard_probe.specs.Probed.{parts_in, part_in, code_in, counts_round, probed_list};
+
+use crate::part_masks::masks_of;
+use crate::part_values::values_of;
+use ball_walk::Ball;
+use count_table::changes_follow_a_list;
+use gph_codes::{Code, dist, dist_under, part_distance_is_under_the_mask};
+use read_meter::{NoMemory, Steps};
+use search_model::stored_rows_search_alike;
+use shard_version::{Version, counts_are_of_the_rows};
+use std::alloc::Global;
+use std::marker::Model;
+use std::sync::Arc;
+
+/// A query on a version, with the value of the query at each part and the mask of the part's
+/// positions. All that a search asks of the version goes through it.
+#[derive(Drop)]
+pub struct Probe<const W: usize> {
+    version: Arc<Version<W>>,
+    query: Code<W>,
+    values: Vec<u16>,
+    masks: Vec<Code<W>>,
+}
+
+impl<const W: usize> Model for Probe<W> {
+    ghost use Rattle.std.specs.Arc.{arc_value};
+    ghost use Rattle.shard_probe.specs.Probed.{Probed, probed_code, probed_of};
+    ghost use Rattle.shard_probe.specs.Kept.{IsProbe};
+
+    ghost Value = { Probed };
+
+    ghost coded = { probed_code };
+
+    ghost view = { λ kept. probed_of (arc_value kept.version) kept.query };
+
+    ghost invariant = { λ kept. IsProbe W (probed_of (arc_value kept.version) kept.query)
+        kept.values.items kept.masks.items };
+}
+
+impl<const W: usize> Probe<W> {
+    /// Reads the values of the query and the positions of the parts.
+    ///
+    /// # Errors
+    ///
+    /// `NoMemory` where there is no memory for a value and a mask for each part.
+    pub fn open(
+        alloc: Global,
+        version: Arc<Version<W>>,
+        query: Code<W>,
+    ) -> Result<Probe<W>, NoMemory>
+        requires few_words { W ≤ WORDS_MOST }
+        requires query { KeepsCode W (arc_value version) query }
+        ensures { IfOk result (λ probe. probe ≡ probed_of (arc_value version.entry) query.entry) }
+    {
+        let values = values_of(alloc, &version, &query)?;
+        let masks = masks_of(alloc, &version)?;
+        Ok(Probe {
+            version,
+            query,
+            values,
+            masks,
+        })
+    }
+
+    /// The number of parts.
+    pub fn parts(&self) -> usize
+        ensures parts { result ≡ length (parts_in self.now.version) }
+        ensures few { result ≤ PARTS_MOST }
+        ensures probed { IsProbed W self.now }
+    {
+        self.values.len()
+    }
+
+    /// The number of rows.
+    pub fn rows(&self) -> u64
+        ensures { result ≡ length self.now.version.contents.rows }
+    {
+        self.version.rows()
+    }
+
+    /// How many bits a code has.
+    pub fn bits(&self) -> u32
+        ensures bits { result ≡ self.now.version.contents.layout.bits }
+        ensures few { result ≤ 512 }
+    {
+        self.version.layout().bits()
+    }
+
+    /// How many rows are nearer to the query at a part than each number of units.
+    pub fn levels(&self, part: usize, out: &mut [u32])
+        requires { part < length (parts_in self.now.version) }
+        ensures { (units : ℕ) → units < length out.old →
+            slice_index out.new units ≡ counts_round self.now.version self.now.stored part units }
+    {
+        counts_are_of_the_rows();
+        changes_follow_a_list();
+        self.version
+            .counts(part as u32)
+            .levels(self.values[part], out);
+    }
+
+    /// The values of a part that are within a radius of the query's.
+    pub fn ball(&self, part: usize, radius: i32) -> Ball
+        requires part { part < length (parts_in self.now.version) }
+        requires radius { negsuc 0 ≤ℤ radius }
+        ensures values { let positions = part_in self.now.version part in
+            result ≡ ball (part_value (code_in self.now.version self.now.stored) positions)
+            (length positions) (units_of radius) }
+        ensures in_width { All (λ value.
+            value < 2 ^ length (part_in self.now.version part)) result }
+    {
+        let width = self.version.layout().width(part as u32);
+        Ball::new(self.values[part], width, radius)
+    }
+
+    /// The values of a part at one distance from the query's.
+    pub fn ring(&self, part: usize, apart: u32) -> Ball
+        requires part { part < length (parts_in self.now.version) }
+        ensures values { let positions = part_in self.now.version part in
+            result ≡ ring (part_value (code_in self.now.version self.now.stored) positions)
+            (length positions) apart }
+        ensures in_width { All (λ value.
+            value < 2 ^ length (part_in self.now.version part)) result }
+    {
+        let width = self.version.layout().width(part as u32);
+        Ball::ring(self.values[part], width, apart)
+    }
+
+    /// How long the posting list of a part's value is.
+    pub fn list_len(&self, part: usize, value: u16) -> u32
+        requires part { part < length (parts_in self.now.version) }
+        requires value { value < 2 ^ length (part_in self.now.version part) }
+        ensures { result ≡ length (probed_list self.now.version part value) }
+    {
+        self.version.postings(part as u32).len(value)
+    }
+
+    /// A posting, for one step.
+    pub fn posting<L>(
+        &self,
+        part: usize,
+        value: u16,
+        place: u32,
+        steps: &mut Steps<L>,
+    ) -> (u64, Code<W>)
+        requires part { part < length (parts_in self.now.version) }
+        requires value { value < 2 ^ length (part_in self.now.version part) }
+        requires place { place < length (probed_list self.now.version part value) }
+        ensures row { (default : ℕ × List ℕ) → (result.0, code_in self.now.version result.1)
+            ≡ slice_index_or (probed_list self.now.version part value) place default }
+        ensures stored { KeepsCode W self.now.version result.1 }
+        ensures step { steps.new ≡ steps.old + 1 }
+    {
+        self.version
+            .postings(part as u32)
+            .entry(value, place, steps)
+    }
+
+    /// How far a code is from the query.
+    pub fn distance(&self, code: &Code<W>) -> u32
+        requires { KeepsCode W self.now.version code.now }
+        ensures { result ≡ distance (code_in self.now.version code.now)
+            (code_in self.now.version self.now.stored) }
+    {
+        stored_rows_search_alike();
+        dist(code, &self.query)
+    }
+
+    /// How far a code is from the query at a part.
+    pub fn distance_at(&self, part: usize, code: &Code<W>) -> u32
+        requires part { part < length (parts_in self.now.version) }
+        requires stored { KeepsCode W self.now.version code.now }
+        ensures distance { let version = self.now.version in
+            result ≡ part_distance (part_in version part) (code_in version code.now)
+            (code_in version self.now.stored) }
+        ensures few { result ≤ 512 }
+    {
+        stored_rows_search_alike();
+        part_distance_is_under_the_mask();
+        dist_under(&self.masks[part], code, &self.query)
+    }
+}

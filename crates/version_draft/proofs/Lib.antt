@@ -1,0 +1,2 @@
+pub mod PartDraftLemmas
+pub mod PartsLemmas

@@ -1,0 +1,3 @@
+pub mod KeptDrafts
+pub mod PartDrafts
+pub mod Unfinished

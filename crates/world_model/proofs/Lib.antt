@@ -1,0 +1,15 @@
+pub mod Lookups
+pub mod LiveLemmas
+pub mod PlaceLemmas
+pub mod AnswerLemmas
+pub mod GrowthLemmas
+pub mod QueryLemmas
+pub mod SoundLemmas
+pub mod StepLemmas
+pub mod CarryLemmas
+pub mod ReadLemmas
+pub mod RunLemmas
+pub mod LedgerLemmas
+pub mod PinLemmas
+pub mod GatherLemmas
+pub mod WorkedLemmas

@@ -1,0 +1,13 @@
+pub mod Answering
+pub mod Answers
+pub mod Asking
+pub mod Events
+pub mod Ledgers
+pub mod QuerySteps
+pub mod Refusals
+pub mod Runs
+pub mod ShardSteps
+pub mod Sound
+pub mod Worked
+pub mod WorldState
+pub mod WorldStep
