@@ -117,7 +117,8 @@ module _ (old start mid new : DeskState) (front : FrontState) (opens : OpensFron
     number = first.number_is ∙ ap (λ (d : DeskState). d.config.shards) opens.after;
     each = λ shard other low. (let is = first.each shard other
         (subst (λ (n : ℕ). shard < n) (sym (ap (λ (d : DeskState). d.config.shards) opens.after)) low) in record {
-          version_is = version_stays mid new shard (position_of front) _ closes.learns (ap (λ (d : DeskState). d.config) closes.after) position_seen is.version_is;
+          version_is = version_stays mid new shard (position_of front) _ closes.learns
+              (ap (λ (d : DeskState). d.config) closes.after) position_seen is.version_is;
           pin = ap (λ (d : DeskState). get_or d.pins shard None) closes.after ∙ is.pin;
           layout = λ alone. is.layout (start_alone ∙ alone) ∙ ap (λ (d : DeskState). (place_at d shard).1) opens.after;
         });

@@ -53,7 +53,8 @@ module _ {S : Type 0} (asks : S → Asked) (stands : S → Standing) (versions :
           ap (λ (n : ℕ). get_or (sources ++ new ∷ []) n source) (at ∙ sym first.number_is) ∙ last_of sources new source in
           let own_is : get_or versions i version ≡ own =
           ap (λ (n : ℕ). get_or versions n version) at ∙ get_or_default versions number version own low ∙ sym here in
-          subst (λ (s : S). IsSourceOn wanted (get_or versions i version) (opened_code (get_or versions i version) stored) room (asks s) (stands s)) (sym new_is)
+          subst (λ (s : S). IsSourceOn wanted (get_or versions i version) (opened_code (get_or versions i version) stored) room
+          (asks s) (stands s)) (sym new_is)
           (subst (λ (v : Contents). IsSourceOn wanted v (opened_code v stored) room (asks new) (stands new)) (sym own_is) is)
 
   -- no source yet

@@ -46,8 +46,8 @@ pub record IsSourceOfShard (old new : DeskState) (position shard : ℕ) (wanted 
 
 -- every shard was pinned at one position, where there are so many rows, and has a source there
 pub record OpensSources {S : Type 0} (asks : S → Asked) (stands : S → Standing)
-    (old new : DeskState) (position rows : ℕ) (wanted : Wanted) (query : List ℕ) (room : ℕ) (sources : List S)
-    : Type 0 where
+    (old new : DeskState) (position rows : ℕ) (wanted : Wanted) (query : List ℕ) (room : ℕ)
+    (sources : List S) : Type 0 where
   pub last : new.last ≡ position
   pub after : length old.seen ≤ position
   pub within : position ≤ length new.seen

@@ -31,7 +31,8 @@ pub record ComesOn (old new : DeskState) : Type 0 where
   pub late : new.late ≡ old.late
   pub alone : new.alone ≡ old.alone
   pub number : length new.pins ≡ length old.pins
-  pub rises : (shard : ℕ) → pinned_at old shard ≤ length old.seen → pinned_at old shard ≤ pinned_at new shard
+  pub rises : (shard : ℕ) → pinned_at old shard ≤ length old.seen
+      → pinned_at old shard ≤ pinned_at new shard
   pub layouts : old.alone ≡ true → (shard : ℕ) → (place_at new shard).1 ≡ (place_at old shard).1
 
 -- a shard was pinned at a position: its version there, the desk's last pin of it, and where the
