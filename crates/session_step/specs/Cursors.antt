@@ -21,8 +21,8 @@ Cursor W = OpenQuery (Source W)
 
 -- what a source is asked
 abbrev pub asks : {W : ℕ} → Source W → Asked
-asks {W} source =
-    of_either (λ s. (range.ghosts (number W)).asked s) (λ s. (near.ghosts (number W)).asked s) source
+asks {W} source = of_either (λ s. (range.ghosts (number W)).asked s)
+    (λ s. (near.ghosts (number W)).asked s) source
 
 -- where a source stands
 abbrev pub stands : {W : ℕ} → Source W → Standing

@@ -22,7 +22,8 @@ use Rattle.query_protocol.specs.Replies as reply
 use Rattle.open_queries.specs.Queries.{IsFree, IsUsed, opened_query}
 use Rattle.session_model.specs.QuerySteps.{most_open}
 
--- a source stands on the version of a shard at the length of the history, in the layout of the place
+-- a source stands on the version of a shard at the length of the history, in the layout of the
+-- place
 pub record OpensShard (desk : DeskState) (shard : ℕ) (asked : Ask) (room : ℕ) (a : Asked)
     (s : Standing) : Type 0 where
   pub version : Contents

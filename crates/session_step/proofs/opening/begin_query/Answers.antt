@@ -22,14 +22,15 @@ returns-clause-answers g c = λ reads line asked history s stands.
 pub returns-clause-shards : goal.returns-clause-shards
 returns-clause-shards g c =
     opened_shards c.args.config.now _ _ c.args.tag
-    (ask_of c.args.question (take c.args.config.now.bits c.args.code)) c.args.config.now.room (line_of c.opened-reply.result) c.requires.config c.requires.shards (c.opened-reply.ensures.opens [])
+    (ask_of c.args.question (take c.args.config.now.bits c.args.code)) c.args.config.now.room
+    (line_of c.opened-reply.result) c.requires.config c.requires.shards (c.opened-reply.ensures.opens [])
 
 pub returns-clause-alone : goal.returns-clause-alone
 returns-clause-alone g c = (here_opens c.args.config.now _ _ c.args.tag
-    (ask_of c.args.question (take c.args.config.now.bits c.args.code)) c.args.config.now.room (line_of c.opened-reply.result) (c.opened-reply.ensures.opens []) c.requires.alone
-    c.requires.config).0
+    (ask_of c.args.question (take c.args.config.now.bits c.args.code)) c.args.config.now.room
+    (line_of c.opened-reply.result) (c.opened-reply.ensures.opens []) c.requires.alone c.requires.config).0
 
 pub returns-clause-config : goal.returns-clause-config
 returns-clause-config g c = (here_opens c.args.config.now _ _ c.args.tag
-    (ask_of c.args.question (take c.args.config.now.bits c.args.code)) c.args.config.now.room (line_of c.opened-reply.result) (c.opened-reply.ensures.opens []) c.requires.alone
-    c.requires.config).1
+    (ask_of c.args.question (take c.args.config.now.bits c.args.code)) c.args.config.now.room
+    (line_of c.opened-reply.result) (c.opened-reply.ensures.opens []) c.requires.alone c.requires.config).1
