@@ -405,6 +405,59 @@ class AsAScan(unittest.TestCase):
         self.check(256, 300, shards=16)
 
 
+class Nearest(unittest.TestCase):
+    """What docs/PROTOCOL.md says of near queries, and a scan."""
+
+    def test_the_nearest_three_of_four(self) -> None:
+        with worked() as it, it.open_near(0, 3) as query:
+            self.assertEqual(list(query), [Hit(0, 1), Hit(1, 4), Hit(4, 2)])
+            self.assertEqual(query.cost().bound, 11)
+            self.assertLessEqual(query.cost().reads, 11)
+
+    def test_more_than_there_are(self) -> None:
+        with worked() as it:
+            answer = next(it.near_many([0], 100))
+            self.assertEqual(answer.hits, scanned(ROWS, 0))
+            self.assertEqual(answer.cost.bound, 27)
+            self.assertLessEqual(answer.cost.reads, 27)
+
+    def test_the_index_as_it_is_started(self) -> None:
+        with index() as it:
+            it.add_many([(101, "ffd8c0a0804020ff"), (102, "FFD8C0A0804021FF"), (103, "00273f5f7fbfdf00")])
+            self.assertEqual(it.near("ffd8c0a0804020ff", 3), [Hit(0, 101), Hit(1, 102), Hit(64, 103)])
+
+    def test_an_empty_index(self) -> None:
+        with index() as it:
+            self.assertEqual(it.near(0, 5), [])
+
+    def test_hits_are_fetched_as_they_are_consumed(self) -> None:
+        with worked() as it:
+            query = it.open_near(0, 4, each=1)
+            self.assertEqual(next(query), Hit(0, 1))
+            it.delete(4)
+            self.assertEqual(list(query), [Hit(1, 4), Hit(4, 2), Hit(8, 3)])
+
+    def check(self, bits: int, number: int, **words: int) -> None:
+        chance = random.Random(bits)
+        rows = near_copies(chance, bits, number)
+        codes = [chance.choice(list(rows.values())) ^ 1 << chance.randrange(bits) for _ in range(8)]
+        with index(bits=bits, **words) as it:
+            it.add_many(rows.items())
+            for k in (1, 2, 10, number, number + 1):
+                for code, answer in zip(codes, it.near_many(codes, k)):
+                    self.assertEqual(answer.hits, scanned(rows, code)[:k])
+                    self.assertLessEqual(answer.cost.reads, answer.cost.bound)
+
+    def test_8_bits(self) -> None:
+        self.check(8, 200, parts=2)
+
+    def test_64_bits(self) -> None:
+        self.check(64, 300)
+
+    def test_256_bits(self) -> None:
+        self.check(256, 100, shards=2)
+
+
 class Command(unittest.TestCase):
     """`python3 gph.py FILE`."""
 
@@ -422,6 +475,15 @@ class Command(unittest.TestCase):
             it.add_many([(1, 0), (2, 0x0F), (3, 0xFF), (4, 1), (5, 0)])
             reads = sum(answer.cost.reads for answer in it.range_many([0, 0x0F, 0xFF, 1, 0], 1))
         self.assertIn(f"3 lines; 5 rows, 0 bad lines. Postings read: {reads}; rows times queries: 25", told)
+
+    def test_the_nearest_neighbours_of_each(self) -> None:
+        status, lines, _ = self.run_on("1 00\n2 0f\n3 ff\n4 01\n5 00\n", "--near", "2")
+        wanted = ["1 5 0", "1 4 1", "2 4 3", "2 1 4", "3 2 4", "3 4 7", "4 1 1", "4 5 1", "5 1 0", "5 4 1"]
+        self.assertEqual((status, lines), (0, [line.replace(" ", "\t") for line in wanted]))
+
+    def test_a_row_among_many_of_its_code(self) -> None:
+        status, lines, _ = self.run_on("1 00\n2 00\n3 00\n4 00\n", "--near", "1")
+        self.assertEqual((status, lines), (0, ["1\t2\t0", "2\t1\t0", "3\t1\t0", "4\t1\t0"]))
 
     def test_names(self) -> None:
         status, lines, _ = self.run_on("beach.jpg ffff\na  small beach.jpg fffe\n街.png 0000\n", "--names", "--within", "3")

@@ -11,7 +11,7 @@ use entry_log::{Decision, Op};
 use gph_codes::Code;
 use hit_source::HitSource;
 use part_layout::Config;
-use query_opening::open_range;
+use query_opening::{Wanted, open_query};
 use read_meter::{Steps, upkeep};
 use search_model::stored_rows_search_alike;
 use session_desk::{Desk, SoloDesk};
@@ -143,7 +143,10 @@ fn query<R: Abort, D: Desk<1>>(
     ensures config { (D.desk desk.new).config ≡ (D.desk desk.old).config }
 {
     let code = spelled(rt, b"00");
-    let opened = open_range(alloc, desk, code, 1, 16, steps).expect(rt, "memory for a query");
+    let opened = open_query(alloc, desk, Wanted::Within(1), code, 16, steps).expect(
+        rt,
+        "memory for a query",
+    );
     assert!(rt; opened.sources.len() == 2 && opened.position == position);
     let has_rows = opened.sources[0].rows() == even && opened.sources[1].rows() == odd;
     assert!(rt; has_rows, "{position}");

@@ -57,12 +57,6 @@ pub record OpensSources {S : Type 0} (asks : S → Asked) (stands : S → Standi
       → IsSourceOfShard old new position shard wanted query room
       (asks (slice_index_or sources shard source)) (stands (slice_index_or sources shard source))
 
--- every shard was pinned at one position, and has a range query there
-abbrev pub OpensRange : {S : Type 0} → (S → Asked) → (S → Standing) → DeskState → DeskState
-    → ℕ → ℕ → List ℕ → ℕ → ℕ → List S → Type 0
-OpensRange asks stands old new position rows query tau room sources =
-    OpensSources asks stands old new position rows (Within tau) query room sources
-
 -- the words of a query stand for a code of a version's bits, and its radius isn't beyond them
 pub record MayBeAsked (words : ℕ) (stored : List ℕ) (wanted : Wanted) (version : Contents)
     : Type 0 where

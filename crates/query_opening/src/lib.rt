@@ -6,6 +6,6 @@ mod opening;
 mod pinning;
 mod wanted;
 
-pub use opening::{Opened, Source, open_query, open_range};
+pub use opening::{Opened, Source, open_query};
 pub use pinning::{Pinned, pin_all};
 pub use wanted::Wanted;

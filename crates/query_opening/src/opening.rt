@@ -12,9 +12,8 @@ ghost use Rattle.scatter_gather.specs.Kept.{AreOneLength};
 ghost use Rattle.session_desk.specs.Calls.{KeepsKnown};
 ghost use Rattle.session_desk.specs.Desks.{IsDesk};
 ghost use Rattle.query_opening.specs.Opening.{AreSourcesOn, IsSourceOn, MayBeAsked, OpensSources};
-ghost use Rattle.query_opening.specs.Opening.{OpensRange, is_nearest, wanted_radius};
+ghost use Rattle.query_opening.specs.Opening.{is_nearest, wanted_radius};
 ghost use Rattle.query_opening.specs.Pinning.{ComesOn, behind, contents_of_all};
-ghost use Rattle.query_opening.specs.declared.wanted.Wanted.TheVariants.{Within};
 
 use crate::pinning::pin_all;
 use crate::wanted::Wanted;
@@ -35,8 +34,8 @@ pub type Source<const W: usize> = Either<RangeTask<W>, NearTask<W>>;
 
 /// A source for each shard, in the order of their numbers, at one position, and how many rows there are at it.
 #[derive(Drop)]
-pub struct Opened<S: HitSource> {
-    pub sources: Vec<S>,
+pub struct Opened<const W: usize> {
+    pub sources: Vec<Source<W>>,
     pub position: u64,
     pub rows: u64,
 }
@@ -53,7 +52,7 @@ pub fn open_query<const W: usize, D: Desk<W>, M>(
     query: Code<W>,
     room: usize,
     steps: &mut Steps<M>,
-) -> Result<Opened<Source<W>>, NoMemory>
+) -> Result<Opened<W>, NoMemory>
     requires code { StandsFor W (D.desk desk.old).config.bits query
         (take (D.desk desk.old).config.bits query) }
     requires near { wanted_radius wanted ≤ (D.desk desk.old).config.bits }
@@ -150,79 +149,6 @@ fn open_source<const W: usize>(
             Ok(Either::Near(task))
         }
     }
-}
-
-/// Opens what a range query stands on: pins every shard at a front of its own, which it closes, and opens a source on each version.
-///
-/// # Errors
-///
-/// `NoMemory` where there is none for the front, a version or a source. Some shards may have come on.
-pub fn open_range<const W: usize, D: Desk<W>, M>(
-    alloc: Global,
-    desk: &mut D,
-    query: Code<W>,
-    tau: u32,
-    room: usize,
-    steps: &mut Steps<M>,
-) -> Result<Opened<RangeTask<W>>, NoMemory>
-    requires code { StandsFor W (D.desk desk.old).config.bits query
-        (take (D.desk desk.old).config.bits query) }
-    requires near { tau ≤ (D.desk desk.old).config.bits }
-    requires some_room { 1 ≤ room }
-    requires small_room { room ≤ ROOM_MOST }
-    // Every shard has a source at one position.
-    ensures opened { IfOk result (λ opened. OpensRange
-        ⟦<RangeTask<W> as HitSource>⟧.asked ⟦<RangeTask<W> as HitSource>⟧.standing
-        (D.desk desk.old) (D.desk desk.new) opened.position opened.rows
-        (take (D.desk desk.old).config.bits query.entry) tau room opened.sources.items) }
-    ensures fresh { IfOk result (λ opened.
-        AllByRecursion (λ source. IsFresh (⟦<RangeTask<W> as HitSource>⟧.standing source)) opened.sources.items) }
-    // In any case the desk is as before but for what it saw and how far its shards came.
-    ensures comes { ComesOn (D.desk desk.old) (D.desk desk.new) }
-    ensures known { KeepsKnown (D.desk desk.new) (D.knows desk.old) (D.knows desk.new) }
-    ensures upkeep { steps.new ≤ steps.old
-        + behind (D.desk desk.old).pins (length (D.desk desk.new).seen) (D.desk desk.old).config.shards }
-    ensures desk { IsDesk W (D.desk desk.new) }
-{
-    shards_together_answer();
-    let pinned = pin_all(alloc, desk, steps)?;
-    let rows = row_count(&pinned.versions);
-    let sources = range_tasks(alloc, &pinned.versions, query, tau, room)?;
-    Ok(Opened {
-        sources,
-        position: pinned.position,
-        rows,
-    })
-}
-
-// A range query on each version.
-fn range_tasks<const W: usize>(
-    alloc: Global,
-    versions: &[Arc<Version<W>>],
-    query: Code<W>,
-    tau: u32,
-    room: usize,
-) -> Result<Vec<RangeTask<W>>, NoMemory>
-    requires few_words { W ≤ WORDS_MOST }
-    requires each { (i : ℕ) (version : Contents) → i < length versions.now
-        → MayBeAsked W query (Within tau) (slice_index_or (contents_of_all versions.now) i version) }
-    requires some_room { 1 ≤ room }
-    requires small_room { room ≤ ROOM_MOST }
-    ensures { IfOk result (λ tasks. AreSourcesOn
-        ⟦<RangeTask<W> as HitSource>⟧.asked ⟦<RangeTask<W> as HitSource>⟧.standing
-        (contents_of_all versions.now) (Within tau) query.entry room tasks.items (length versions.now)) }
-{
-    let mut tasks = Vec::new(alloc);
-    for i in 0..versions.len() {
-        let Ok(version) = versions[i].clone() else {
-            return Err(NoMemory);
-        };
-        let task = RangeTask::open(alloc, version, query, tau, room)?;
-        let Ok(()) = tasks.push(task) else {
-            return Err(NoMemory);
-        };
-    }
-    Ok(tasks)
 }
 
 // How many rows all versions have.

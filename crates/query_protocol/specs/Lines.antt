@@ -6,7 +6,7 @@ use Rattle.part_layout.specs.declared.config.Config.{Config}
 use Rattle.line_forms.specs.Words.{words, is_printable}
 use Rattle.byte_lines.specs.declared.cutter.TheConstants.{LINE_MOST}
 use Rattle.query_protocol.specs.Requests.{LineReading, Del, Get, Cost, Cancel, bad}
-use Rattle.query_protocol.specs.Requests.{add_asked, range_asked, near_asked, next_asked}
+use Rattle.query_protocol.specs.Requests.{add_asked, range_asked, nearest_asked, next_asked}
 use Rattle.query_protocol.specs.Requests.{plan_asked, layout_asked, quit_asked}
 use Rattle.query_protocol.specs.Requests.{key_alone, tag_alone, request_naming}
 use Rattle.query_protocol.specs.declared.request.RequestWord.{RequestWord}
@@ -38,7 +38,7 @@ with_words config (Some AddWord) after = add_asked config.bits after
 with_words config (Some DelWord) after = request_naming (λ key. Del key) (key_alone after)
 with_words config (Some GetWord) after = request_naming (λ key. Get key) (key_alone after)
 with_words config (Some RangeWord) after = range_asked config.bits after
-with_words config (Some NearWord) after = near_asked config.bits after
+with_words config (Some NearWord) after = nearest_asked config.bits after
 with_words config (Some NextWord) after = next_asked after
 with_words config (Some CostWord) after = request_naming (λ tag. Cost tag) (tag_alone after)
 with_words config (Some PlanWord) after = plan_asked config.shards after

@@ -93,8 +93,8 @@ range_asked bits after =
     (opening_words after)
 
 -- the words after `near`
-abbrev pub near_asked : ℕ → List (List ℕ) → LineReading
-near_asked bits after =
+abbrev pub nearest_asked : ℕ → List (List ℕ) → LineReading
+nearest_asked bits after =
     opening_asked (λ tag k code. Near tag k code) (λ word. nearest_of word) bits
     (opening_words after)
 

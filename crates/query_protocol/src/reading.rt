@@ -6,7 +6,7 @@ ghost use Rattle.hamming_model.specs.declared.limits.TheConstants.{WORDS_MOST};
 ghost use Rattle.byte_lines.specs.declared.cutter.TheConstants.{LINE_MOST};
 ghost use Rattle.line_forms.specs.Words.{words};
 ghost use Rattle.query_protocol.specs.Lines.{reading, of_words, request_word, with_words};
-ghost use Rattle.query_protocol.specs.Requests.{add_asked, range_asked, near_asked, next_asked, plan_asked, layout_asked, quit_asked, key_alone, tag_alone, opening_words, nearest_of};
+ghost use Rattle.query_protocol.specs.Requests.{add_asked, range_asked, nearest_asked, next_asked, plan_asked, layout_asked, quit_asked, key_alone, tag_alone, opening_words, nearest_of};
 ghost use Rattle.query_protocol.specs.Stored.{ReadsAs, NamesShard};
 
 use crate::{Bad, Request, RequestWord};
@@ -163,7 +163,7 @@ fn read_range<const W: usize>(bits: u32, after: &[u8]) -> Result<Option<Request<
 fn read_near<const W: usize>(bits: u32, after: &[u8]) -> Result<Option<Request<W>>, Bad>
     requires few_words { W ≤ WORDS_MOST }
     requires allowed { IsAllowed W bits }
-    ensures reads { ReadsAs W bits result (near_asked bits (words after.now)) }
+    ensures reads { ReadsAs W bits result (nearest_asked bits (words after.now)) }
     ensures shard { (shards : ℕ) → NamesShard shards result }
 {
     let (tag, k, code) = opening_words(after)?;

@@ -49,8 +49,9 @@ pub(crate) fn poll_marked<R: Threads + Sync, H: HitSource, G: Gate, L: Send>(
     }
     if count == 1 {
         gate.pass(*first);
+        let before = sources[0].floor();
         let polled = sources[0].poll(*budget, &mut meters[0]);
-        return goes_on(polled, &sources[0]);
+        return goes_on(polled, before, &sources[0]);
     }
     let half = count / 2;
     let next = &(*first + half);
@@ -83,10 +84,11 @@ pub(crate) fn poll_marked<R: Threads + Sync, H: HitSource, G: Gate, L: Send>(
     front_goes_on | back_goes_on
 }
 
-// Whether a source that was polled has more to do at once: it spent its budget, and no hit waits.
-fn goes_on<H: HitSource>(polled: Polled, source: &H) -> bool {
+// Whether a source that was polled has more to do at once: it spent its budget, and no hit waits. One whose floor rose was
+// held by that, and waits for the other sources.
+fn goes_on<H: HitSource>(polled: Polled, before: Option<u32>, source: &H) -> bool {
     match polled {
-        Polled::Moved => source.head().is_none(),
+        Polled::Moved => source.head().is_none() && source.floor() == before,
         Polled::Full => false,
         Polled::Ended => false,
     }
@@ -142,8 +144,9 @@ fn poll_if_next<H: HitSource, G: Gate, L>(
         return false;
     }
     gate.pass(shard);
+    let before = source.floor();
     let polled = source.poll(budget, steps);
-    goes_on(polled, source)
+    goes_on(polled, before, source)
 }
 
 // Polls the sources that may have the next hit, one after the other, and answers whether one of

@@ -20,7 +20,7 @@ use Rattle.session_model.specs.Run.{accepted}
 use Rattle.open_queries.specs.Queries.{Changes, Removes, IsSame, last_in}
 use Rattle.open_queries.specs.Answers.{CostsAs, IsCost, IsPlan, TellsOfQuery, CancelsAs, reply_to_cancel}
 use Rattle.open_queries.specs.Writing.{Writes}
-use Rattle.session_step.specs.Cursors.{Source, Cursor, asks, stands}
+use Rattle.session_step.specs.Cursors.{ShardSource, Cursor, asks, stands}
 use Rattle.session_step.specs.Moments.{Moment, ReadsTo, Spends}
 use Rattle.session_step.specs.Meaning.{AllKeep, IsSettled, Means}
 use Rattle.session_step.specs.KeptDesk.{KeepsDesk}
@@ -75,7 +75,7 @@ module _ {A : Type 0} {W : ℕ} (p : Here W) (after : Option (List ℕ)) (result
         let same_last : was.gather.last ≡ last = cost.last ∙ last_is p.config (p.history ++ later) was query keeps ranges in
         let near = given_near p.config (p.history ++ later) was query keeps ranges query.given in
         let sources = was.gather.sources in
-        let reads = λ (source : Source W). (stands {W = W} source).reads in
+        let reads = λ (source : ShardSource W). (stands {W = W} source).reads in
         let bound = sum_of (map (λ source. (asks {W = W} source).bound last) sources) in
         let settled = found_holds (IsSettled p.config p.history) tag p.s.queries query found p.stands.settled in
         let few = reads_few p.config p.history was query it.keeps ranges settled in

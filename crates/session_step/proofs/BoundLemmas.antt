@@ -23,8 +23,8 @@ use Rattle.session_model.specs.State.{Query}
 use Rattle.session_model.specs.Step.{AreLayouts}
 use Rattle.session_model.specs.Ledger.{IsBoundAt, IsBound, IsPlanOfQuery, layout_at}
 use Rattle.session_model.specs.Ledger.{answer_to, last_given, rows_at, sum_of}
-use Rattle.session_step.specs.Questions.{code_in, radius_in, limit_in}
-use Rattle.session_step.specs.Cursors.{Source, Cursor, asks}
+use Rattle.session_step.specs.Questions.{asked_code, radius_in, limit_in}
+use Rattle.session_step.specs.Cursors.{ShardSource, Cursor, asks}
 use Rattle.session_step.specs.Meaning.{Keeps, IsSettled}
 use Rattle.session_step.proofs.QuestionLemmas.{asked_plan, bound_few, bound_most, cut_answer, last_near, last_near_all}
 
@@ -78,7 +78,7 @@ layout_of config layouts shard are lt =
 
 module _ {W : ℕ} (config : Config) (history : List JournalEntry) (cursor : Cursor W) (query : Query)
     (keeps : Keeps config history cursor query) (ranges : IsConfig config) where
-  abbrev sources : List (Source W)
+  abbrev sources : List (ShardSource W)
   sources = cursor.gather.sources
 
   -- the rows on which the query stands
@@ -92,20 +92,20 @@ module _ {W : ℕ} (config : Config) (history : List JournalEntry) (cursor : Cur
   some_parts : (shard : ℕ) → shard < config.shards → 0 < length (layout_at query.pinned shard)
   some_parts shard lt = (layout_of config query.pinned shard keeps.pinned lt).some_part
 
-  rows_at_few : (shard : ℕ) (d : Source W) → shard < config.shards
+  rows_at_few : (shard : ℕ) (d : ShardSource W) → shard < config.shards
       → length (rows_at config history query shard) ≤ ENTRIES_MOST
   rows_at_few shard d lt = (keeps.each_asks shard d lt).few
 
   -- a number of each source is at its place
-  at_place : (f : Source W → ℕ) (shard : ℕ) (d : Source W) → shard < config.shards
+  at_place : (f : ShardSource W → ℕ) (shard : ℕ) (d : ShardSource W) → shard < config.shards
       → slice_index (map f sources) shard ≡ f (slice_index_or sources shard d)
   at_place f shard d lt = get_at-map f sources shard d 0 (omega (arith, lt, keeps.sources))
 
-  size_of_map : {B : Type 0} (f : Source W → B) → length (map f sources) ≡ config.shards
+  size_of_map : {B : Type 0} (f : ShardSource W → B) → length (map f sources) ≡ config.shards
   size_of_map f = length-map sources f ∙ keeps.sources
 
   -- the first source, since there is one
-  first : Source W
+  first : ShardSource W
   first = first_of_some sources (omega (arith, ranges.some_shards, keeps.sources))
 
   radius_low : radius_in config.bits query.ask ≤ config.bits
@@ -148,18 +148,18 @@ module _ {W : ℕ} (config : Config) (history : List JournalEntry) (cursor : Cur
       omega (arith, same, most)
 
   -- what all sources are asked for is the scan of all rows, and cut at the limit the answer
-  merged_is : merged (map (asks {W = W}) sources) ≡ scan rows (code_in query.ask) (radius_in config.bits query.ask)
+  merged_is : merged (map (asks {W = W}) sources) ≡ scan rows (asked_code query.ask) (radius_in config.bits query.ask)
   merged_is =
-      let hits = λ (source : Source W). (asks {W = W} source).hits in
+      let hits = λ (source : ShardSource W). (asks {W = W} source).hits in
       let scans = map hits sources in
-      let are : AreShardScans config.shards rows (code_in query.ask) (radius_in config.bits query.ask) scans = record {
+      let are : AreShardScans config.shards rows (asked_code query.ask) (radius_in config.bits query.ask) scans = record {
         some = ranges.some_shards;
         number = size_of_map hits;
         each = λ shard other lt.
             get_at-map hits sources shard first other (omega (arith, lt, keeps.sources)) ∙ (keeps.each_asks shard first lt).hits;
       } in
       ap in_order (flat_of_asks (asks {W = W}) sources ∙ sym (flat_of_map hits sources))
-      ∙ merged_is_scan config.shards rows (code_in query.ask) (radius_in config.bits query.ask) scans are
+      ∙ merged_is_scan config.shards rows (asked_code query.ask) (radius_in config.bits query.ask) scans are
 
   pub answer_is : answer_in (asks {W = W}) cursor ≡ answer_to config history query
   answer_is =
@@ -173,7 +173,7 @@ module _ {W : ℕ} (config : Config) (history : List JournalEntry) (cursor : Cur
       ∙ ap (λ n. last_distance (take n (answer_to config history query))) keeps.given
 
   -- the bound of a shard, and the sum of all
-  pub bound_at : (last : Option ℕ) → IsNear last → (shard : ℕ) (d : Source W) → shard < config.shards
+  pub bound_at : (last : Option ℕ) → IsNear last → (shard : ℕ) (d : ShardSource W) → shard < config.shards
       → IsBoundAt config history query last shard ((asks (slice_index_or sources shard d)).bound last)
   bound_at last near shard d lt = (keeps.each_asks shard d lt).bound last near
 
@@ -189,7 +189,7 @@ module _ {W : ℕ} (config : Config) (history : List JournalEntry) (cursor : Cur
 
   bounds_few : (last : Option ℕ) → IsNear last → sum_of (bounds last) ≤ config.shards * bound_most
   bounds_few last near =
-      let f = λ (source : Source W). (asks {W = W} source).bound last in
+      let f = λ (source : ShardSource W). (asks {W = W} source).bound last in
       let few = sum_few (bounds last) bound_most (λ shard lt.
       let within : shard < config.shards = subst (λ n. shard < n) (size_of_map f) lt in
       omega (
@@ -203,7 +203,7 @@ module _ {W : ℕ} (config : Config) (history : List JournalEntry) (cursor : Cur
       → min (sum_by (λ source. (asks {W = W} source).bound last) sources) 18446744073709551615
       ≡ sum_of (bounds last)
   all_bounds_are last near =
-      let f = λ (source : Source W). (asks {W = W} source).bound last in
+      let f = λ (source : ShardSource W). (asks {W = W} source).bound last in
       let same : sum_by f sources ≡ sum_of (bounds last) = sym (sum-map f sources) ∙ sum_is_of (bounds last) in
       omega (arith, same, bounds_few last near, ranges.few_shards)
 
@@ -218,7 +218,7 @@ module _ {W : ℕ} (config : Config) (history : List JournalEntry) (cursor : Cur
   }
 
   -- the plan for the distance of the last hit given
-  pub plan_at : (last : Option ℕ) → last ≡ last_given config history query → (shard : ℕ) (d : Source W)
+  pub plan_at : (last : Option ℕ) → last ≡ last_given config history query → (shard : ℕ) (d : ShardSource W)
       → shard < config.shards
       → IsPlanOfQuery config history query shard
       (take PARTS_MOST ((asks (slice_index_or sources shard d)).plan last).0)

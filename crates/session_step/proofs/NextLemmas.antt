@@ -27,7 +27,7 @@ use Rattle.session_model.specs.Run.{accepted}
 use Rattle.open_queries.specs.Queries.{IsFree, Changes, answer_in}
 use Rattle.open_queries.specs.Answers.{GivesAs, GivesQuery, IsGiven}
 use Rattle.open_queries.specs.Writing.{Writes}
-use Rattle.session_step.specs.Cursors.{Source, Cursor, asks, stands, reads_in}
+use Rattle.session_step.specs.Cursors.{ShardSource, Cursor, asks, stands, reads_in}
 use Rattle.session_step.specs.Moments.{Moment, ReadsTo, Spends}
 use Rattle.session_step.specs.Meaning.{AllKeep, AsksOn, IsSettled, Keeps, Means}
 use Rattle.session_step.specs.KeptDesk.{KeepsDesk}
@@ -108,14 +108,14 @@ module _ {A : Type 0} {W : ℕ} (p : Here W) (after : Option (List ℕ)) (result
     new_sources = same_number_of (asks {W = W}) was.gather.sources is.gather.sources gives.asked ∙ old_sources
 
     -- what a source has read, by place
-    read_old : (shard : ℕ) (d : Source W) → shard < shards
+    read_old : (shard : ℕ) (d : ShardSource W) → shard < shards
         → slice_index query.reads shard ≡ (stands (slice_index_or was.gather.sources shard d)).reads
     read_old shard d lt =
         ap (λ l. slice_index l shard) it.keeps.reads
         ∙ get_or-map (λ source. (stands {W = W} source).reads) was.gather.sources shard d 0
         (omega (arith, lt, old_sources))
 
-    read_new : (shard : ℕ) (d : Source W) → shard < shards
+    read_new : (shard : ℕ) (d : ShardSource W) → shard < shards
         → slice_index (reads_in is) shard ≡ (stands (slice_index_or is.gather.sources shard d)).reads
     read_new shard d lt =
         get_or-map (λ source. (stands {W = W} source).reads) is.gather.sources shard d 0
@@ -134,7 +134,7 @@ module _ {A : Type 0} {W : ℕ} (p : Here W) (after : Option (List ℕ)) (result
     none_new shard le = get_or-eq_default (reads_in is) 0 (omega (arith, le, size_new))
 
     -- one ledger, and what was read on its shard
-    read_by : (first : Source W) (ledger : ℕ) (here : Bool) → nat_lt ledger shards ≡ here
+    read_by : (first : ShardSource W) (ledger : ℕ) (here : Bool) → nat_lt ledger shards ≡ here
         → slice_index new.ledgers.reads ledger + slice_index query.reads ledger
         ≡ slice_index p.old.ledgers.reads ledger + slice_index (reads_in is) ledger
     read_by first ledger true is_here =
@@ -154,7 +154,7 @@ module _ {A : Type 0} {W : ℕ} (p : Here W) (after : Option (List ℕ)) (result
           none_new ledger le,
         )
 
-    no_less_by : (first : Source W) (shard : ℕ) (here : Bool) → nat_lt shard shards ≡ here
+    no_less_by : (first : ShardSource W) (shard : ℕ) (here : Bool) → nat_lt shard shards ≡ here
         → slice_index query.reads shard ≤ slice_index (reads_in is) shard
     no_less_by first shard true is_here =
         let lt : shard < shards = ltb-true shard shards is_here in
@@ -168,7 +168,7 @@ module _ {A : Type 0} {W : ℕ} (p : Here W) (after : Option (List ℕ)) (result
         omega (arith, none_old shard (ltb-false shard shards is_here))
 
     -- the first source, since there is one
-    first : Source W
+    first : ShardSource W
     first = first_of_some was.gather.sources (omega (arith, ranges.some_shards, old_sources))
 
     reads_to : ReadsTo p.old.ledgers.reads new.ledgers.reads p.s.queries (replaced tag this p.s.queries)

@@ -32,8 +32,8 @@ use Rattle.threshold_model.specs.Bounds.{last_distance}
 use Rattle.open_queries.specs.Queries.{opened_query}
 use Rattle.open_queries.specs.Writing.{Writes}
 use Rattle.query_opening.specs.Opening.{AsksWanted}
-use Rattle.session_step.specs.Questions.{opening_request, code_in, radius_in, wanted_in, limit_in}
-use Rattle.session_step.specs.Cursors.{Source, Cursor, asks, stands}
+use Rattle.session_step.specs.Questions.{opening_request, asked_code, radius_in, wanted_in, limit_in}
+use Rattle.session_step.specs.Cursors.{ShardSource, Cursor, asks, stands}
 use Rattle.session_step.specs.KeptDesk.{pins_of}
 use Rattle.session_step.specs.Moments.{Moment, ReadsTo}
 use Rattle.session_step.specs.Meaning.{AllKeep, AsksOn, IsSettled, Keeps, Means}
@@ -61,7 +61,7 @@ beyond_then (pin ∷ pins) position most all le =
 
 -- ---- sources that have read nothing
 
-none_read : {W : ℕ} (sources : List (Source W)) → AllByRecursion (λ source. IsFresh (stands {W = W} source)) sources
+none_read : {W : ℕ} (sources : List (ShardSource W)) → AllByRecursion (λ source. IsFresh (stands {W = W} source)) sources
     → map (λ source. (stands {W = W} source).reads) sources ≡ replicate (length sources) 0
 none_read [] fresh = refl
 none_read (source ∷ sources) fresh =
@@ -94,7 +94,7 @@ opening_commits tag (Near number code) replies = refl
 -- what a source of a version is asked
 asks_on : (asked : Ask) (version : Contents) (room : ℕ) (a : Asked)
     → radius_in version.layout.bits asked ≤ version.layout.bits → length version.rows ≤ ENTRIES_MOST
-    → AsksWanted (wanted_in asked) version (code_in asked) room a
+    → AsksWanted (wanted_in asked) version (asked_code asked) room a
     → AsksOn version.layout.bits asked version.rows version.layout.parts a
 asks_on (Range tau code) version room a low few asks = record {
   radius = low;
@@ -208,7 +208,7 @@ module _ {A : Type 0} {W : ℕ} (p : Here W) (after : Option (List ℕ)) (result
         was.opened.rows asked room p.old.ledgers.upkeep new.ledgers.upkeep
     opens = was.opened.opens
 
-    abbrev sources : List (Source W)
+    abbrev sources : List (ShardSource W)
     sources = was.gather.sources
 
     shards_are : p.old.desk.config.shards ≡ p.config.shards
@@ -246,7 +246,7 @@ module _ {A : Type 0} {W : ℕ} (p : Here W) (after : Option (List ℕ)) (result
         ∙ ap (λ l. layout_at l shard) (sym means_new.layouts)
 
     -- what a source is asked on its shard's rows
-    asks_at : (shard : ℕ) (d : Source W) → shard < p.config.shards
+    asks_at : (shard : ℕ) (d : ShardSource W) → shard < p.config.shards
         → AsksOn p.config.bits asked (rows_at p.config p.history query shard) (layout_at p.s.layouts shard)
         (asks (slice_index_or sources shard d))
     asks_at shard d lt =
@@ -294,7 +294,7 @@ module _ {A : Type 0} {W : ℕ} (p : Here W) (after : Option (List ℕ)) (result
       opened = refl;
     }
 
-    first : Source W
+    first : ShardSource W
     first = first_of_some sources (omega (arith, ranges.some_shards, number_here))
 
     settled_new : IsSettled p.config p.history query

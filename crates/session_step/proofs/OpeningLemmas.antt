@@ -24,12 +24,12 @@ use Rattle.query_opening.specs.declared.wanted.Wanted.TheVariants.{Within, Neare
 use Rattle.hamming_model.specs.Shards.{AreShardNumbers}
 use Rattle.hamming_model.proofs.ShardLemmas.{numbers_add_up}
 use Rattle.open_queries.specs.Kept.{AreOfOneKind}
-use Rattle.session_step.specs.Questions.{ask_of, code_in, limit_in, wanted_in}
+use Rattle.session_step.specs.Questions.{ask_of, asked_code, limit_in, wanted_in}
 use Rattle.session_step.specs.declared.question.Question.{Question}
 use Rattle.session_step.specs.declared.question.Question.TheVariants as question
 use Rattle.session_step.specs.KeptDesk.{KeepsDesk, pins_of}
 use Rattle.session_step.specs.Opening.{OpensAll, OpensNone, OpensGathered}
-use Rattle.session_step.specs.Cursors.{Source, asks, stands}
+use Rattle.session_step.specs.Cursors.{ShardSource, asks, stands}
 use Rattle.session_step.proofs.BoundLemmas.{first_of_some}
 
 -- ---- lists by place
@@ -149,7 +149,7 @@ module _ (words : ℕ) (old new : DeskState) (is_old : IsDesk words old) (is_new
 
   pub opens_all : {S : Type 0} (asks : S → Asked) (stands : S → Standing) (sources : List S)
       (position rows : ℕ) (asked : Ask) (room from to : ℕ)
-      → OpensSources asks stands old new position rows (wanted_in asked) (code_in asked) room sources
+      → OpensSources asks stands old new position rows (wanted_in asked) (asked_code asked) room sources
       → to ≤ from + behind old.pins (length new.seen) old.config.shards
       → OpensAll asks stands old new sources position rows asked room from to
   opens_all asks stands sources position rows asked room from to opens steps =
@@ -180,7 +180,7 @@ module _ (words : ℕ) (old new : DeskState) (is_old : IsDesk words old) (is_new
 -- ---- a gathering of what was opened
 
 -- the code of a question is the one that it was made with
-pub code_of_ask : (asked : Question) (code : List ℕ) → code_in (ask_of asked code) ≡ code
+pub code_of_ask : (asked : Question) (code : List ℕ) → asked_code (ask_of asked code) ≡ code
 code_of_ask (question.Range tau) code = refl
 code_of_ask (question.Near number) code = refl
 
@@ -205,10 +205,10 @@ sum_of_rows : (all : List Asked) → sum_by (λ (a : Asked). a.rows) all ≡ sum
 sum_of_rows all = sym (sum-map (λ (a : Asked). a.rows) all)
 
 -- a gathering of what was opened has given nothing
-module _ {W : ℕ} (words : ℕ) (old new : DeskState) (sources : List (Source W)) (position rows : ℕ) (asked : Ask)
+module _ {W : ℕ} (words : ℕ) (old new : DeskState) (sources : List (ShardSource W)) (position rows : ℕ) (asked : Ask)
     (room from to : ℕ) (is_old : IsDesk words old)
     (opens : OpensAll (asks {W = W}) (stands {W = W}) old new sources position rows asked room from to) where
-  some : Source W
+  some : ShardSource W
   some = first_of_some sources (omega (arith, opens.number, is_old.config.some_shards))
 
   abbrev numbers : List ℕ
@@ -229,13 +229,13 @@ module _ {W : ℕ} (words : ℕ) (old new : DeskState) (sources : List (Source W
         get_or-map (λ (a : Asked). a.rows) (map (asks {W = W}) sources) shard (asks some) other
         (omega (arith, lt, opens.number, length-map sources (asks {W = W})))
         ∙ ap (λ (a : Asked). a.rows) (get_or-map (asks {W = W}) sources shard some (asks some) (omega (arith, lt, opens.number)))
-        ∙ rows_asked (wanted_in asked) one.version (code_in asked) _ one.source_is.asks
+        ∙ rows_asked (wanted_in asked) one.version (asked_code asked) _ one.source_is.asks
         ∙ ap length one.version_is.rows
         ∙ ap (λ n. length (shard_rows shard n (rows_of (take (length new.seen) (seen_history new))))) (ap (λ (c : Config). c.shards) opens.keeps.config)
         ∙ ap (λ n. length (shard_rows shard old.config.shards (rows_of (take n (seen_history new))))) (sym opens.position_is);
   }
 
-  pub is_gathered : (gather : Gathered (Source W)) → gather ≡ gathered sources (limit_in asked rows) 0 None
+  pub is_gathered : (gather : Gathered (ShardSource W)) → gather ≡ gathered sources (limit_in asked rows) 0 None
       → AllByRecursion (λ source. IsFresh (stands {W = W} source)) sources
       → AreOneLength (map (asks {W = W}) sources)
       → AllByRecursion (λ (a : Asked). a.near ≡ is_nearest (wanted_in asked)) (map (asks {W = W}) sources)

@@ -16,7 +16,7 @@ use Rattle.session_model.specs.Ledger.{column, readings_of, layout_at, rows_at}
 use Rattle.hit_source.specs.Sources.{Standing}
 use Rattle.open_queries.specs.Queries.{IsFree, IsUsed, IsSame, Changes, Removes}
 use Rattle.session_step.specs.Questions.{limit_in}
-use Rattle.session_step.specs.Cursors.{Source, Cursor, asks, stands}
+use Rattle.session_step.specs.Cursors.{ShardSource, Cursor, asks, stands}
 use Rattle.session_step.specs.Meaning.{AsksOn, Keeps, AllKeep}
 
 -- a list, parted at a place
@@ -365,8 +365,8 @@ replaced_same tag query (first ∷ queries) is =
     replaced_by tag query first queries (has_tag tag first) is (replaced_same tag query queries)
 
 -- what is asked of the source of a shard, where all are asked the same
-pub same_asks : {W : ℕ} (old new : List (Source W)) → map (asks {W = W}) new ≡ map (asks {W = W}) old
-    → (shard : ℕ) (d : Source W)
+pub same_asks : {W : ℕ} (old new : List (ShardSource W)) → map (asks {W = W}) new ≡ map (asks {W = W}) old
+    → (shard : ℕ) (d : ShardSource W)
     → asks (slice_index_or new shard d) ≡ asks (slice_index_or old shard d)
 same_asks {W} old new same shard d =
     sym (get_or-map (asks {W = W}) new shard d) ∙ ap (λ l. slice_index_or l shard (asks d)) same
@@ -378,13 +378,13 @@ same_number_of f old new same =
     sym (length-map new f) ∙ ap length same ∙ length-map old f
 
 -- the reads by shard, where the sources stand the same
-reads_of_standings : {W : ℕ} (sources : List (Source W))
+reads_of_standings : {W : ℕ} (sources : List (ShardSource W))
     → map (λ source. (stands {W = W} source).reads) sources
     ≡ map (λ (s : Standing). s.reads) (map (stands {W = W}) sources)
 reads_of_standings [] = refl
 reads_of_standings (source ∷ sources) = ap (λ l. (stands source).reads ∷ l) (reads_of_standings sources)
 
-pub same_reads : {W : ℕ} (old new : List (Source W)) → map (stands {W = W}) new ≡ map (stands {W = W}) old
+pub same_reads : {W : ℕ} (old new : List (ShardSource W)) → map (stands {W = W}) new ≡ map (stands {W = W}) old
     → map (λ source. (stands {W = W} source).reads) new ≡ map (λ source. (stands {W = W} source).reads) old
 same_reads old new same =
     reads_of_standings new ∙ ap (map (λ (s : Standing). s.reads)) same ∙ sym (reads_of_standings old)

@@ -14,7 +14,7 @@ use Rattle.threshold_model.specs.Bounds.{IsBoundOf, IsPlanOf, IsLeastUpTo, last_
 use Rattle.threshold_model.specs.Vectors.{row_counts}
 use Rattle.threshold_model.proofs.ChoiceLemmas.{least_of_rows}
 use Rattle.open_queries.proofs.BoundLemmas.{all_in_order, last_of_all}
-use Rattle.session_step.specs.Questions.{code_in, radius_in, limit_in}
+use Rattle.session_step.specs.Questions.{asked_code, radius_in, limit_in}
 use Rattle.session_step.specs.Meaning.{AsksOn}
 
 -- ---- what a source is asked
@@ -155,7 +155,7 @@ cut_past number most hits le =
     sym (take_min (min number most) hits) ∙ ap (λ n. take n hits) one ∙ take_min number hits
 
 pub cut_answer : (bits : ℕ) (rows : List (ℕ × List ℕ)) (asked : Ask) → length rows ≤ 18446744073709551615
-    → take (limit_in asked (length rows)) (scan rows (code_in asked) (radius_in bits asked)) ≡ answer bits rows asked
+    → take (limit_in asked (length rows)) (scan rows (asked_code asked) (radius_in bits asked)) ≡ answer bits rows asked
 cut_answer bits rows (Range tau code) few =
     take_all 18446744073709551615 (scan rows code tau) (omega (arith, scan_within rows code tau, few))
 cut_answer bits rows (Near number code) few =

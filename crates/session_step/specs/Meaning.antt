@@ -16,15 +16,15 @@ use Rattle.session_desk.specs.Desks.{DeskState, seen_history}
 use Rattle.session_model.specs.State.{Query, State}
 use Rattle.session_model.specs.Step.{AreLayouts}
 use Rattle.session_model.specs.Ledger.{IsBounded, layout_at, rows_at}
-use Rattle.session_step.specs.Questions.{code_in, radius_in, limit_in}
-use Rattle.session_step.specs.Cursors.{Source, Cursor, asks, reads_in}
+use Rattle.session_step.specs.Questions.{asked_code, radius_in, limit_in}
+use Rattle.session_step.specs.Cursors.{ShardSource, Cursor, asks, reads_in}
 use Rattle.session_step.specs.KeptDesk.{layouts_of}
 
 -- a source is asked this question on the rows of a shard, in a layout of their codes
 pub record AsksOn (bits : ℕ) (asked : Ask) (rows : List (ℕ × List ℕ)) (layout : List (List ℕ))
     (a : Asked) : Type 0 where
   pub radius : radius_in bits asked ≤ bits
-  pub hits : a.hits ≡ scan rows (code_in asked) (radius_in bits asked)
+  pub hits : a.hits ≡ scan rows (asked_code asked) (radius_in bits asked)
   pub rows_are : a.rows ≡ length rows
   pub few : length rows ≤ ENTRIES_MOST
   pub plan : (last : Option ℕ) → IfSome last (λ distance. distance ≤ bits) →
@@ -39,7 +39,7 @@ pub record Keeps {W : ℕ} (config : Config) (history : List JournalEntry) (curs
   pub within : query.position ≤ length history
   pub pinned : AreLayouts config query.pinned
   pub sources : length cursor.gather.sources ≡ config.shards
-  pub each_asks : (shard : ℕ) (d : Source W) → shard < config.shards →
+  pub each_asks : (shard : ℕ) (d : ShardSource W) → shard < config.shards →
       AsksOn config.bits query.ask (rows_at config history query shard)
       (layout_at query.pinned shard) (asks (slice_index_or cursor.gather.sources shard d))
   pub limit : cursor.gather.limit

@@ -12,8 +12,8 @@ use Rattle.session_desk.specs.Desks.{DeskState, place_at, IsVersionOf, seen_hist
 use Rattle.session_model.specs.Upkeep.{entries_beyond}
 use Rattle.scatter_gather.specs.Gathering.{Gathered}
 use Rattle.open_queries.specs.Kept.{IsUntouched}
-use Rattle.session_step.specs.Questions.{code_in, limit_in, wanted_in}
-use Rattle.session_step.specs.Cursors.{Source, asks, stands}
+use Rattle.session_step.specs.Questions.{asked_code, limit_in, wanted_in}
+use Rattle.session_step.specs.Cursors.{ShardSource, asks, stands}
 use Rattle.session_step.specs.KeptDesk.{KeepsDesk, pins_of}
 use Rattle.session_step.specs.Moments.{Moment}
 use Rattle.query_protocol.specs.Requests.{bad}
@@ -29,7 +29,7 @@ pub record OpensShard (desk : DeskState) (shard : ℕ) (asked : Ask) (room : ℕ
   pub version : Contents
   pub version_is : IsVersionOf desk shard (length desk.seen) version
   pub layout : version.layout ≡ (place_at desk shard).1
-  pub source_is : IsSourceOn (wanted_in asked) version (code_in asked) room a s
+  pub source_is : IsSourceOn (wanted_in asked) version (asked_code asked) room a s
 
 -- a source for each shard, and the number of all rows
 pub record OpensAll {S : Type 0} (asks : S → Asked) (stands : S → Standing) (old new : DeskState)
@@ -55,14 +55,14 @@ pub record OpensNone (old new : DeskState) (from to : ℕ) : Type 0 where
   pub steps : to ≤ from + old.config.shards * length new.seen
 
 -- a gathering that has given nothing, and gives what is asked of so many rows
-pub record IsGathered {W : ℕ} (asked : Ask) (rows : ℕ) (gather : Gathered (Source W))
+pub record IsGathered {W : ℕ} (asked : Ask) (rows : ℕ) (gather : Gathered (ShardSource W))
     : Type 0 where
   pub limit : gather.limit ≡ limit_in asked rows
   pub given : gather.given ≡ 0
   pub untouched : IsUntouched (asks {W = W}) (stands {W = W}) gather
 
 -- a gathering of a source for each shard
-pub record OpensGathered {W : ℕ} (old new : DeskState) (gather : Gathered (Source W))
+pub record OpensGathered {W : ℕ} (old new : DeskState) (gather : Gathered (ShardSource W))
     (position : ℕ) (asked : Ask) (room from to : ℕ) : Type 0 where
   pub rows : ℕ
   pub gathers : IsGathered asked rows gather
@@ -101,7 +101,7 @@ pub record HadNone {W : ℕ} (old new : Moment W) (tag : List ℕ) (this : LineR
 pub record WasOpened {W : ℕ} (old new : Moment W) (tag : List ℕ) (asked : Ask) (room : ℕ)
     (this : LineReply) : Type 0 where
   pub judged : IsJudged old tag false
-  pub gather : Gathered (Source W)
+  pub gather : Gathered (ShardSource W)
   pub opened : OpensGathered old.desk new.desk gather new.position asked room old.ledgers.upkeep
       new.ledgers.upkeep
   pub cursors : new.cursors ≡ old.cursors ++ opened_query tag gather ∷ []

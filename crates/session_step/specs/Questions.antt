@@ -19,9 +19,9 @@ opening_request tag (ask.Range tau code) = Range tag tau code
 opening_request tag (ask.Near number code) = Near tag number code
 
 -- its code
-abbrev pub code_in : Ask → List ℕ
-code_in (ask.Range tau code) = code
-code_in (ask.Near number code) = code
+abbrev pub asked_code : Ask → List ℕ
+asked_code (ask.Range tau code) = code
+asked_code (ask.Near number code) = code
 
 -- the radius that has all its hits, on codes of so many bits
 abbrev pub radius_in : ℕ → Ask → ℕ

@@ -110,8 +110,8 @@ fn open_all<const W: usize, D: Desk<W>, M>(
     requires alone { (D.desk desk.old).alone ≡ true }
     requires code { StandsFor W (D.desk desk.old).config.bits code
         (take (D.desk desk.old).config.bits code) }
-    requires within { radius_in (D.desk desk.old).config.bits
-        (ask_of question (take (D.desk desk.old).config.bits code)) ≤ (D.desk desk.old).config.bits }
+    requires within { radius_in (D.desk desk.old).config.bits (ask_of question (take (D.desk desk.old).config.bits code))
+        ≤ (D.desk desk.old).config.bits }
     requires some_room { 1 ≤ room }
     requires small_room { room ≤ ROOM_MOST }
     ensures opened { IfOk result (λ opened. OpensGathered (D.desk desk.old) (D.desk desk.new)

@@ -28,9 +28,11 @@ returns-clause-shards g c =
 pub returns-clause-alone : goal.returns-clause-alone
 returns-clause-alone g c = (here_opens c.args.config.now _ _ c.args.tag
     (ask_of c.args.question (take c.args.config.now.bits c.args.code)) c.args.config.now.room
-    (line_of c.opened-reply.result) (c.opened-reply.ensures.opens []) c.requires.alone c.requires.config).0
+    (line_of c.opened-reply.result) (c.opened-reply.ensures.opens []) c.requires.alone
+    c.requires.config).0
 
 pub returns-clause-config : goal.returns-clause-config
 returns-clause-config g c = (here_opens c.args.config.now _ _ c.args.tag
     (ask_of c.args.question (take c.args.config.now.bits c.args.code)) c.args.config.now.room
-    (line_of c.opened-reply.result) (c.opened-reply.ensures.opens []) c.requires.alone c.requires.config).1
+    (line_of c.opened-reply.result) (c.opened-reply.ensures.opens []) c.requires.alone
+    c.requires.config).1
