@@ -2,13 +2,14 @@
 
 ghost use Rattle.std.specs.Prelude.{◌≡◌, ◌<◌, ◌≤◌, ℕ, List, true};
 ghost use Rattle.std.specs.Thread.{IsSync};
+ghost use Rattle.hamming_model.specs.declared.limits.TheConstants.{WORDS_MOST};
 ghost use Rattle.query_protocol.specs.Requests.{Next, Cost, Plan, Cancel, Layout};
 ghost use Rattle.open_queries.specs.Writing.{IsCaused};
 ghost use Rattle.open_queries.specs.Queries.{HaveShard};
 ghost use Rattle.session_step.specs.Meaning.{IsReady, HaveShards};
 ghost use Rattle.session_desk.specs.Desks.{DeskState};
-ghost use Rattle.session_step.specs.Answering.{AnswersRequest};
-ghost use Rattle.session_step.specs.Moments.{moment_of};
+ghost use Rattle.session_step.specs.Answering.{AnswersBetween, AnswersRequest, AnswersUncounted};
+ghost use Rattle.session_step.specs.Moments.{moment_of, point_of};
 
 use crate::open_session::Session;
 use line_io::{Failed, Sink};
@@ -35,10 +36,9 @@ pub(crate) fn next<const W: usize, K: Sink, R: Threads + Sync, G: Gate, L: Send>
     requires ready { IsReady W config.now }
     requires sync { IsSync R.row }
     requires shards { HaveShards config.now.shards session.old.queries }
-    ensures answers { (desk : DeskState) (upkeep : ℕ) → desk.alone ≡ true →
-        AnswersRequest (Next tag.now n) result config.now (K.held sink.old) (K.held sink.new)
-        (moment_of desk session.old meters.old upkeep)
-        (moment_of desk session.new meters.new upkeep) }
+    ensures answers { (desk : DeskState) (upkeep : ℕ) → desk.alone ≡ true → AnswersBetween
+        (Next tag.now n) result config.now (point_of desk session.old meters.old upkeep
+        (K.held sink.old)) (point_of desk session.new meters.new upkeep (K.held sink.new)) }
     ensures cutter { session.new.cutter ≡ session.old.cutter }
     ensures requests { session.new.requests ≡ session.old.requests }
     ensures shards { HaveShards config.now.shards session.new.queries }
@@ -104,7 +104,7 @@ fn every_query_has_shard<const W: usize>(
     queries: &OpenQueries<Source<W>>,
     shard: u32,
 )
-    requires few_words { W ≤ 8 }
+    requires few_words { W ≤ WORDS_MOST }
     requires shard { shard < config.now.shards }
     requires shards { HaveShards config.now.shards queries.now }
     ensures { HaveShard queries.now shard }
@@ -142,10 +142,8 @@ pub(crate) fn layout<const W: usize, D: Desk<W>, K: Sink>(
     requires alone { (D.desk desk.old).alone ≡ true }
     requires config { (D.desk desk.old).config ≡ config.now }
     requires shard { shard < config.now.shards }
-    ensures answers { (reads : List ℕ) (upkeep : ℕ) →
-        AnswersRequest (Layout shard) result config.now (K.held sink.old) (K.held sink.new)
-        (moment_of (D.desk desk.old) session.old reads upkeep)
-        (moment_of (D.desk desk.new) session.new reads upkeep) }
+    ensures answers { AnswersUncounted (Layout shard) result config.now (D.desk desk.old)
+        (D.desk desk.new) session.old session.new (K.held sink.old) (K.held sink.new) }
     ensures cutter { session.new.cutter ≡ session.old.cutter }
     ensures requests { session.new.requests ≡ session.old.requests }
     ensures queries { session.new.queries ≡ session.old.queries }
