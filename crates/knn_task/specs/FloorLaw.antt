@@ -41,8 +41,8 @@ module _ (p : Search) (w : Ring) (radii : ℕ) (hits : Window) (mark : Mark) (re
         none_nearer = subst (λ floor. IfSome floor
             (λ least. All (λ hit. least ≤ hit.dist) (drop hits.given (near_answer p)))) (sym low)
             (none_nearer (drop hits.given (near_answer p))
-                (ascends_drop hits.given (near_answer p)
-                (ascending p w radii hits mark reads is ring)));
+            (ascends_drop hits.given (near_answer p)
+            (ascending p w radii hits mark reads is ring)));
         none_left = (
           (λ none. (let empty = none_where_empty (drop hits.given (near_answer p)) (sym low ∙ none)
               in absurd (omega arith))),
@@ -64,8 +64,10 @@ module _ (p : Search) (w : Ring) (radii : ℕ) (hits : Window) (mark : Mark) (re
       let moved = is.moved in
       record {
         none_nearer = tt;
-        none_left = ((λ none. (omega arith, eq-eqb hits.moved (length p.rows) (omega arith))),
-            (λ both. refl));
+        none_left = (
+          (λ none. (omega arith, eq-eqb hits.moved (length p.rows) (omega arith))),
+          (λ both. refl),
+        );
         of_head = λ head rest first. absurd (omega (arith, ap length first));
       }
 
@@ -81,7 +83,7 @@ module _ (p : Search) (w : Ring) (radii : ℕ) (hits : Window) (mark : Mark) (re
         none_nearer = All-from_recursion (λ hit. mark.settled ≤ hit.dist)
             (drop hits.given (near_answer p))
             (subst (λ n. AllByRecursion (λ hit. mark.settled ≤ hit.dist) (drop n (near_answer p)))
-                same (later_far p w radii hits mark reads is ring));
+            same (later_far p w radii hits mark reads is ring));
         none_left = ((λ none. cc), (λ both. absurd (omega (arith, both.0))));
         of_head = λ head rest first. absurd (omega (arith, ap length first));
       }
@@ -92,12 +94,12 @@ module _ (p : Search) (w : Ring) (radii : ℕ) (hits : Window) (mark : Mark) (re
       ⊎_elim low_floor
       (λ (le : mark.ready ≤ hits.given). ⊎_elim
       (λ (more : mark.ready < length p.rows). (let some = floor_some p w radii hits mark reads is
-          ring le more in
+      ring le more in
       subst (λ floor. IsFloor (search_asked p hits.room) (standing floor)) (sym some)
-          (high_some le more)))
+      (high_some le more)))
       (λ (all : length p.rows ≤ mark.ready). (let full : mark.ready ≡ length p.rows = omega
-          (arith, (ready_few p w radii hits mark reads is ring)) in
+      (arith, (ready_few p w radii hits mark reads is ring)) in
       subst (λ floor. IsFloor (search_asked p hits.room) (standing floor))
-          (sym (floor_none p w radii hits mark reads is ring le full)) (high_none le full)))
+      (sym (floor_none p w radii hits mark reads is ring le full)) (high_none le full)))
       (cases_lt mark.ready (length p.rows)))
       (cases_lt hits.given mark.ready)

@@ -32,7 +32,7 @@ module _ (p : Search) (w : Ring) (radii : ℕ) (hits : Window) (mark : Mark) (re
     reached = All-from_recursion (λ hit. hit.dist ≤ p.bits) (near_answer p)
         (all_in_order (λ hit. hit.dist ≤ p.bits) (hits_within p.rows p.query p.bits)
         (all_kept (λ hit. hit.dist ≤ p.bits) (λ hit. nat_le hit.dist p.bits)
-            (map (hit_of p.query) p.rows)
+        (map (hit_of p.query) p.rows)
         (λ hit e. leb-true hit.dist p.bits e)));
     few = omega (arith, answer_size p w radii hits mark reads is ring);
     some_room = is.some_room;
@@ -74,5 +74,5 @@ module _ (p : Search) (w : Ring) (radii : ℕ) (hits : Window) (mark : Mark) (re
       take_all_of k =
           let wait = waits hits is.window in
           let same = inside p w radii hits mark reads is ring (length (waiting_of hits)) hits.given
-              (omega (arith, reached_is p w radii hits mark reads is ring, is.moved)) in
+          (omega (arith, reached_is p w radii hits mark reads is ring, is.moved)) in
           sym same ∙ ap (λ n. take n (left_of hits)) wait

@@ -38,14 +38,18 @@ sum_rises [] (suc few) (suc many) le = omega arith
 sum_rises (x ∷ xs) zero many le = omega arith
 sum_rises (x ∷ xs) (suc few) zero le = absurd (omega arith)
 sum_rises (x ∷ xs) (suc few) (suc many) le =
-    omega (arith, sum_by-cons (λ n. n) x (take few xs), sum_by-cons (λ n. n) x (take many xs),
-        sum_rises xs few many (omega arith))
+    omega (
+      arith,
+      sum_by-cons (λ n. n) x (take few xs),
+      sum_by-cons (λ n. n) x (take many xs),
+      sum_rises xs few many (omega arith),
+    )
 
 -- the last of so many radii
 pub some_last : (radii : ℕ) → last_of (suc radii) ≡ Some radii
 some_last radii =
     ap (λ b. cond b None (Some (suc radii - 1)))
-        (ne_eqb (suc radii) 0 (λ (e : suc radii ≡ 0). omega arith)) ∙ ap Some (omega arith)
+    (ne_eqb (suc radii) 0 (λ (e : suc radii ≡ 0). omega arith)) ∙ ap Some (omega arith)
 
 pub last_radii : (radii : ℕ) → radii_begun (last_of radii) ≡ radii
 last_radii zero = refl
@@ -63,6 +67,6 @@ near_few (hit ∷ hits) units = go (nat_lt hit.dist units) (near_few hits units)
   where
     go : (b : Bool) → length (hits_nearer hits units) ≤ length hits
         → length (cond b (hit ∷ hits_nearer hits units) (hits_nearer hits units)) ≤ suc
-            (length hits)
+        (length hits)
     go true le = omega arith
     go false le = omega arith

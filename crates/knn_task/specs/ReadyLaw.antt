@@ -56,7 +56,7 @@ module _ (p : Search) (w : Ring) (radii : ℕ) (hits : Window) (mark : Mark) (re
   prefix =
       is.front
       ∙ sym (ap (take mark.ready) answer_split ∙ ap (λ n. take n (near_hits ++ later_hits))
-          (sym ready_size) ∙ take-append_seam near_hits later_hits)
+      (sym ready_size) ∙ take-append_seam near_hits later_hits)
 
   pub later : drop mark.ready (near_answer p) ≡ in_order (hits_from (all_hits p) mark.settled)
   later = ap (drop mark.ready) answer_split ∙ ap (λ n. drop n (near_hits ++ later_hits))
@@ -66,13 +66,13 @@ module _ (p : Search) (w : Ring) (radii : ℕ) (hits : Window) (mark : Mark) (re
   later_far = subst (AllByRecursion (λ hit. mark.settled ≤ hit.dist)) (sym later)
       (all_in_order (λ hit. mark.settled ≤ hit.dist) (hits_from (all_hits p) mark.settled)
       (all_kept (λ hit. mark.settled ≤ hit.dist) (λ hit. nat_le mark.settled hit.dist) (all_hits p)
-          (λ hit e. leb-true mark.settled hit.dist e)))
+      (λ hit e. leb-true mark.settled hit.dist e)))
 
   pub inside : (k g : ℕ) → g + k ≤ mark.ready → take k (drop g hits.found) ≡ take k
       (drop g (near_answer p))
   inside k g le =
       sym (take_inside k g mark.ready hits.found le) ∙ ap (λ xs. take k (drop g xs)) prefix ∙
-          take_inside k g mark.ready (near_answer p) le
+      take_inside k g mark.ready (near_answer p) le
 
   pub ascending : Ascends (near_answer p)
   ascending = subst Ascends (sym (ring.answer)) (ascends_in_order (all_hits p))
@@ -82,23 +82,23 @@ module _ (p : Search) (w : Ring) (radii : ℕ) (hits : Window) (mark : Mark) (re
       (drop hits.given (near_answer p))
   floor_low more =
       ap (λ b. cond b (first_distance (left_of hits))
-          (cond (mark.ready == length p.rows) None (Some mark.settled)))
-          (lt-ltb hits.given mark.ready more)
+      (cond (mark.ready == length p.rows) None (Some mark.settled)))
+      (lt-ltb hits.given mark.ready more)
       ∙ sym (first_of_take (left_of hits)) ∙ ap first_distance (inside 1 hits.given (omega arith)) ∙
-          first_of_take (drop hits.given (near_answer p))
+      first_of_take (drop hits.given (near_answer p))
 
   pub floor_own : hits.given < mark.ready → floor_of p hits mark ≡ first_distance (left_of hits)
   floor_own more =
       ap (λ b. cond b (first_distance (left_of hits))
-          (cond (mark.ready == length p.rows) None (Some mark.settled)))
-          (lt-ltb hits.given mark.ready more)
+      (cond (mark.ready == length p.rows) None (Some mark.settled)))
+      (lt-ltb hits.given mark.ready more)
 
   pub floor_high : mark.ready ≤ hits.given → floor_of p hits mark ≡ cond
       (mark.ready == length p.rows) None (Some mark.settled)
   floor_high le =
       ap (λ b. cond b (first_distance (left_of hits))
-          (cond (mark.ready == length p.rows) None (Some mark.settled)))
-          (le-ltb hits.given mark.ready le)
+      (cond (mark.ready == length p.rows) None (Some mark.settled)))
+      (le-ltb hits.given mark.ready le)
 
   pub floor_none : mark.ready ≤ hits.given → mark.ready ≡ length p.rows → floor_of p hits mark ≡
       None
@@ -109,4 +109,4 @@ module _ (p : Search) (w : Ring) (radii : ℕ) (hits : Window) (mark : Mark) (re
       Some mark.settled
   floor_some le more = floor_high le
       ∙ ap (λ b. cond b None (Some mark.settled))
-          (ne_eqb mark.ready (length p.rows) (λ (e : mark.ready ≡ length p.rows). omega arith))
+      (ne_eqb mark.ready (length p.rows) (λ (e : mark.ready ≡ length p.rows). omega arith))
