@@ -1,8 +1,8 @@
 //! Lines, and the ends that bytes come from and go to.
 
+use byte_lines::{Cut, Cutter, LineBuf};
 use line_io::{
-    Cut, Cutter, Failed, FromReader, Gathered, GatheredReader, GatheredWriter, LineBuf, Sink,
-    Source, ToWriter,
+    Failed, FromReader, Gathered, GatheredReader, GatheredWriter, Sink, Source, ToWriter,
 };
 use std::alloc::Global;
 use std::cell::RefCell;

@@ -3,9 +3,9 @@
 ghost use Rattle.std.specs.Prelude.{◌≡◌, ◌≤◌, length};
 ghost use Rattle.gph_codes.specs.Allowed.{IsAllowed};
 
+use byte_lines::LineBuf;
 use gph_codes::Code;
 use hamming_model::ENTRIES_MOST;
-use line_io::LineBuf;
 use part_layout::{Config, INPUT_MOST, LayoutText};
 use query_protocol::{
     Bad, Reply, Request, Tag, read_line, write_code, write_hit, write_layout, write_plan,

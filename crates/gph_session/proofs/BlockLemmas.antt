@@ -6,12 +6,12 @@ use Rattle.std.specs.Io.KnownBytes.{Appends}
 use Rattle.std.proofs.KnownBytes.{Appends-trans, Appends-nil}
 use Rattle.std.proofs.Math.Seq.{take-add}
 use Rattle.std.proofs.lemmas.List.{take_rest, take-append-drop}
-use Rattle.line_io.specs.Cut.{held_of, TellsOf}
-use Rattle.line_io.specs.Lines.{ended_lines, unended, last_line, lines}
-use Rattle.line_io.specs.declared.cutter.Cut.{Cut}
-use Rattle.line_io.specs.declared.cutter.Cut.TheVariants.{Line, Long}
+use Rattle.byte_lines.specs.Cut.{held_of, TellsOf}
+use Rattle.byte_lines.specs.Lines.{ended_lines, unended, last_line, lines}
+use Rattle.byte_lines.specs.declared.cutter.Cut.{Cut}
+use Rattle.byte_lines.specs.declared.cutter.Cut.TheVariants.{Line, Long}
 use Rattle.line_io.specs.declared.source.Failed.{Failed}
-use Rattle.line_io.proofs.LinesLemmas.{ended_lines-append}
+use Rattle.byte_lines.proofs.LinesLemmas.{ended_lines-append}
 use Rattle.hamming_model.specs.History.{JournalEntry}
 use Rattle.part_layout.specs.declared.config.Config.{Config}
 use Rattle.query_protocol.specs.Replies.{text}

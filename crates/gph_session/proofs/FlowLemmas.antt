@@ -8,10 +8,10 @@ use Rattle.std.specs.Io.KnownBytes.{Appends}
 use Rattle.std.proofs.lemmas.List.{map_push, length-map}
 use Rattle.std.proofs.lemmas.List.Sums.{sum_by-append}
 use Rattle.std.proofs.Math.Seq.{drop-append_seam}
-use Rattle.line_io.specs.Cut.{held_of}
-use Rattle.line_io.specs.Lines.{ended_lines, unended}
+use Rattle.byte_lines.specs.Cut.{held_of}
+use Rattle.byte_lines.specs.Lines.{ended_lines, unended}
 use Rattle.line_io.specs.declared.source.Failed.{Failed}
-use Rattle.line_io.proofs.LinesLemmas.{ended_lines-append, unended-append}
+use Rattle.byte_lines.proofs.LinesLemmas.{ended_lines-append, unended-append}
 use Rattle.hamming_model.specs.History.{JournalEntry}
 use Rattle.part_layout.specs.declared.config.Config.{Config}
 use Rattle.query_protocol.specs.Lines.{reading}

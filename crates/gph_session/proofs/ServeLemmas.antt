@@ -6,9 +6,9 @@ use Rattle.std.specs.Io.KnownBytes.{Appends, Consumes, Keeps, IsAtEnd}
 use Rattle.std.proofs.KnownBytes.{Appends-trans, Consumes-trans, Consumes-kept}
 use Rattle.std.proofs.lemmas.List.{take-append-le, take-append-drop, length-take}
 use Rattle.line_io.specs.Faults.{Rose}
-use Rattle.line_io.specs.Lines.{ended_lines, unended, last_line}
+use Rattle.byte_lines.specs.Lines.{ended_lines, unended, last_line}
 use Rattle.line_io.specs.declared.source.Failed.{Failed}
-use Rattle.line_io.proofs.LinesLemmas.{ended_lines-append}
+use Rattle.byte_lines.proofs.LinesLemmas.{ended_lines-append}
 use Rattle.part_layout.specs.declared.config.Config.{Config}
 use Rattle.session_desk.specs.Desks.{DeskState}
 use Rattle.session_model.specs.declared.limits.TheConstants.{BLOCK_MOST}

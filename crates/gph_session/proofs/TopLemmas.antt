@@ -8,8 +8,8 @@ use Rattle.std.specs.List.{AllByRecursion}
 use Rattle.std.specs.Io.KnownBytes.{Consumes}
 use Rattle.std.proofs.lemmas.List.{take_at, length-map}
 use Rattle.line_io.specs.Faults.{Rose}
-use Rattle.line_io.specs.Cut.{held_of}
-use Rattle.line_io.specs.Lines.{lines}
+use Rattle.byte_lines.specs.Cut.{held_of}
+use Rattle.byte_lines.specs.Lines.{lines}
 use Rattle.hamming_model.specs.Layouts.{IsLayout}
 use Rattle.part_layout.specs.declared.config.Config.{Config}
 use Rattle.part_layout.specs.Laid.{Laid}

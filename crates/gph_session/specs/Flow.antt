@@ -4,8 +4,8 @@ use Rattle.std.specs.Prelude.{◌≡◌, ℕ, ◌+◌, ◌≤◌, min, true, Opt
 use Rattle.std.specs.Prelude.{List, [], ◌++◌, length, if◌then◌else◌}
 use Rattle.std.specs.List.{AllByRecursion}
 use Rattle.std.specs.Io.KnownBytes.{Appends}
-use Rattle.line_io.specs.Cut.{held_of}
-use Rattle.line_io.specs.Lines.{ended_lines, unended, lines}
+use Rattle.byte_lines.specs.Cut.{held_of}
+use Rattle.byte_lines.specs.Lines.{ended_lines, unended, lines}
 use Rattle.line_io.specs.declared.source.Failed.{Failed}
 use Rattle.hamming_model.specs.History.{JournalEntry}
 use Rattle.part_layout.specs.declared.config.Config.{Config}

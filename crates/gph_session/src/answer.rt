@@ -2,7 +2,7 @@
 
 ghost use Rattle.std.specs.Prelude.{◌≡◌, ◌≤◌, ◌∷◌, [], ℕ, List, Some, Ok, true};
 ghost use Rattle.std.specs.Thread.{IsSync};
-ghost use Rattle.line_io.specs.Cut.{TellsOf};
+ghost use Rattle.byte_lines.specs.Cut.{TellsOf};
 ghost use Rattle.gph_codes.specs.Allowed.{IsAllowed};
 ghost use Rattle.query_protocol.specs.Lines.{reading};
 ghost use Rattle.query_protocol.specs.Stored.{unstored, IsFit, IsFitReading, NamesShard, ReadsAs};
@@ -16,7 +16,8 @@ use crate::commits::{add, delete, get};
 use crate::open_session::Session;
 use crate::opening::range;
 use crate::turn::Turn;
-use line_io::{Cut, Cutter, Failed, Sink};
+use byte_lines::{Cut, Cutter};
+use line_io::{Failed, Sink};
 use open_queries::say;
 use part_layout::Config;
 use query_protocol::{Bad, Reply, Request, read_line};

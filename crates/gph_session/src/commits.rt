@@ -15,10 +15,11 @@ ghost use Rattle.gph_session.specs.Flow.{AnswersRequest};
 ghost use Rattle.gph_session.specs.Moments.{moment_of};
 
 use crate::open_session::Session;
+use byte_lines::LineBuf;
 use commit_journal::Decided;
 use entry_log::{Decision, Op};
 use gph_codes::Code;
-use line_io::{Failed, LineBuf, Sink};
+use line_io::{Failed, Sink};
 use open_queries::{say, send};
 use part_layout::Config;
 use query_protocol::{Reply, write_code};

@@ -2,9 +2,9 @@
 
 ghost use Rattle.std.specs.Prelude.{◌≡◌, ◌≤◌, [], IfOk};
 ghost use Rattle.hamming_model.specs.declared.limits.TheConstants.{WORDS_MOST};
-ghost use Rattle.line_io.specs.Cut.{held_of};
+ghost use Rattle.byte_lines.specs.Cut.{held_of};
 
-use line_io::{Cutter, LineBuf};
+use byte_lines::{Cutter, LineBuf};
 use open_queries::OpenQueries;
 use read_meter::NoMemory;
 use shard_query::RangeTask;

@@ -1,8 +1,8 @@
 ghost use Rattle.std.specs.Prelude.{◌≡◌, ℕ, ◌<◌, length, take, IfOk};
 
-use crate::buffer::LineBuf;
 use crate::gathering::{Added, Flushed, Gathering, NotFlushed};
 use crate::write_end::WriteEnd;
+use byte_lines::LineBuf;
 use read_meter::NoMemory;
 use std::alloc::Global;
 use std::cell::RefCell;

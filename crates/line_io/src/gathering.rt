@@ -1,14 +1,13 @@
 ghost use Rattle.std.specs.Prelude.{◌≡◌, ◌↔◌, ℕ, ◌<◌, ◌≤◌, List, [], ◌++◌, length, take, false};
 ghost use Rattle.std.specs.Prelude.{not, IsTrue, IsFalse, IsOk, IsErr, IfOk};
 ghost use Rattle.std.specs.Io.KnownBytes.{Keeps, Appends};
-ghost use Rattle.line_io.specs.declared.cutter.TheConstants.{LINE_MOST};
+ghost use Rattle.byte_lines.specs.declared.cutter.TheConstants.{LINE_MOST};
 ghost use Rattle.line_io.specs.Faults.{raised};
 ghost use Rattle.line_io.specs.Objects.{told_and_pending};
 ghost use Rattle.line_io.specs.GivingOut.{GoesOut};
 
-use crate::buffer::LineBuf;
-use crate::cutter::LINE_MOST;
 use crate::write_end::WriteEnd;
+use byte_lines::{LINE_MOST, LineBuf};
 use std::cell::BorrowMutError;
 use std::marker::Model;
 

@@ -1,15 +1,12 @@
-//! A stream is a list of bytes, cut into lines; sources and sinks may fail and count it. What
-//! comes out of a cutter are the lines of what went in, however it was cut into pieces.
+//! A stream is a list of bytes that is read, or written, piece by piece. Sources and sinks may fail, and count it: an answer
+//! that a call failed comes only where the count rose.
 #![tactic(auto)]
 
-mod buffer;
-mod cutter;
 mod from_reader;
 mod gathered;
 mod gathered_reader;
 mod gathered_writer;
 mod gathering;
-mod laws;
 mod memory_sink;
 mod memory_source;
 mod pieces;
@@ -22,14 +19,11 @@ mod steady_source;
 mod to_writer;
 mod write_end;
 
-pub use buffer::LineBuf;
-pub use cutter::{Cut, Cutter, LINE_MOST};
 pub use from_reader::FromReader;
 pub use gathered::Gathered;
 pub use gathered_reader::GatheredReader;
 pub use gathered_writer::GatheredWriter;
 pub use gathering::{Flushed, NotFlushed};
-pub use laws::{dropped_return, line_pieces, lines_in_pieces};
 pub use memory_sink::MemorySink;
 pub use memory_source::MemorySource;
 pub use read_end::ReadEnd;

@@ -7,9 +7,9 @@ ghost use Rattle.open_queries.specs.Kept.{IsKept};
 ghost use Rattle.open_queries.specs.Answers.{IsCost, WritesPlanOf};
 
 use crate::open_query::OpenQuery;
+use byte_lines::LineBuf;
 use hamming_model::PARTS_MOST;
 use hit_source::HitSource;
-use line_io::LineBuf;
 use query_protocol::{Reply, Tag, write_plan};
 
 /// Tells what a query has read so far, and what it may read for the hits that it gave.

@@ -10,15 +10,17 @@ ghost use Rattle.open_queries.specs.Writing.{Writes, IsCaused};
 
 use crate::open_query::OpenQuery;
 use crate::output::{say, write_all};
+use byte_lines::LineBuf;
 use hit_source::HitSource;
-use line_io::{Failed, LineBuf, Sink};
+use line_io::{Failed, Sink};
 use query_protocol::{Reply, Tag, write_hit};
 use read_meter::Meters;
 use scatter_gather::{Gate, Gather};
 use std::thread::Threads;
 
-/// How many units of work each source does at most in one poll, where polls go in threads.
-const BUDGET: u32 = 4096;
+/// How many units of work each source does at most in one poll, where polls go in threads: many, so that few threads are
+/// started.
+const BUDGET: u32 = 1_000_000;
 
 /// Gives the next hits of a query, and its end or that there are more. One that is done reads nothing.
 pub(crate) fn give_query<H: HitSource, R: Threads + Sync, G: Gate, K: Sink, L: Send>(

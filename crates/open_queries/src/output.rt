@@ -4,7 +4,8 @@ ghost use Rattle.std.specs.Prelude.{◌≡◌, ℕ, ◌+◌, ◌≤◌, ◌<◌,
 ghost use Rattle.query_protocol.specs.Replies.{reply_line, line_of};
 ghost use Rattle.open_queries.specs.Writing.{Writes, IsCaused};
 
-use line_io::{Failed, LineBuf, Sink};
+use byte_lines::LineBuf;
+use line_io::{Failed, Sink};
 use query_protocol::Reply;
 
 /// Offers a piece to the sink, and what it didn't take again, until it has taken all.

@@ -6,9 +6,10 @@ ghost use Rattle.hamming_model.specs.declared.limits.TheConstants.{BITS_MOST};
 ghost use Rattle.hit_source.specs.Sources.{IsFresh};
 ghost use Rattle.open_queries.specs.Kept.{IsUntouched};
 
+use byte_lines::LineBuf;
 use hamming_model::{BITS_MOST, Hit};
 use hit_source::{HitSource, ListedHits};
-use line_io::{LineBuf, MemorySink};
+use line_io::MemorySink;
 use open_queries::{OpenQueries, say};
 use query_protocol::{Bad, Reply, Tag};
 use read_meter::Meters;

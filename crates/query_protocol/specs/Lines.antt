@@ -4,7 +4,7 @@ use Rattle.std.specs.Prelude.{Option, Some, None, Ok, Err}
 use Rattle.std.specs.Str.{bytes_eq}
 use Rattle.part_layout.specs.declared.config.Config.{Config}
 use Rattle.line_forms.specs.Words.{words, is_printable}
-use Rattle.line_io.specs.declared.cutter.TheConstants.{LINE_MOST}
+use Rattle.byte_lines.specs.declared.cutter.TheConstants.{LINE_MOST}
 use Rattle.query_protocol.specs.Requests.{LineReading, Del, Get, Cost, Cancel, bad}
 use Rattle.query_protocol.specs.Requests.{add_asked, range_asked, next_asked, plan_asked}
 use Rattle.query_protocol.specs.Requests.{layout_asked, quit_asked, key_alone, tag_alone}

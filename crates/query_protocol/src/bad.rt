@@ -1,5 +1,5 @@
 ghost use Rattle.std.specs.Prelude.{◌≡◌, ℕ, ◌<◌, List, length, Err};
-ghost use Rattle.line_io.specs.declared.cutter.TheConstants.{LINE_MOST};
+ghost use Rattle.byte_lines.specs.declared.cutter.TheConstants.{LINE_MOST};
 ghost use Rattle.part_layout.specs.declared.config.Config.{Config};
 ghost use Rattle.query_protocol.specs.Lines.{reading};
 ghost use Rattle.query_protocol.specs.Requests.{bad, bad_word};

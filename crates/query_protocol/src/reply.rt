@@ -1,15 +1,15 @@
 ghost use Rattle.std.specs.Prelude.{◌≡◌, ℕ, List, ◌≤◌, ◌+◌, ◌*◌, [], ◌++◌, ◌∷◌, length, decimal, codes};
 ghost use Rattle.gph_codes.specs.Allowed.{IsAllowed};
 ghost use Rattle.hamming_model.specs.Codes.{StandsFor};
-ghost use Rattle.line_io.specs.declared.cutter.TheConstants.{LINE_MOST};
+ghost use Rattle.byte_lines.specs.declared.cutter.TheConstants.{LINE_MOST};
 ghost use Rattle.query_protocol.specs.Replies.{reply_line, line_of, threshold_text, thresholds_text};
 ghost use Rattle.hamming_model.specs.declared.limits.TheConstants.{PARTS_MOST, WORDS_MOST};
 ghost use Rattle.query_protocol.specs.Replies as reply;
 
 use crate::Bad;
+use byte_lines::LineBuf;
 use gph_codes::Code;
 use line_forms::Tag;
-use line_io::LineBuf;
 use part_layout::LayoutText;
 
 // The greatest number of hexadecimal digits of a code.

@@ -17,8 +17,9 @@ use std::thread::{Threads, join_mut};
 // One mark for each source that a gathering may have, `SHARDS_MOST` of them.
 const SOURCES: usize = SHARDS_MOST as usize;
 
-// The budget of polls one after the other: about what a thread costs.
-const BUDGET_IN_TURN: u32 = 4096;
+// The units of work of a source in a poll that is made one after the other: with less to do, starting a thread costs more
+// than it saves (`bench/shards`).
+const BUDGET_IN_TURN: u32 = 32_768;
 
 // Polls the marked sources, each in a thread of its own where threads can be had. It answers
 // whether one of them has more to do at once.

@@ -5,7 +5,7 @@ use Rattle.std.specs.declared.option.Option.{Option}
 use Rattle.std.specs.Io.KnownBytes.{Appends, Consumes, IsAtEnd}
 use Rattle.part_layout.specs.declared.config.Config.{Config}
 use Rattle.line_io.specs.Faults.{Rose}
-use Rattle.line_io.specs.Lines.{lines}
+use Rattle.byte_lines.specs.Lines.{lines}
 use Rattle.session_model.specs.declared.limits.TheConstants.{BLOCK_MOST}
 use Rattle.session_model.specs.declared.outcome.Outcome.{Outcome}
 use Rattle.session_model.specs.declared.outcome.Outcome.TheVariants.{Done, Usage, NoMemory}

@@ -1,6 +1,6 @@
 -- The end of the input ends no line, or one that the session answers.
 use Rattle.std.proofs.Common.{[]}
-use Rattle.line_io.specs.Lines.{unended}
+use Rattle.byte_lines.specs.Lines.{unended}
 use Rattle.gph_session.proofs.BlockLemmas.{cut_end, no_end}
 use Rattle.gph_session.proofs.block.answer_end.Goals as goal
 

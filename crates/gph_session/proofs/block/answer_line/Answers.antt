@@ -1,7 +1,7 @@
 -- A piece of a block ends no line, or one that the session answers.
 use Rattle.std.proofs.Common.{◌≡◌, [], take, subst, sym}
-use Rattle.line_io.specs.Cut.{CutterState, TellsOf, held_of}
-use Rattle.line_io.specs.Lines.{ended_lines, unended}
+use Rattle.byte_lines.specs.Cut.{CutterState, TellsOf, held_of}
+use Rattle.byte_lines.specs.Lines.{ended_lines, unended}
 use Rattle.gph_session.proofs.BlockLemmas.{cut_flow, uncut_flow}
 use Rattle.gph_session.proofs.block.answer_line.Goals as goal
 

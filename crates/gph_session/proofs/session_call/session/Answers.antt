@@ -2,7 +2,7 @@
 use Rattle.std.proofs.Common.{◌≡◌, [], refl, sym, ap, ◌∙◌, subst, arith, rules, true, Result, IfOk}
 use Rattle.part_layout.specs.declared.config.Config.{Config}
 use Rattle.part_layout.specs.Ranges.{IsConfig}
-use Rattle.line_io.specs.Cut.{held_of}
+use Rattle.byte_lines.specs.Cut.{held_of}
 use Rattle.read_meter.specs.declared.no_memory.NoMemory.{NoMemory}
 use Rattle.session_desk.specs.Desks.{DeskState, IsDesk}
 use Rattle.gph_session.specs.declared.open_session.Session.{Session}

@@ -1,6 +1,6 @@
 -- The lines of two pieces, one after the other, are those of the pieces joined.
-use Rattle.line_io.proofs.LinesLemmas.{ended_lines-append, unended-append}
-use Rattle.line_io.proofs.laws.lines_in_pieces.Goals as goal
+use Rattle.byte_lines.proofs.LinesLemmas.{ended_lines-append, unended-append}
+use Rattle.byte_lines.proofs.laws.lines_in_pieces.Goals as goal
 
 pub returns-clause-lines : goal.returns-clause-lines
 returns-clause-lines c = ended_lines-append

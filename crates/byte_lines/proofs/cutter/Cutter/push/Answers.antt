@@ -1,10 +1,10 @@
 -- What is taken up to an LF, or where there is none.
 use Rattle.std.proofs.Common.{◌++◌, take, sym, ◌∙◌}
 use Rattle.std.proofs.Math.Seq.{take-length}
-use Rattle.line_io.proofs.LinesLemmas.{ended_lines-clean, unended-clean}
-use Rattle.line_io.proofs.CutterLemmas.{clean_from_search, taken_through, take_through-clean}
-use Rattle.line_io.proofs.CutterLemmas.{line_taken, none_begun}
-use Rattle.line_io.proofs.cutter.Cutter.push.Goals as goal
+use Rattle.byte_lines.proofs.LinesLemmas.{ended_lines-clean, unended-clean}
+use Rattle.byte_lines.proofs.CutterLemmas.{clean_from_search, taken_through, take_through-clean}
+use Rattle.byte_lines.proofs.CutterLemmas.{line_taken, none_begun}
+use Rattle.byte_lines.proofs.cutter.Cutter.push.Goals as goal
 
 pub returns-in-Some-clause-taken : goal.returns-in-Some-clause-taken
 returns-in-Some-clause-taken c = taken_through c.args.bytes.now c.in-Some.at c.in-Some.ensures

@@ -1,9 +1,9 @@
 -- What a cutter holds of a line that has begun, and what a cut tells.
 use Rattle.std.specs.Prelude.{◌≡◌, ℕ, ◌+◌, ◌<◌, ◌≤◌, nat_le, if◌then◌else◌}
 use Rattle.std.specs.Prelude.{List, [], ◌∷◌, length, Option, None, Some}
-use Rattle.line_io.specs.declared.cutter.TheConstants.{LINE_MOST}
-use Rattle.line_io.specs.declared.cutter.Cut.{Cut}
-use Rattle.line_io.specs.declared.cutter.Cut.TheVariants.{Line, Long}
+use Rattle.byte_lines.specs.declared.cutter.TheConstants.{LINE_MOST}
+use Rattle.byte_lines.specs.declared.cutter.Cut.{Cut}
+use Rattle.byte_lines.specs.declared.cutter.Cut.TheVariants.{Line, Long}
 
 -- the line that has begun, or none where it is longer than the longest line with its CR
 abbrev pub held_of : List ℕ → Option (List ℕ)

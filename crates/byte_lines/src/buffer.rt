@@ -1,6 +1,6 @@
 ghost use Rattle.std.specs.Prelude.{◌≡◌, ℕ, ◌+◌, ◌≤◌, List, [], ◌++◌, length, take, decimal, IfOk};
 ghost use Rattle.std.specs.Prelude.{vec_len};
-ghost use Rattle.line_io.specs.declared.cutter.TheConstants.{LINE_MOST};
+ghost use Rattle.byte_lines.specs.declared.cutter.TheConstants.{LINE_MOST};
 
 use crate::cutter::LINE_MOST;
 use itoa::Buffer;

@@ -6,8 +6,8 @@ use Rattle.std.proofs.lemmas.Bool.{eqb-true, eq-eqb}
 use Rattle.std.proofs.lemmas.List.Elements.{All-head, All-tail}
 use Rattle.std.specs.Io.BufRead.{take_through}
 use Rattle.memchr.specs.Find.{is_byte, Nowhere, NoneBefore, Passes}
-use Rattle.line_io.specs.Lines.{line_feed, without_return, ended_lines, unended, HasNoEnd}
-use Rattle.line_io.proofs.LinesLemmas.{not_feed, ended_lines-piece, unended-piece}
+use Rattle.byte_lines.specs.Lines.{line_feed, without_return, ended_lines, unended, HasNoEnd}
+use Rattle.byte_lines.proofs.LinesLemmas.{not_feed, ended_lines-piece, unended-piece}
 
 -- bytes without LF are taken whole
 pub take_through-clean : (bytes : List ℕ) → HasNoEnd bytes → take_through line_feed bytes ≡ bytes

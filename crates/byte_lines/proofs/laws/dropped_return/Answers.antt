@@ -1,6 +1,6 @@
 -- What is dropped at the end of a line.
-use Rattle.line_io.proofs.LinesLemmas.{without_return-dropped, without_return-kept}
-use Rattle.line_io.proofs.laws.dropped_return.Goals as goal
+use Rattle.byte_lines.proofs.LinesLemmas.{without_return-dropped, without_return-kept}
+use Rattle.byte_lines.proofs.laws.dropped_return.Goals as goal
 
 pub returns-clause-dropped : goal.returns-clause-dropped
 returns-clause-dropped c = without_return-dropped

@@ -6,8 +6,8 @@ use Rattle.std.proofs.Math.Seq.{get_or-append_seam, take-append_seam}
 use Rattle.std.proofs.lemmas.Bool.{eqb-true, eqb-false, lt-ltb}
 use Rattle.std.proofs.lemmas.Bool.Decides.{nat_tests}
 use Rattle.std.proofs.lemmas.List.Elements.{All-head, All-tail, All-cons, All-nil, All-append}
-use Rattle.line_io.specs.Lines.{line_feed, without_return, ended_lines, unended, last_line}
-use Rattle.line_io.specs.Lines.{HasNoEnd, rejoined, IsSplitAtEnds, AreLinesOf}
+use Rattle.byte_lines.specs.Lines.{line_feed, without_return, ended_lines, unended, last_line}
+use Rattle.byte_lines.specs.Lines.{HasNoEnd, rejoined, IsSplitAtEnds, AreLinesOf}
 
 -- the lines of two pieces after one byte, by whether it is an LF
 lines_more : (v : Bool) (begun grown xs b : List ℕ)

@@ -1,6 +1,6 @@
 ghost use Rattle.std.specs.Prelude.{◌≡◌, ◌≢◌, ℕ, List, [], ◌∷◌, ◌++◌};
-ghost use Rattle.line_io.specs.Lines.{ended_lines, unended, without_return, IsSplitAtEnds};
-ghost use Rattle.line_io.specs.Lines.{AreLinesOf};
+ghost use Rattle.byte_lines.specs.Lines.{ended_lines, unended, without_return, IsSplitAtEnds};
+ghost use Rattle.byte_lines.specs.Lines.{AreLinesOf};
 
 /// The lines of two pieces, one after the other, are those of the pieces joined.
 pub fn lines_in_pieces()

@@ -1,7 +1,7 @@
 ghost use Rattle.std.specs.Prelude.{◌≡◌, ℕ, ◌+◌, ◌<◌, ◌≤◌, List, [], ◌∷◌, ◌++◌, length, take, Some};
 ghost use Rattle.std.specs.Prelude.{IfOk, MatchOption};
 ghost use Rattle.std.specs.Io.BufRead.{take_through};
-ghost use Rattle.line_io.specs.Lines.{line_feed, ended_by, ended_lines, unended, last_line};
+ghost use Rattle.byte_lines.specs.Lines.{line_feed, ended_by, ended_lines, unended, last_line};
 
 use crate::buffer::zeroed;
 use memchr::memchr;
@@ -32,8 +32,8 @@ pub struct Cutter {
 
 impl Model for Cutter {
     ghost use Rattle.std.specs.Prelude.{◌≡◌, ◌+◌, ◌≤◌, length, take, if◌then◌else◌, Some, None};
-    ghost use Rattle.line_io.specs.Cut.{CutterState};
-    ghost use Rattle.line_io.specs.declared.cutter.TheConstants.{LINE_MOST};
+    ghost use Rattle.byte_lines.specs.Cut.{CutterState};
+    ghost use Rattle.byte_lines.specs.declared.cutter.TheConstants.{LINE_MOST};
 
     ghost Value = { CutterState };
 
@@ -46,7 +46,7 @@ impl Model for Cutter {
         × (c.cut ≤ LINE_MOST) };
 }
 
-ghost use Rattle.line_io.specs.Cut.{held_of, TellsOf};
+ghost use Rattle.byte_lines.specs.Cut.{held_of, TellsOf};
 
 impl Cutter {
     /// A cutter before the first byte.

@@ -1,8 +1,0 @@
--- The words of `Cut` as they were; nothing new is to cite this module.
-use Rattle.std.specs.Prelude.{ℕ, List, Option}
-pub use Rattle.line_io.specs.Cut.{CutterState, TellsOf}
-use Rattle.line_io.specs.Cut.{held_of}
-
--- what a cutter holds of the line that has begun
-abbrev pub kept : List ℕ → Option (List ℕ)
-kept begun = held_of begun
