@@ -1,0 +1,3 @@
+pub mod CostLemmas
+pub mod SumLemmas
+pub mod TextLemmas

@@ -1,0 +1,7 @@
+//! The text of a session's replies has numbers in it: how many hits were given, and what `cost` told. Reading it back gives their
+//! sums.
+#![tactic(auto)]
+
+mod sums;
+
+pub use sums::Sums;
