@@ -44,6 +44,12 @@ def chains(chance, number, bits=BITS):
     return codes
 
 
+def skewed(chance, number, bits=BITS):
+    """Codes each bit of which is 1 with a chance of its own, from 1 in 64 to 1 in 2."""
+    shares = [1 / 64 + (1 / 2 - 1 / 64) * bit / (bits - 1) for bit in range(bits)]
+    return [sum((chance.random() < share) << bit for bit, share in enumerate(shares)) for _ in range(number)]
+
+
 def scanner():
     """The plain scan in C++, built where a compiler is there; else none."""
     compiler = shutil.which("g++")
@@ -56,14 +62,32 @@ def scanner():
     return built
 
 
-def scan(built, codes, queries, radius, bits=BITS):
-    """The microseconds and the hits that the scan takes for each of the queries within a radius, or none where it wasn't built."""
+def scan(built, codes, queries, radius, bits=BITS, nearest=0):
+    """The microseconds and the hits that the scan takes for each of the queries within a radius, of which it keeps so many of the
+    nearest (0: all); or none where it wasn't built."""
     if not built:
         return None
     words = (bits + 63) // 64
     packed = b"".join((code << (64 * words - bits)).to_bytes(8 * words, "big") for code in [*codes, *queries])
-    told = subprocess.run([built, str(words), str(len(codes)), str(len(queries)), str(radius)], input=packed, stdout=subprocess.PIPE, check=True)
+    asked = map(str, (words, len(codes), len(queries), radius, nearest))
+    told = subprocess.run([built, *asked], input=packed, stdout=subprocess.PIPE, check=True)
     return [(float(one), int(other)) for one, other in (line.split() for line in told.stdout.splitlines())]
+
+
+def lines(number):
+    """Reads so many lines in blocks; the bytes."""
+
+    def read(output):
+        seen, parts = 0, []
+        while seen < number:
+            block = output.read1(1 << 16)
+            if not block:
+                sys.exit(f"the output ended after {seen} lines")
+            parts.append(block)
+            seen += block.count(b"\n")
+        return b"".join(parts)
+
+    return read
 
 
 class Session:

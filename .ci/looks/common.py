@@ -25,7 +25,7 @@ def text_of(path):
 def files(top, *ends):
     """The files below a folder whose names end so, without those that rt and git keep."""
     for at, folders, names in os.walk(top):
-        folders[:] = sorted(it for it in folders if it not in (".git", "__pycache__") and not re.search(r"crates/[^/]*/out$", f"{at}/{it}"))
+        folders[:] = sorted(it for it in folders if it not in (".git", "__pycache__") and not re.search(r"(crates/[^/]*|bench|examples)/out$", f"{at}/{it}"))
         for name in sorted(names):
             if name.endswith(ends):
                 yield os.path.join(at, name)

@@ -1,4 +1,4 @@
-ghost use Rattle.std.specs.Prelude.{◌≡◌, ℕ, ◌+◌, ◌^◌, ◌<◌, ◌≤◌, true, is_ok, IfOk, negsuc, ◌≤ℤ◌, replicate};
+ghost use Rattle.std.specs.Prelude.{◌≡◌, ℕ, ◌+◌, ◌^◌, ◌<◌, ◌≤◌, true, is_ok, IfOk, negsuc, ◌≤ℤ◌, replicate, length, sum};
 ghost use Rattle.ball_walk.specs.Balls.{radius_units};
 ghost use Rattle.hamming_model.specs.declared.limits.TheConstants.{ENTRIES_MOST, PART_WIDTH_MOST};
 ghost use Rattle.count_table.specs.Copies.{empty_table, copies_at, total_of, with_one, without_one, count_near, AreLevels};
@@ -100,6 +100,15 @@ impl Counts {
         self.copies[at] -= 1;
         self.total -= 1;
         Ok(())
+    }
+
+    /// How many copies each value has, by value.
+    pub fn copies(&self) -> &[u32]
+        ensures copies { result.now ≡ self.now.copies }
+        ensures number { length result.now ≡ 2 ^ self.now.width }
+        ensures few { sum result.now ≤ ENTRIES_MOST }
+    {
+        self.copies.as_slice()
     }
 
     /// How many copies there are.

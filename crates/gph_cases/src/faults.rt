@@ -3,7 +3,7 @@
 ghost use Rattle.std.specs.Thread.{IsSync};
 
 use crate::trial::{Ends, Postings, Upkeep, compare, list_of};
-use gph_session::{Outcome, run};
+use gph_serve::{Outcome, run};
 use line_io::{SteadySink, SteadySource};
 use read_meter::{Meters, Steps, upkeep};
 use scatter_gather::NoGate;

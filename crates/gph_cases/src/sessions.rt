@@ -1,7 +1,7 @@
 //! Sessions from their bytes to their replies.
 
 use crate::trial::compare_pieces;
-use gph_session::Outcome;
+use gph_serve::Outcome;
 use std::test::Fail;
 
 // What a session is about, its words, its input and its output. Rows 1 to 4 of most are at 0, 4, 8 and 1 bits from 00.

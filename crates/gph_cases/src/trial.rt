@@ -2,7 +2,7 @@
 
 ghost use Rattle.std.specs.Thread.{IsSync};
 
-use gph_session::{Outcome, run};
+use gph_serve::{Outcome, run};
 use line_io::{MemorySink, MemorySource};
 use read_meter::{Meters, Steps, upkeep};
 use scatter_gather::NoGate;

@@ -1,7 +1,7 @@
 //! The words of the command line, and what they ask of a session.
 
 use crate::trial::{Ends, compare, compare_pieces};
-use gph_session::Outcome;
+use gph_serve::Outcome;
 use std::test::Fail;
 
 // An input that comes in one piece, and no fault.

@@ -2,7 +2,7 @@
 //! the status and one line on standard error how that ended.
 #![tactic(auto)]
 
-use gph_session::{Outcome, run};
+use gph_serve::{Outcome, run};
 use line_io::{Gathered, GatheredReader, GatheredWriter};
 use read_meter::{Meters, upkeep};
 use scatter_gather::NoGate;

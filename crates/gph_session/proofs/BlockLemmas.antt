@@ -17,11 +17,13 @@ use Rattle.part_layout.specs.declared.config.Config.{Config}
 use Rattle.query_protocol.specs.Replies.{text}
 use Rattle.session_model.specs.State.{State}
 use Rattle.session_model.specs.Run.{before_quit}
-use Rattle.gph_session.specs.declared.turn.Turn.{Turn}
-use Rattle.gph_session.specs.declared.turn.Turn.TheVariants.{Goes, Quits}
-use Rattle.gph_session.specs.Moments.{Moment}
-use Rattle.gph_session.specs.Flow.{Start, Stands, GoesOn, HasServed, HasEnded, WasRefused}
-use Rattle.gph_session.specs.Flow.{FlowIs, FlowsOn, TurnIs, EndIs, AnswersAs, history_after}
+use Rattle.session_step.specs.declared.turn.Turn.{Turn}
+use Rattle.session_step.specs.declared.turn.Turn.TheVariants.{Goes, Quits}
+use Rattle.session_step.specs.Moments.{Moment}
+use Rattle.gph_session.specs.Flow.{Start, GoesOn, HasServed, HasEnded, WasRefused}
+use Rattle.session_step.specs.Answering.{Stands}
+use Rattle.gph_session.specs.Flow.{FlowIs, FlowsOn, EndIs, history_after}
+use Rattle.session_step.specs.Answering.{TurnIs, AnswersAs}
 use Rattle.gph_session.proofs.FlowLemmas.{served_so_far, all_before_quit, goes_line, served_last, stands_here}
 use Rattle.gph_session.proofs.FlowLemmas.{refused_line, ended_line, goes_bytes, refused_more, ended_more}
 

@@ -25,14 +25,17 @@ use Rattle.session_model.specs.Run.{Run, IsAlone, IsServedAlone, entries_by, is_
 use Rattle.session_model.specs.Run.{commit_of, commits, lines_of, asks_quit, before_quit, has_quit}
 use Rattle.session_model.proofs.RunLemmas.{run_more, commits_more, written_more, own_commits}
 use Rattle.session_model.proofs.RunLemmas.{before_answered, quit_answered, before_more, quit_more}
-use Rattle.gph_session.specs.declared.turn.Turn.{Turn}
-use Rattle.gph_session.specs.declared.turn.Turn.TheVariants.{Goes}
-use Rattle.gph_session.specs.Sessions.{IsServed, KeepsDesk, state_of, pins_of}
-use Rattle.gph_session.specs.Moments.{Moment, ReadsTo, Spends}
-use Rattle.gph_session.specs.Meaning.{Means, IsSettled, AllKeep}
-use Rattle.gph_session.specs.Flow.{OneLine, Start, HasRun, GoesOn, HasServed, HasEnded, WasRefused}
-use Rattle.gph_session.specs.Flow.{Stands, requests_with, history_after}
-use Rattle.gph_session.proofs.MomentLemmas.{reads_then, spends_then, vain_more, as_long}
+use Rattle.session_step.specs.declared.turn.Turn.{Turn}
+use Rattle.session_step.specs.declared.turn.Turn.TheVariants.{Goes}
+use Rattle.gph_session.specs.Sessions.{IsServed, state_of}
+use Rattle.session_step.specs.KeptDesk.{KeepsDesk, pins_of}
+use Rattle.session_step.specs.Moments.{Moment, ReadsTo, Spends}
+use Rattle.session_step.specs.Meaning.{Means, IsSettled, AllKeep}
+use Rattle.session_step.specs.Answering.{OneLine}
+use Rattle.gph_session.specs.Flow.{Start, HasRun, GoesOn, HasServed, HasEnded, WasRefused}
+use Rattle.session_step.specs.Answering.{Stands, requests_with}
+use Rattle.gph_session.specs.Flow.{history_after}
+use Rattle.session_step.proofs.MomentLemmas.{reads_then, spends_then, vain_more, as_long}
 
 -- ---- what a state's queries have read
 

@@ -1,16 +1,4 @@
-pub mod MomentLemmas
 pub mod FlowLemmas
 pub mod BlockLemmas
 pub mod ServeLemmas
-pub mod Here
-pub mod QueryLemmas
-pub mod BoundLemmas
-pub mod NextLemmas
-pub mod AskLemmas
-pub mod CommitLemmas
-pub mod LookLemmas
-pub mod RangeLemmas
-pub mod FrameLemmas
-pub mod TurnLemmas
-pub mod TopLemmas
-pub mod OpeningLemmas
+pub mod BegunLemmas

@@ -18,10 +18,10 @@ use Rattle.session_model.specs.Run.{AnswersLines, has_quit}
 use Rattle.session_model.specs.Outcomes.{Ends, EndsWith, Transfers, before_last}
 use Rattle.session_model.specs.Outcomes.{IsDone, IsReadFault, IsWriteFault, IsInputLimit}
 use Rattle.session_model.proofs.RunLemmas.{before_more, no_quit_in_front}
-use Rattle.gph_session.specs.declared.turn.Turn.{Turn}
-use Rattle.gph_session.specs.declared.turn.Turn.TheVariants.{Goes, Quits}
+use Rattle.session_step.specs.declared.turn.Turn.{Turn}
+use Rattle.session_step.specs.declared.turn.Turn.TheVariants.{Goes, Quits}
 use Rattle.gph_session.specs.Sessions.{IsServed}
-use Rattle.gph_session.specs.Moments.{Moment}
+use Rattle.session_step.specs.Moments.{Moment}
 use Rattle.gph_session.specs.Flow.{Start, GoesOn, FlowIs, FlowsOn, EndIs, EndsOn}
 use Rattle.gph_session.specs.Flow.{HasEnded, HasServed, WasRefused}
 use Rattle.gph_session.specs.Serving.{Serves}

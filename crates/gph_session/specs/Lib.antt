@@ -1,8 +1,3 @@
-pub mod Cursors
 pub mod Sessions
-pub mod Moments
-pub mod Meaning
-pub mod Commits
-pub mod Opening
 pub mod Flow
 pub mod Serving

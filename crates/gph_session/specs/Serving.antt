@@ -5,17 +5,13 @@ use Rattle.std.specs.Io.KnownBytes.{Appends, Consumes}
 use Rattle.part_layout.specs.declared.config.Config.{Config}
 use Rattle.session_desk.specs.Desks.{DeskState}
 use Rattle.session_model.specs.Ledger.{Ledgers}
-use Rattle.session_model.specs.Run.{IsRunAlone}
 use Rattle.session_model.specs.Outcomes.{Ends, EndsWith, Untouched}
 use Rattle.session_model.specs.Outcomes.{IsDone, IsReadFault, IsWriteFault, IsInputLimit}
-use Rattle.session_model.specs.declared.outcome.Outcome.{Outcome}
-use Rattle.session_model.specs.declared.outcome.Outcome.TheVariants as outcome
-use Rattle.gph_session.specs.declared.report.Report.{Report}
 use Rattle.gph_session.specs.declared.report.Status.{Status}
 use Rattle.gph_session.specs.declared.report.Status.TheVariants.{Done, ReadFault, WriteFault}
 use Rattle.gph_session.specs.declared.report.Status.TheVariants.{NoMemory, InputLimit}
 use Rattle.gph_session.specs.Sessions.{IsServed}
-use Rattle.gph_session.specs.Moments.{Moment}
+use Rattle.session_step.specs.Moments.{Moment}
 use Rattle.gph_session.specs.Flow.{GoesOn, Start}
 
 -- so many bytes were read and all whole lines of them answered, and no fault rose
@@ -58,12 +54,3 @@ EndsOrDidNothing WriteFault config desk desk' requests position =
     EndsAs WriteFault config desk desk' requests position
 EndsOrDidNothing InputLimit config desk desk' requests position =
     EndsAs InputLimit config desk desk' requests position
-
--- the same of a whole call
-abbrev pub ServedAs : Outcome → Config → Ends → Ends → Ends → Ends → Ledgers → Ledgers → Type 0
-ServedAs outcome.Done config = EndsWith (IsDone IsRunAlone config)
-ServedAs outcome.ReadFault config = EndsWith (IsReadFault IsRunAlone config)
-ServedAs outcome.WriteFault config = EndsWith (IsWriteFault IsRunAlone config)
-ServedAs outcome.InputLimit config = EndsWith (IsInputLimit IsRunAlone config)
-ServedAs (outcome.Usage word) config = λ source source' sink sink' old new. ⊥
-ServedAs outcome.NoMemory config = Untouched

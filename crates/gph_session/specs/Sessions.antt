@@ -1,35 +1,16 @@
 -- A session over a desk: the state in which it begins, and what it leaves.
-use Rattle.std.specs.Prelude.{◌≡◌, ℕ, min, List, ◌++◌, length, map}
-use Rattle.hamming_model.specs.History.{JournalEntry}
+use Rattle.std.specs.Prelude.{◌≡◌, ℕ, min, List, ◌++◌, length}
 use Rattle.part_layout.specs.declared.config.Config.{Config}
-use Rattle.session_desk.specs.Desks.{DeskState, pin_position, seen_history}
+use Rattle.session_desk.specs.Desks.{DeskState, seen_history}
+use Rattle.session_step.specs.KeptDesk.{KeepsDesk, layouts_of, pins_of}
 use Rattle.session_model.specs.State.{State, new_session}
 use Rattle.session_model.specs.Entries.{Exchange}
 use Rattle.session_model.specs.Ledger.{Rise}
 use Rattle.session_model.specs.Run.{IsServedAlone, commits, requests_of}
 
--- the layouts of the shards of a desk that is alone
-abbrev pub layouts_of : DeskState → List (List (List ℕ))
-layouts_of desk = map (λ place. place.1.parts) desk.places
-
--- the position of the last pin of each shard, 0 where there was none
-abbrev pub pins_of : DeskState → List ℕ
-pins_of desk = map pin_position desk.pins
-
 -- the state in which a session over a desk that is alone begins
 abbrev pub state_of : DeskState → State
 state_of desk = new_session desk.who (length desk.seen) (layouts_of desk)
-
--- what a session that builds nothing leaves of a desk as it was
-pub record KeepsDesk (old new : DeskState) : Type 0 where
-  pub board : new.board ≡ old.board
-  pub who : new.who ≡ old.who
-  pub config : new.config ≡ old.config
-  pub fronts : new.fronts ≡ old.fronts
-  pub done : new.done ≡ old.done
-  pub late : new.late ≡ old.late
-  pub alone : new.alone ≡ old.alone
-  pub layouts : layouts_of new ≡ layouts_of old
 
 -- the exchanges are those of a session over a desk that is alone, which leaves it having seen what it
 -- committed, and which reports so many requests and this position

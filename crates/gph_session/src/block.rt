@@ -3,18 +3,16 @@
 ghost use Rattle.std.specs.Prelude.{◌≡◌, ◌<◌, ◌≤◌, length, take, true};
 ghost use Rattle.std.specs.Thread.{IsSync};
 ghost use Rattle.open_queries.specs.Writing.{IsCaused};
-ghost use Rattle.gph_session.specs.Meaning.{IsReady, HaveShards};
+ghost use Rattle.session_step.specs.Meaning.{IsReady, HaveShards};
 ghost use Rattle.gph_session.specs.Flow.{FlowsOn, EndsOn};
-ghost use Rattle.gph_session.specs.Moments.{moment_of};
+ghost use Rattle.session_step.specs.Moments.{moment_of};
 
-use crate::answer::answer;
-use crate::open_session::Session;
-use crate::turn::Turn;
 use line_io::{Failed, Sink};
 use part_layout::Config;
 use read_meter::{Meters, Steps};
 use scatter_gather::Gate;
 use session_desk::Desk;
+use session_step::{Session, Turn, answer};
 use std::alloc::Global;
 use std::thread::Threads;
 

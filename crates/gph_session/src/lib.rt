@@ -1,21 +1,12 @@
-//! A session is the list of its lines, each with its replies, in one history of entries. What `session` writes over a desk, and
-//! `run` over a desk of its own, is the text of the replies of such a session over the lines that it read, however it ended; what
-//! its queries read is counted on a ledger for each shard, and what its shards follow on the ledger of upkeep.
+//! A session is the list of its lines, each with its replies, in one history of entries. What `session` writes over a desk is the
+//! text of the replies of such a session over the lines that it read, however it ended; what its queries read is counted on a
+//! ledger for each shard, and what its shards follow on the ledger of upkeep.
 #![tactic(auto)]
 
-mod answer;
-mod asking;
 mod block;
-mod commits;
-mod open_session;
-mod opening;
 mod report;
 mod serve;
 mod session_call;
-mod top;
-mod turn;
 
 pub use report::{Report, Status};
 pub use session_call::session;
-pub use session_model::Outcome;
-pub use top::run;

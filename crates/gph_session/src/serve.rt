@@ -5,21 +5,20 @@ ghost use Rattle.std.specs.Thread.{IsSync};
 ghost use Rattle.session_model.specs.declared.limits.TheConstants.{BLOCK_MOST};
 ghost use Rattle.session_model.specs.Ledger.{ledgers};
 ghost use Rattle.session_model.specs.Outcomes.{ends};
-ghost use Rattle.gph_session.specs.Meaning.{IsReady, HaveShards};
+ghost use Rattle.session_step.specs.Meaning.{IsReady, HaveShards};
 ghost use Rattle.gph_session.specs.Flow.{HasBegunWith};
-ghost use Rattle.gph_session.specs.Moments.{moment_of};
+ghost use Rattle.session_step.specs.Moments.{moment_of};
 ghost use Rattle.gph_session.specs.Serving.{EndsAs};
 
 use crate::block::{answer_block, answer_end};
-use crate::open_session::Session;
 use crate::report::Status;
-use crate::turn::Turn;
 use line_io::{Failed, Sink, Source};
 use part_layout::Config;
 use read_meter::{Meters, Steps};
 use scatter_gather::Gate;
 use session_desk::Desk;
 use session_model::BLOCK_MOST;
+use session_step::{Session, Turn};
 use std::alloc::Global;
 use std::thread::Threads;
 

@@ -8,7 +8,6 @@ ghost use Rattle.session_model.specs.Outcomes.{IsInputLimit, EndsWith, ends};
 ghost use Rattle.gph_session.specs.Sessions.{IsServed};
 ghost use Rattle.gph_session.specs.Serving.{EndsOrDidNothing};
 
-use crate::open_session::new_session;
 use crate::report::{Report, Status};
 use crate::serve::serve;
 use line_io::{Sink, Source};
@@ -17,6 +16,7 @@ use read_meter::{Meters, NoMemory, Steps};
 use scatter_gather::Gate;
 use session_desk::Desk;
 use session_model::BLOCK_MOST;
+use session_step::new_session;
 use std::alloc::Global;
 use std::thread::Threads;
 

@@ -1,5 +1,5 @@
 -- Rows and histories whose codes are changed one by one.
-use Rattle.std.proofs.Common.{◌≡◌, ◌↔◌, ℕ, ◌*◌, ◌-◌, ◌<◌, ◌%◌, ◌==◌, Bool, true, false, cond, List, [], ◌∷◌, length, get_or, take, refl, sym, ap, subst, ◌∙◌, arith}
+use Rattle.std.proofs.Common.{◌≡◌, ◌↔◌, ℕ, zero, suc, ◌++◌, ◌*◌, ◌-◌, ◌<◌, ◌%◌, ◌==◌, Bool, true, false, cond, List, [], ◌∷◌, length, get_or, take, refl, sym, ap, subst, ◌∙◌, arith}
 use Rattle.std.specs.Prelude.{Option, None, Some, is_some, nat_le, option_map, replicate}
 use Rattle.std.specs.declared.cmp.Ordering.{Ordering}
 use Rattle.std.specs.declared.cmp.Ordering.TheVariants.{Less, Equal, Greater}
@@ -9,7 +9,7 @@ use Rattle.std.specs.Map.{remove_entry}
 use Rattle.std.proofs.lemmas.List.{get_or-map, length-map, take-map}
 use Rattle.std.proofs.Math.Seq.{take-append_seam}
 use Rattle.hamming_model.specs.Codes.{padded}
-use Rattle.hamming_model.specs.History.{Operation, JournalEntry, Add, Delete, Fits, IsLegal, changed, code_at, decide, decision_on, rows_from, rows_of, shard_rows}
+use Rattle.hamming_model.specs.History.{Operation, JournalEntry, Decision, Add, Delete, Fits, IsLegal, after_decision, is_accepted, changed, code_at, decide, decision_on, rows_from, rows_of, shard_rows}
 use Rattle.hamming_model.specs.History as journal
 use Rattle.hamming_model.specs.Recoded.{AreStoredEntries, IsStoredOperation, cut_history, recoded_entry, recoded_history, recoded_operation, recoded_rows}
 use Rattle.hamming_model.specs.Stored.{AddsCode, AreCodes}
@@ -224,3 +224,26 @@ cut_again bits positions (entry ∷ history) codes =
     (cut_of_padded bits positions entry.operation codes.0) in
     ap (λ (one : JournalEntry). one ∷ cut_history bits (recoded_history (padded positions) history)) here
     ∙ ap (λ (more : List JournalEntry). entry ∷ more) (cut_again bits positions history codes.1)
+
+-- what words keep of the first entries is kept as that of all
+pub stored_first : (words bits position : ℕ) (history : List JournalEntry) → AreStoredEntries words bits history
+    → AreStoredEntries words bits (take position history)
+stored_first words bits zero history all = tt
+stored_first words bits (suc position) [] all = tt
+stored_first words bits (suc position) (entry ∷ history) all = (all.0, stored_first words bits position history all.1)
+
+stored_more : (words bits : ℕ) (history : List JournalEntry) (entry : JournalEntry) → AreStoredEntries words bits history
+    → IsStoredOperation words bits entry.operation → AreStoredEntries words bits (history ++ entry ∷ [])
+stored_more words bits [] entry all one = (one, tt)
+stored_more words bits (first ∷ history) entry all one = (all.0, stored_more words bits history entry all.1 one)
+
+stored_if : (words bits : ℕ) (history : List JournalEntry) (entry : JournalEntry) (accepted : Bool) → AreStoredEntries words bits history
+    → IsStoredOperation words bits entry.operation → AreStoredEntries words bits (cond accepted (history ++ entry ∷ []) history)
+stored_if words bits history entry true all one = stored_more words bits history entry all one
+stored_if words bits history entry false all one = all
+
+-- and so is that of the history after a decision
+pub stored_decided : (words bits : ℕ) (history : List JournalEntry) (entry : JournalEntry) (decision : Decision)
+    → AreStoredEntries words bits history → IsStoredOperation words bits entry.operation
+    → AreStoredEntries words bits (after_decision history entry decision)
+stored_decided words bits history entry decision = stored_if words bits history entry (is_accepted decision)

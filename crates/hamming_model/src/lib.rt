@@ -21,6 +21,7 @@ pub use limits::{
 pub use plain::plain_scan;
 pub use recoded_laws::{
     recoded_histories_are_alike, recoded_rows_are_alike, stored_histories_are_cut,
+    stored_histories_grow,
 };
 pub use row::Row;
 pub use row_laws::{rows_follow_the_history, stored_rows_scan_alike};

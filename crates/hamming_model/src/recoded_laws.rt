@@ -1,8 +1,9 @@
 ghost use Rattle.std.specs.Prelude.{◌≡◌, ◌↔◌, ◌≤◌, ℕ, ◌*◌, List, take, option_map};
 ghost use Rattle.hamming_model.specs.Codes.{padded};
 ghost use Rattle.hamming_model.specs.History.{Operation, JournalEntry, Fits, IsLegal};
-ghost use Rattle.hamming_model.specs.History.{changed, code_at, decision_on, rows_of, shard_rows};
-ghost use Rattle.hamming_model.specs.Recoded.{AreStoredEntries, cut_history, recoded_history};
+ghost use Rattle.hamming_model.specs.History.{after_decision, changed, code_at, decision_on, rows_of};
+ghost use Rattle.hamming_model.specs.History.{Decision, shard_rows};
+ghost use Rattle.hamming_model.specs.Recoded.{AreStoredEntries, IsStoredOperation, cut_history, recoded_history};
 ghost use Rattle.hamming_model.specs.Recoded.{recoded_operation, recoded_rows};
 ghost use Rattle.hamming_model.specs.Stored.{AreCodes};
 
@@ -49,4 +50,15 @@ pub fn stored_histories_are_cut()
     ensures cut { (bits positions : ℕ) (history : List JournalEntry) →
         AreCodes bits history →
         cut_history bits (recoded_history (padded positions) history) ≡ history }
+{}
+
+/// Law: where words keep each code of a history, they keep those of its first entries, and of the history after any
+/// decision on an entry whose code they keep.
+pub fn stored_histories_grow()
+    ensures first { (words bits position : ℕ) (history : List JournalEntry) →
+        AreStoredEntries words bits history → AreStoredEntries words bits (take position history) }
+    ensures decided { (words bits : ℕ) (history : List JournalEntry) (entry : JournalEntry)
+        (decision : Decision) →
+        AreStoredEntries words bits history → IsStoredOperation words bits entry.operation →
+        AreStoredEntries words bits (after_decision history entry decision) }
 {}

@@ -1,4 +1,5 @@
--- Lists that stand beside what is tested: the items of a table of copies, and the distances of codes at parts.
+-- Lists that stand beside what is tested: the items of a table of copies, and the distances of codes
+-- at parts.
 use Rattle.std.specs.Prelude.{◌≡◌, ℕ, ◌≤◌, ◌<◌, nat_lt, List, [], count_by, slice_index_or}
 use Rattle.count_table.specs.Copies.{CopyTable, table_of}
 

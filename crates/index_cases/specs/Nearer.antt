@@ -13,7 +13,8 @@ one_rises d fewer more le = grind (arith, nat_tests)
 
 starts : (distances : List ℕ) → nearer distances 0 ≡ 0
 starts [] = refl
-starts (d ∷ rest) = omega (arith, none_below d, sum_by-cons (λ d. cond (ltb d 0) 1 0) d rest, starts rest)
+starts (d ∷ rest) =
+    omega (arith, none_below d, sum_by-cons (λ d. cond (ltb d 0) 1 0) d rest, starts rest)
 
 rises : (distances : List ℕ) → NeverFalls (nearer distances)
 rises [] fewer more le = omega arith

@@ -17,8 +17,8 @@ fn reached(distances: &[u32; 8], units: u32) -> u32
     ensures few { result ≤ 8 }
 {
     let mut count = 0;
-    for i in 0..8usize {
-        if distances[i] < units {
+    for place in 0..8usize {
+        if distances[place] < units {
             count += 1;
         }
     }

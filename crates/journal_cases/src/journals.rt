@@ -110,10 +110,10 @@ fn a_front_keeps_its_entries(rt: HostRuntime) -> Result<(), Fail> {
     let whole = open(&rt, &mut journal, 800, &[300]);
     let mut steps: Steps<Reads> = upkeep(&rt);
     for front in [&front, &whole] {
-        for i in [0, 255, 256, 299] {
+        for place in [0, 255, 256, 299] {
             assert!(rt; front.position() >= 300);
-            let entry = front.entry(i, &mut steps);
-            assert!(rt; entry.op.key() == i + 1);
+            let entry = front.entry(place, &mut steps);
+            assert!(rt; entry.op.key() == place + 1);
         }
     }
     Ok(())

@@ -9,6 +9,7 @@ ghost use Rattle.versioned_shard.specs.Shards.{contents_at, shard_with};
 use commit_journal::{Journal, live_fronts_come_and_go};
 use entry_log::{Decision, Op};
 use gph_codes::Code;
+use hamming_model::stored_histories_grow;
 use part_layout::Layout;
 use read_meter::{NoMemory, Steps, upkeep};
 use search_model::stored_rows_search_alike;
@@ -88,6 +89,7 @@ fn add(journal: &mut Journal<1>, shard: &Shard<1>, key: u64, text: &[u8]) -> boo
     ensures codes { AreStoredEntries 1 8 journal.new.history }
 {
     journals_keep_the_rule();
+    stored_histories_grow();
     stored_rows_search_alike();
     let Ok(code) = Code::from_hex(8, text) else {
         return false;

@@ -1,2 +1,3 @@
 pub mod BucketLemmas
+pub mod ListsLemmas
 pub mod PostingsLemmas

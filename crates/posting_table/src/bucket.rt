@@ -1,9 +1,11 @@
 //! Some of the posting lists of a part, which tables may share.
 
-ghost use Rattle.std.specs.Prelude.{◌≡◌, ℕ, ◌<◌, [], length, replicate, slice_set, IfOk, OnOk, OnErr};
+ghost use Rattle.std.specs.Prelude.{◌≡◌, ℕ, ◌+◌, ◌*◌, ◌<◌, [], length, replicate, slice_set, IfOk, OnOk, OnErr};
+ghost use Rattle.posting_table.specs.KeptLists.{held_by, lists_of_rest};
 ghost use Rattle.posting_table.specs.Tables.{FindsKey};
 ghost use Rattle.posting_table.specs.Shared.{LosesAt, list_at, with_last};
 
+use crate::postings::BUCKETS;
 use gph_codes::Code;
 use read_meter::NoMemory;
 use std::alloc::{AllocError, Global};
@@ -59,6 +61,31 @@ impl<const W: usize> Bucket<W> {
             alloc: self.alloc,
             lists: copies,
         })
+    }
+
+    // Copies of so many lists, of the values that have one rest.
+    pub(crate) fn of_rest(
+        alloc: Global,
+        all: &[Vec<(u64, Code<W>)>],
+        rest: usize,
+        number: usize,
+    ) -> Result<Bucket<W>, NoMemory>
+        requires { (round : ℕ) → round < number → round * BUCKETS + rest < length all.now }
+        ensures { IfOk result (λ bucket. bucket ≡ lists_of_rest (held_by all.now) rest number) }
+    {
+        let Ok(mut lists) = Vec::with_capacity(alloc, number) else {
+            return Err(NoMemory);
+        };
+        for round in 0..number {
+            let own = &all[round * BUCKETS + rest];
+            let Ok(copied) = Vec::from_slice(alloc, own.as_slice()) else {
+                return Err(NoMemory);
+            };
+            let Ok(()) = lists.push(copied) else {
+                return Err(NoMemory);
+            };
+        }
+        Ok(Bucket { alloc, lists })
     }
 
     // How many entries a list has.

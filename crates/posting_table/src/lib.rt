@@ -4,6 +4,10 @@
 
 mod bucket;
 mod changes;
+mod lists;
+mod no_memory_for;
 mod postings;
 
+pub use lists::Lists;
+pub use no_memory_for::NoMemoryFor;
 pub use postings::Postings;

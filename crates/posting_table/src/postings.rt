@@ -2,6 +2,7 @@
 
 ghost use Rattle.std.specs.Prelude.{◌≡◌, ◌+◌, ◌^◌, ◌<◌, ◌≤◌, true, false, length, slice_index_or, IfOk, OnOk, OnErr, Ok};
 ghost use Rattle.hamming_model.specs.declared.limits.TheConstants.{ENTRIES_MOST, PART_WIDTH_MOST};
+ghost use Rattle.posting_table.specs.KeptLists.{AreKeptLists, reserved_of};
 ghost use Rattle.posting_table.specs.Tables.{LosesEntry, no_postings, has_key, posting_list, with_posting, with_list};
 
 use crate::bucket::Bucket;
@@ -58,6 +59,40 @@ impl<const W: usize> Postings<W> {
         };
         for _i in 0..number {
             let bucket = Bucket::new(alloc, (values + BUCKETS - 1) / BUCKETS)?;
+            let Ok(shared) = Arc::new(alloc, bucket) else {
+                return Err(NoMemory);
+            };
+            let Ok(()) = buckets.push(shared) else {
+                return Err(NoMemory);
+            };
+        }
+        Ok(Postings {
+            alloc,
+            width,
+            buckets,
+        })
+    }
+
+    // A table of copies of the lists of all values.
+    pub(crate) fn of_lists(
+        alloc: Global,
+        width: u32,
+        lists: &[Vec<(u64, Code<W>)>],
+    ) -> Result<Postings<W>, NoMemory>
+        requires { AreKeptLists width lists.now }
+        ensures { IfOk result (λ table. table ≡ (reserved_of width lists.now).table) }
+    {
+        let number = lists.len().min(BUCKETS);
+        let Ok(mut buckets) = Vec::with_capacity(alloc, number) else {
+            return Err(NoMemory);
+        };
+        for rest in 0..number {
+            let bucket = Bucket::of_rest(
+                alloc,
+                lists,
+                rest,
+                (lists.len() + BUCKETS - 1) / BUCKETS,
+            )?;
             let Ok(shared) = Arc::new(alloc, bucket) else {
                 return Err(NoMemory);
             };

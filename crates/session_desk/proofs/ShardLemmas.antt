@@ -7,6 +7,7 @@ use Rattle.std.specs.List.{AllByRecursion, IsAmong}
 use Rattle.std.proofs.lemmas.Bool.{cases_eq, ltb-true, ltb-false}
 use Rattle.std.proofs.lemmas.List.{length-map, length-take}
 use Rattle.hamming_model.specs.History.{JournalEntry, rows_of, shard_rows}
+use Rattle.hamming_model.proofs.RecodedLemmas.{stored_first}
 use Rattle.hamming_model.specs.Recoded.{AreStoredEntries, cut_entry, cut_history}
 use Rattle.shard_version.specs.Contents.{Contents, IsVersion}
 use Rattle.commit_journal.specs.Fronts.{FrontState, position_of}
@@ -16,14 +17,7 @@ use Rattle.versioned_shard.specs.Rule.{IsKeptVersion, KeepsJournalRule}
 use Rattle.versioned_shard.specs.Shards.{IsOneOf, MayStandIn, ShardState, advanced, further, with_layout}
 use Rattle.session_desk.specs.Solos.{ComesTo, GivesVersion, IsSwapped}
 
--- the codes of the first entries are kept as those of all
-stored_first : (words bits position : ℕ) (history : List JournalEntry) → AreStoredEntries words bits history
-    → AreStoredEntries words bits (take position history)
-stored_first words bits zero history all = tt
-stored_first words bits (suc position) [] all = tt
-stored_first words bits (suc position) (entry ∷ history) all = (all.0, stored_first words bits position history all.1)
-
--- and so are those of a front that is known
+-- the codes of a front that is known are kept as those of the journal
 pub stored_front : (words bits : ℕ) (journal : JournalState) (front : FrontState) → KnowsFront journal front → AreStoredEntries words bits journal.history
     → AreStoredEntries words bits front.entries
 stored_front words bits journal front known all =

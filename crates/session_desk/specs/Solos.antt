@@ -148,7 +148,8 @@ pub record IsSwapped (journal : JournalState) (old new : ShardState) : Type 0 wh
 
 -- the shard of a number before the first entry
 abbrev pub first_shard_of : Config → ℕ → ShardState
-first_shard_of config number = shard_with (empty_of number config.shards (starting_layout config)) []
+first_shard_of config number =
+    shard_with (empty_of number config.shards (starting_layout config)) []
 
 -- the first so many shards before the first entry, none of them pinned
 pub record AreFirstShards (config : Config) (shards : List ShardState) (pins : List (Option Pin))

@@ -55,14 +55,16 @@ Adds config history key code s e t =
     CommitsOperation config history (journal.Add key code) Added (reply.Added key e.position) s e t
 
 -- a refused add: the key is taken
-abbrev pub RefusesTaken : Config → List JournalEntry → ℕ → List ℕ → State → Exchange → State → Type 0
+abbrev pub RefusesTaken
+    : Config → List JournalEntry → ℕ → List ℕ → State → Exchange → State → Type 0
 RefusesTaken config history key code s e t =
     Declines config history (journal.Add key code) Taken (reply.Taken key e.position) s e t
 
 -- an accepted deletion
 abbrev pub Deletes : Config → List JournalEntry → ℕ → State → Exchange → State → Type 0
 Deletes config history key s e t =
-    CommitsOperation config history (journal.Delete key) Deleted (reply.Deleted key e.position) s e t
+    CommitsOperation config history (journal.Delete key) Deleted (reply.Deleted key e.position)
+    s e t
 
 -- a refused deletion: no row has the key
 abbrev pub RefusesAbsent : Config → List JournalEntry → ℕ → State → Exchange → State → Type 0

@@ -3,8 +3,8 @@ use Rattle.std.specs.Prelude.{◌≡◌, true, List, [], ◌∷◌}
 use Rattle.session_model.specs.State.{Query}
 use Rattle.session_model.specs.QuerySteps.{ReadsOn}
 
--- a query later on: the same question on the same rows and layouts, with no fewer postings read, and
--- no more where it was done
+-- a query later on: the same question on the same rows and layouts, with no fewer postings read,
+-- and no more where it was done
 pub record IsLater (before after : Query) : Type 0 where
   pub tag : after.tag ≡ before.tag
   pub position : after.position ≡ before.position

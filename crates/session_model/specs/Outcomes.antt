@@ -1,5 +1,5 @@
 -- What a whole call has read and written, for each way in which it ends.
-use Rattle.std.specs.Prelude.{◌≡◌, ℕ, ◌-◌, ◌≤◌, ◌⊎◌, Bool, true, false, Some, Result, Ok}
+use Rattle.std.specs.Prelude.{◌≡◌, ℕ, ◌-◌, ◌≤◌, ◌⊎◌, Bool, true, false}
 use Rattle.std.specs.Prelude.{List, [], ◌∷◌, ◌++◌, length, take}
 use Rattle.std.specs.declared.option.Option.{Option}
 use Rattle.std.specs.Io.KnownBytes.{Appends, Consumes, IsAtEnd}
@@ -7,8 +7,6 @@ use Rattle.part_layout.specs.declared.config.Config.{Config}
 use Rattle.line_io.specs.Faults.{Rose}
 use Rattle.byte_lines.specs.Lines.{lines}
 use Rattle.session_model.specs.declared.limits.TheConstants.{BLOCK_MOST}
-use Rattle.session_model.specs.declared.outcome.Outcome.{Outcome}
-use Rattle.session_model.specs.declared.outcome.Outcome.TheVariants.{Done, Usage, NoMemory}
 use Rattle.session_model.specs.Entries.{Exchange}
 use Rattle.session_model.specs.Run.{IsRefused, AnswersLines, before_quit, has_quit}
 use Rattle.session_model.specs.Ledger.{Ledgers, Rise, RisesBy}
@@ -98,32 +96,9 @@ abbrev pub IsWithin : Config → List ℕ → Type 0
 IsWithin config input =
     (length input ≤ config.input) ⊎ (has_quit config (lines (take config.input input) false) ≡ true)
 
--- the outcomes that may come where the input is within its limit and no fault rose
-abbrev pub IsDoneOrNoMemory : Outcome → Type 0
-IsDoneOrNoMemory outcome = (outcome ≡ Done) ⊎ (outcome ≡ NoMemory)
-
 -- an ending, by how much the ledgers rose
 pub record EndsWith (P : Ends → Ends → Ends → Ends → Rise → Type 0)
     (source source' sink sink' : Ends) (old new : Ledgers) : Type 0 where
   pub rise : Rise
   pub rises : RisesBy old new rise
   pub ended : P source source' sink sink' rise
-
--- an ending, for what the words asked for
-abbrev pub ForConfig : (Config → Ends → Ends → Ends → Ends → Rise → Type 0) → Result Config ℕ
-    → Ends → Ends → Ends → Ends → Ledgers → Ledgers → Type 0
-ForConfig P asked source source' sink sink' old new =
-    (config : Config) × (asked ≡ Ok config) × EndsWith (P config) source source' sink sink' old new
-
--- within the limit and with no fault the call ends well, if memory doesn't lack
-abbrev pub IsComplete : Outcome → Result Config ℕ → Ends → Ends → Ends → Ends → Type 0
-IsComplete outcome asked source source' sink sink' =
-    (config : Config) (input : List ℕ) → asked ≡ Ok config → source.bytes ≡ Some input
-    → IsWithin config input → ¬ Rose source.faults source'.faults → ¬ Rose sink.faults sink'.faults
-    → IsDoneOrNoMemory outcome
-
--- the outcomes that come before the first read
-abbrev pub IsUnread : Outcome → Type 0
-IsUnread (Usage word) = Unit {0}
-IsUnread NoMemory = Unit {0}
-IsUnread outcome = ⊥

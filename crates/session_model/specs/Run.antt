@@ -120,8 +120,8 @@ pub record AnswersLines (Served : List Exchange → Rise → Type 0) (lines : Li
   pub lines_are : lines_of exchanges ≡ lines
   pub bytes_are : bytes ≡ written_text exchanges
 
--- the output is the replies to some of the lines in front, and of the replies to the line after them
--- a part, and the queries of the session that answered these lines read so much
+-- the output is the replies to some of the lines in front, and of the replies to the line after
+-- them a part, and the queries of the session that answered these lines read so much
 pub record IsRefused (Served : List Exchange → Rise → Type 0) (lines : List (List ℕ))
     (output : List ℕ) (rise : Rise) : Type 0 where
   pub answered : List Exchange

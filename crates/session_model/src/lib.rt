@@ -4,9 +4,7 @@
 #![tactic(auto)]
 
 mod limits;
-mod outcome;
 mod run_laws;
 
 pub use limits::BLOCK_MOST;
-pub use outcome::Outcome;
 pub use run_laws::queries_only_read_on;

@@ -20,7 +20,8 @@ use Rattle.search_model.specs.Reading.{HasSame, unpadded}
 use Rattle.search_model.proofs.SameLemmas.{all_front, all_back}
 use Rattle.shard_version.specs.Contents.{Contents, IsVersion, empty_of}
 use Rattle.shard_version.specs.Tables.{AreStored, HasTables, counts_of, part_values}
-use Rattle.shard_version.specs.Kept.{AgreesWithRows, IsPartTable, IsPlace, contents_of, next_with, tabled_of}
+use Rattle.shard_version.specs.Kept.{AgreesWithRows, IsPlace, contents_of, next_with, tabled_of}
+use Rattle.shard_version.specs.Relaid.{IsPartTable}
 use Rattle.shard_version.specs.KeptParts.{AreChanged, AreEmpty, EachHas, EachTakes, Lost, Taken, TakesRow, HasRow, no_rows}
 use Rattle.shard_version.specs.declared.part_table.PartTable.{PartTable}
 use Rattle.shard_version.proofs.PlaceLemmas.{above_absent, above_first, all_append, all_mapped, all_weaker, ascend_from, code_behind, cut_here, drop_here, inserted_between, removed_between, stands_here, stands_nowhere}

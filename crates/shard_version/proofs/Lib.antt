@@ -7,3 +7,4 @@ mod BucketLemmas
 mod SharedLemmas
 mod HeadLemmas
 mod EntryLemmas
+mod RelaidLemmas

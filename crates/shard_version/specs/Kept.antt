@@ -1,5 +1,5 @@
 -- How a version is kept. No public clause cites this module.
-use Rattle.std.specs.Prelude.{◌≡◌, ℕ, ◌+◌, ◌*◌, ◌^◌, ◌<◌, ◌≤◌, List, map, length, take, drop, slice_index_or}
+use Rattle.std.specs.Prelude.{◌≡◌, ℕ, ◌+◌, ◌*◌, ◌<◌, ◌≤◌, List, map, length, take, drop, slice_index_or}
 use Rattle.std.specs.BTreeMap.{insert_entry, is_at}
 use Rattle.std.specs.List.{AllByRecursion}
 use Rattle.std.specs.Map.{remove_entry}
@@ -8,7 +8,8 @@ use Rattle.hamming_model.specs.declared.limits.TheConstants.{WORDS_MOST}
 use Rattle.part_layout.specs.Laid.{Laid}
 use Rattle.search_model.specs.Reading.{unpadded}
 use Rattle.shard_version.specs.Contents.{Contents, IsVersion}
-use Rattle.shard_version.specs.Tables.{ArePostings, AreStored, Tabled, counts_of}
+use Rattle.shard_version.specs.Relaid.{IsPartTable}
+use Rattle.shard_version.specs.Tables.{AreStored, Tabled}
 use Rattle.shard_version.specs.declared.part_table.PartTable.{PartTable}
 
 -- the contents that callers see: the codes of the rows without their zeros
@@ -39,12 +40,6 @@ with_added version key stored =
 -- and with the row of a key less
 abbrev pub with_deleted : Contents → ℕ → Contents
 with_deleted version key = next_with version (remove_entry (is_at (nat_cmp key)) version.rows)
-
--- the tables of a part have the rows
-pub record IsPartTable {W : ℕ} (version : Contents) (part : ℕ) (table : PartTable W) : Type 0 where
-  pub postings : ArePostings W version part table.postings
-  pub size : length table.postings.lists ≡ 2 ^ table.postings.width
-  pub counts : table.counts ≡ counts_of version part
 
 -- rows, posting lists and counts agree: each kept code stands for the row's,
 -- and each part has tables of these rows

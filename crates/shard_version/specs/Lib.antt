@@ -3,4 +3,5 @@ pub mod Kept
 pub mod KeptParts
 pub mod KeptRows
 pub mod Prefixes
+pub mod Relaid
 pub mod Tables

@@ -12,5 +12,6 @@ mod tables;
 mod version;
 
 pub use laws::{counts_are_of_the_rows, versions_follow_the_history};
+pub use part_table::PartTable;
 pub use prepared::Prepared;
 pub use version::Version;

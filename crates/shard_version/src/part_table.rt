@@ -10,7 +10,7 @@ use posting_table::Postings;
 use read_meter::NoMemory;
 use std::alloc::Global;
 
-// The posting lists of one part, and how many entries each of them has.
+/// The posting lists of one part, and how many entries each of them has.
 #[derive(Drop)]
 pub struct PartTable<const W: usize> {
     pub postings: Postings<W>,
@@ -19,7 +19,7 @@ pub struct PartTable<const W: usize> {
 
 impl<const W: usize> PartTable<W> {
     // The tables of no rows.
-    pub fn empty(alloc: Global, width: u32) -> Result<PartTable<W>, NoMemory>
+    pub(crate) fn empty(alloc: Global, width: u32) -> Result<PartTable<W>, NoMemory>
         requires some { 1 ≤ width }
         requires narrow { width ≤ PART_WIDTH_MOST }
         ensures { IfOk result (λ table. table ≡ no_rows width) }
@@ -30,7 +30,7 @@ impl<const W: usize> PartTable<W> {
     }
 
     // Equal tables of their own.
-    pub fn copy(&self) -> Result<PartTable<W>, NoMemory>
+    pub(crate) fn copy(&self) -> Result<PartTable<W>, NoMemory>
         ensures { IfOk result (λ copy. copy ≡ self.now) }
     {
         let postings = self.postings.copy()?;
@@ -39,7 +39,7 @@ impl<const W: usize> PartTable<W> {
     }
 
     // Adds a row with a value.
-    pub fn insert(&mut self, value: u16, key: u64, code: Code<W>) -> Result<(), NoMemory>
+    pub(crate) fn insert(&mut self, value: u16, key: u64, code: Code<W>) -> Result<(), NoMemory>
         requires { TakesRow self.old value key }
         ensures { OnOk result (self.new ≡ with_row self.old value (key, code.entry)) }
     {
@@ -49,7 +49,7 @@ impl<const W: usize> PartTable<W> {
     }
 
     // Takes out the row of a key with a value.
-    pub fn remove(&mut self, value: u16, key: u64) -> Result<(), NoMemory>
+    pub(crate) fn remove(&mut self, value: u16, key: u64) -> Result<(), NoMemory>
         requires { HasRow self.old value key }
         ensures { OnOk result (LosesRow self.old self.new value key) }
     {

@@ -7,8 +7,10 @@ ghost use Rattle.hamming_model.specs.Codes.{StandsFor};
 ghost use Rattle.hamming_model.specs.History.{code_at};
 ghost use Rattle.entry_log.specs.Entries.{entry_of};
 ghost use Rattle.entry_log.specs.Meaning.{MeansEntry};
+ghost use Rattle.part_layout.specs.Laid.{IsLaid};
 ghost use Rattle.shard_version.specs.Contents.{IsVersion, FitsShard, HasRoomFor, after_entry, empty_of};
 ghost use Rattle.shard_version.specs.Kept.{next_with, with_added, with_deleted};
+ghost use Rattle.shard_version.specs.Relaid.{ArePartTables, in_layout};
 ghost use Rattle.shard_version.specs.Tables.{AreFirst, ArePostings, AreStored, HasTables, counts_of, table_at};
 
 use crate::keyed_rows::KeyedRows;
@@ -107,6 +109,35 @@ impl<const W: usize> Version<W> {
             layout,
             alloc: self.alloc,
             rows,
+            tables,
+        })
+    }
+
+    /// A version of the same rows and position in another layout of the same bits, with these tables of its parts. It has
+    /// the rows in common with this one.
+    ///
+    /// # Errors
+    ///
+    /// `NoMemory` where there is no memory to share the rows.
+    pub fn in_layout(
+        &self,
+        layout: Arc<Layout>,
+        tables: Vec<PartTable<W>>,
+    ) -> Result<Version<W>, NoMemory>
+        requires laid { IsLaid (arc_value layout) }
+        requires bits { (arc_value layout).bits ≡ self.now.contents.layout.bits }
+        requires tables { ArePartTables (in_layout self.now.contents (arc_value layout)) tables.items }
+        ensures { IfOk result (λ version.
+            version.contents ≡ in_layout self.now.contents (arc_value layout)) }
+    {
+        let same_rows = self.rows.copy()?;
+        Ok(Version {
+            shard: self.shard,
+            shards: self.shards,
+            at: self.at,
+            layout,
+            alloc: self.alloc,
+            rows: same_rows,
             tables,
         })
     }

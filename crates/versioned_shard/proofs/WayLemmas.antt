@@ -20,9 +20,9 @@ use Rattle.shard_version.specs.Contents.{Contents, FitsShard, HasRoomFor, after_
 use Rattle.shard_version.specs.Prefixes.{prefix_of}
 use Rattle.shard_version.specs.Tables.{Tabled}
 use Rattle.commit_journal.specs.Fronts.{ArePositionsInOrder, FrontState, IsFront, has_position, position_of}
-use Rattle.versioned_shard.specs.Along.{Follows, version_at}
+use Rattle.versioned_shard.specs.Along.{Follows, Reaches, version_at}
 use Rattle.versioned_shard.specs.Shards.{contents_at, has_version, made, staying}
-use Rattle.versioned_shard.specs.Way.{MadeSoFar, Reaches}
+use Rattle.versioned_shard.specs.Way.{MadeSoFar}
 
 -- ---- an entry of the program
 means_operation : {W : ℕ} (bits who : ℕ) (each : Op W) → IsStoredOperation W bits (kept_operation each)

@@ -13,3 +13,9 @@ version_at history from position = prefix_of from.shard from.shards from.layout
 -- a version has taken in the first entries of a history, and has its shard's rows of them
 pub record Follows (history : List JournalEntry) (version : Contents) : Type 0 where
   pub is : version ≡ version_at history version version.at
+
+-- a version stands at a position, in the shard and layout of another
+pub record Reaches (history : List JournalEntry) (from : Contents) (position : ℕ)
+    (version : Contents) : Type 0 where
+  pub is : version ≡ version_at history from position
+  pub at : version.at ≡ position

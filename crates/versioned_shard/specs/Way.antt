@@ -3,18 +3,11 @@ use Rattle.std.specs.Prelude.{◌≡◌, ℕ, ◌≤◌, List, ◌++◌, map, ta
 use Rattle.std.specs.List.{AllByRecursion}
 use Rattle.std.specs.declared.sync.Arc.{Arc}
 use Rattle.std.specs.declared.alloc.Global.{Global}
-use Rattle.hamming_model.specs.History.{JournalEntry}
 use Rattle.shard_version.specs.Contents.{Contents}
 use Rattle.shard_version.specs.Tables.{Tabled}
 use Rattle.commit_journal.specs.Fronts.{FrontState, position_of}
-use Rattle.versioned_shard.specs.Along.{version_at}
+use Rattle.versioned_shard.specs.Along.{Reaches}
 use Rattle.versioned_shard.specs.Shards.{contents_at, made}
-
--- a version stands at a position, in the shard and layout of another
-pub record Reaches (history : List JournalEntry) (from : Contents) (position : ℕ)
-    (version : Contents) : Type 0 where
-  pub is : version ≡ version_at history from position
-  pub at : version.at ≡ position
 
 -- the versions of the first so many positions are made, and the last of them is at hand
 pub record MadeSoFar (front : FrontState) (from : Contents) (old new : List (Arc Tabled Global))

@@ -4,9 +4,8 @@ ghost use Rattle.std.specs.Prelude.{◌≡◌, ◌+◌, ◌≤◌, ◌++◌, map
 ghost use Rattle.hamming_model.specs.Recoded.{AreStoredEntries};
 ghost use Rattle.hamming_model.specs.declared.limits.TheConstants.{WORDS_MOST};
 ghost use Rattle.commit_journal.specs.Fronts.{has_position, position_of};
-ghost use Rattle.versioned_shard.specs.Along.{Follows};
+ghost use Rattle.versioned_shard.specs.Along.{Follows, Reaches};
 ghost use Rattle.versioned_shard.specs.Shards.{contents_at, made, staying};
-ghost use Rattle.versioned_shard.specs.Way.{Reaches};
 
 use commit_journal::Front;
 use hamming_model::recoded_histories_are_alike;
@@ -15,7 +14,11 @@ use shard_version::{Version, versions_follow_the_history};
 use std::alloc::Global;
 use std::sync::Arc;
 
-// The version at a later position, for one step an entry: one copy, or the same version where it stands there.
+/// The version at a later position, for one step an entry: one copy, or the same version where it stands there.
+///
+/// # Errors
+///
+/// `NoMemory` where there is none for the version; the steps of the entries that were taken in stay.
 pub fn reached<const W: usize, M>(
     alloc: Global,
     version: &Arc<Version<W>>,

@@ -7,6 +7,7 @@ mod laws;
 mod moved;
 mod shard;
 
+pub use follow::reached;
 pub use laws::{journals_keep_the_rule, rules_follow_fronts, shards_keep_the_rule};
 pub use moved::Moved;
 pub use shard::Shard;

@@ -1,7 +1,7 @@
 use Rattle.std.proofs.Common.{◌≡◌, ℕ, ◌≤◌, ◌-◌, true, List, ◌++◌, length, take}
 use Rattle.std.specs.Io.KnownBytes.{Appends}
-use Rattle.gph_session.specs.Meaning.{HaveShards}
-use Rattle.gph_session.specs.Moments.{moment_of}
+use Rattle.session_step.specs.Meaning.{HaveShards}
+use Rattle.session_step.specs.Moments.{moment_of}
 use Rattle.gph_session.specs.Flow.{Start, GoesOn}
 use Rattle.gph_session.proofs.block.answer_block.Given as goal
 

@@ -4,7 +4,7 @@ use Rattle.std.proofs.Common.{ap, ◌∙◌, subst, arith, rules}
 use Rattle.std.specs.Io.KnownBytes.{Consumes}
 use Rattle.session_model.specs.declared.limits.TheConstants.{BLOCK_MOST}
 use Rattle.session_model.specs.Outcomes.{ends}
-use Rattle.gph_session.specs.Moments.{moment_of}
+use Rattle.session_step.specs.Moments.{moment_of}
 use Rattle.gph_session.specs.Flow.{start_at}
 use Rattle.gph_session.specs.Serving.{Serves}
 use Rattle.gph_session.proofs.ServeLemmas.{take_one, has_read, length_read, read_fault}

@@ -1,7 +1,7 @@
 use Rattle.std.proofs.Common.{◌≡◌, ◌-◌, true}
 use Rattle.session_model.specs.Outcomes.{ends}
-use Rattle.gph_session.specs.Meaning.{HaveShards}
-use Rattle.gph_session.specs.Moments.{moment_of}
+use Rattle.session_step.specs.Meaning.{HaveShards}
+use Rattle.session_step.specs.Moments.{moment_of}
 use Rattle.gph_session.specs.Flow.{start_at}
 use Rattle.gph_session.specs.Serving.{Serves}
 use Rattle.gph_session.proofs.serve.serve.Given as goal

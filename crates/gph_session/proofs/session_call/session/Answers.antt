@@ -5,13 +5,13 @@ use Rattle.part_layout.specs.Ranges.{IsConfig}
 use Rattle.byte_lines.specs.Cut.{held_of}
 use Rattle.read_meter.specs.declared.no_memory.NoMemory.{NoMemory}
 use Rattle.session_desk.specs.Desks.{DeskState, IsDesk}
-use Rattle.gph_session.specs.declared.open_session.Session.{Session}
+use Rattle.session_step.specs.declared.open_session.Session.{Session}
 use Rattle.gph_session.specs.declared.report.Status.TheVariants as status
-use Rattle.gph_session.specs.Meaning.{IsReady, HaveShards}
-use Rattle.gph_session.specs.Moments.{moment_of}
+use Rattle.session_step.specs.Meaning.{IsReady, HaveShards}
+use Rattle.session_step.specs.Moments.{moment_of}
 use Rattle.gph_session.specs.Flow.{HasBegunWith}
-use Rattle.gph_session.proofs.Here.{learns_nothing}
-use Rattle.gph_session.proofs.TopLemmas.{begun_session, is_ready, ended_as}
+use Rattle.session_step.proofs.MomentLemmas.{learns_nothing}
+use Rattle.gph_session.proofs.BegunLemmas.{begun_session, is_ready, ended_as}
 use Rattle.gph_session.proofs.session_call.session.Goals as goal
 
 pub serve-status-requires-after_bounds : goal.serve-status-requires-after_bounds

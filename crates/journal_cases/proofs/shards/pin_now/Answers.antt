@@ -9,7 +9,8 @@ pub returns-in_default-version_for-clause-rule : goal.returns-in_default-version
 returns-in_default-version_for-clause-rule g c =
     let front = c.in_ok-front.front in
     let journal = c.open_front.new.self in
-    let opened = c.journals_keep_the_rule.ensures.opens c.args.journal.now journal c.args.who front c.args.shard.now c.requires.rule c.in_ok-front.ensures.opened in
+    let opened = c.journals_keep_the_rule.ensures.opens c.args.journal.now journal c.args.who front c.args.shard.now
+        c.requires.rule c.in_ok-front.ensures.opened in
     let came = c.shards_keep_the_rule.ensures.advanced (positions_of journal.live) journal.history c.args.shard.now front opened c.in_ok-front.ensures.known
     c.position-position.ensures.front in
     let there = subst (KeepsJournalRule journal) (sym c.in-Ok.ensures.advanced) came in
@@ -20,7 +21,8 @@ pub returns-clause-rule : goal.returns-clause-rule
 returns-clause-rule g c =
     let front = c.in_ok-front.front in
     let journal = c.open_front.new.self in
-    let opened = c.journals_keep_the_rule.ensures.opens c.args.journal.now journal c.args.who front c.args.shard.now c.requires.rule c.in_ok-front.ensures.opened in
+    let opened = c.journals_keep_the_rule.ensures.opens c.args.journal.now journal c.args.who front c.args.shard.now
+        c.requires.rule c.in_ok-front.ensures.opened in
     let came = c.shards_keep_the_rule.ensures.advanced (positions_of journal.live) journal.history c.args.shard.now front opened c.in_ok-front.ensures.known
     c.position-position.ensures.front in
     let there = subst (KeepsJournalRule journal) (sym c.in-Ok.ensures.advanced) came in

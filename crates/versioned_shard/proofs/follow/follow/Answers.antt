@@ -1,7 +1,7 @@
 use Rattle.std.proofs.Common.{◌≡◌, ◌≤◌, ◌<◌, ◌∙◌, List, ℕ, Global, get_or, refl, subst, sym, ap, arith, length}
 use Rattle.std.specs.declared.sync.Arc.{Arc}
 use Rattle.std.proofs.lemmas.List.{get_or_default}
-use Rattle.versioned_shard.specs.Way.{Reaches}
+use Rattle.versioned_shard.specs.Along.{Reaches}
 use Rattle.versioned_shard.specs.Shards.{contents_at}
 use Rattle.shard_version.specs.Tables.{Tabled}
 use Rattle.versioned_shard.proofs.WayLemmas.{made_first, made_more, made_past}

@@ -1,6 +1,6 @@
 use Rattle.std.proofs.Common.{◌≡◌, ◌+◌}
 use Rattle.versioned_shard.specs.Shards.{contents_at}
-use Rattle.versioned_shard.specs.Way.{Reaches}
+use Rattle.versioned_shard.specs.Along.{Reaches}
 use Rattle.versioned_shard.proofs.follow.reached.Given as goal
 
 abbrev pub invariant-loop-place : goal.invariant-loop-place

@@ -1,0 +1,9 @@
+//! The top call serves what the words of the command line ask for. What `run` writes over a desk of its own is the text of the
+//! replies of a session that is alone over the lines that it read, for each way in which it ends.
+#![tactic(auto)]
+
+mod outcome;
+mod top;
+
+pub use outcome::Outcome;
+pub use top::run;

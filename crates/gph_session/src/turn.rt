@@ -1,8 +1,0 @@
-//! How a session goes on.
-
-/// Whether a session goes on after a line.
-#[derive(Clone, Copy, Debug, PartialEq, Eq)]
-pub(crate) enum Turn {
-    Goes,
-    Quits,
-}

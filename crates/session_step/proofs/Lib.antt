@@ -1,0 +1,12 @@
+pub mod MomentLemmas
+pub mod Here
+pub mod QueryLemmas
+pub mod BoundLemmas
+pub mod NextLemmas
+pub mod AskLemmas
+pub mod CommitLemmas
+pub mod LookLemmas
+pub mod RangeLemmas
+pub mod FrameLemmas
+pub mod TurnLemmas
+pub mod OpeningLemmas

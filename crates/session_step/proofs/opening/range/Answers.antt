@@ -1,0 +1,37 @@
+-- The call is a step of a session that is alone.
+use Rattle.std.proofs.Common.{◌≡◌, refl, sym, ap, ◌∙◌, subst, arith, rules, Some, Ok, take}
+use Rattle.query_protocol.specs.Replies.{line_of, reply_line}
+use Rattle.open_queries.specs.Writing.{Writes}
+use Rattle.session_step.specs.Moments.{moment_of}
+use Rattle.session_step.proofs.Here.{here_of}
+use Rattle.session_step.proofs.CommitLemmas.{delete_step}
+use Rattle.std.proofs.Common.{[]}
+use Rattle.session_step.proofs.RangeLemmas.{range_step}
+use Rattle.session_step.proofs.FrameLemmas.{here_opens, opened_shards}
+use Rattle.session_step.proofs.opening.range.Goals as goal
+
+pub returns-clause-answers : goal.returns-clause-answers
+returns-clause-answers g c = λ reads line asked history s stands.
+    let held = g.K.Sink.held in
+    let ready = c.requires.ready.is_config in
+    let p = here_of c.args.config.now
+    (moment_of (g.D.Desk.desk c.args.desk.now) c.args.session.now reads c.args.upkeep.now) (held c.args.sink.now) line
+    history s stands in
+    range_step p (held c.say.new.sink) c.say.result _ ready.some_shards ready.few_shards c.args.tag c.args.tau
+    (take c.args.config.now.bits c.args.code) c.args.config.now.room (line_of c.open-reply.result) asked
+    c.say.ensures.written (c.open-reply.ensures.opens reads)
+
+pub returns-clause-shards : goal.returns-clause-shards
+returns-clause-shards g c =
+    opened_shards c.args.config.now _ _ c.args.tag c.args.tau (take c.args.config.now.bits c.args.code)
+    c.args.config.now.room (line_of c.open-reply.result) c.requires.config c.requires.shards (c.open-reply.ensures.opens [])
+
+pub returns-clause-alone : goal.returns-clause-alone
+returns-clause-alone g c = (here_opens c.args.config.now _ _ c.args.tag c.args.tau (take c.args.config.now.bits c.args.code)
+    c.args.config.now.room (line_of c.open-reply.result) (c.open-reply.ensures.opens []) c.requires.alone
+    c.requires.config).0
+
+pub returns-clause-config : goal.returns-clause-config
+returns-clause-config g c = (here_opens c.args.config.now _ _ c.args.tag c.args.tau (take c.args.config.now.bits c.args.code)
+    c.args.config.now.room (line_of c.open-reply.result) (c.open-reply.ensures.opens []) c.requires.alone
+    c.requires.config).1

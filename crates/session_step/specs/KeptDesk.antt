@@ -1,0 +1,22 @@
+-- What a session sees of its desk, and what it leaves as it was.
+use Rattle.std.specs.Prelude.{◌≡◌, ℕ, List, map}
+use Rattle.session_desk.specs.Desks.{DeskState, pin_position}
+
+-- the layouts of the shards of a desk that is alone
+abbrev pub layouts_of : DeskState → List (List (List ℕ))
+layouts_of desk = map (λ place. place.1.parts) desk.places
+
+-- the position of the last pin of each shard, 0 where there was none
+abbrev pub pins_of : DeskState → List ℕ
+pins_of desk = map pin_position desk.pins
+
+-- what a session that builds nothing leaves of a desk as it was
+pub record KeepsDesk (old new : DeskState) : Type 0 where
+  pub board : new.board ≡ old.board
+  pub who : new.who ≡ old.who
+  pub config : new.config ≡ old.config
+  pub fronts : new.fronts ≡ old.fronts
+  pub done : new.done ≡ old.done
+  pub late : new.late ≡ old.late
+  pub alone : new.alone ≡ old.alone
+  pub layouts : layouts_of new ≡ layouts_of old

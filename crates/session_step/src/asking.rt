@@ -1,0 +1,160 @@
+//! `next`, `cost`, `plan`, `cancel` and `layout`: the requests on open queries and on shards.
+
+ghost use Rattle.std.specs.Prelude.{◌≡◌, ◌<◌, ◌≤◌, ℕ, List, true};
+ghost use Rattle.std.specs.Thread.{IsSync};
+ghost use Rattle.query_protocol.specs.Requests.{Next, Cost, Plan, Cancel, Layout};
+ghost use Rattle.open_queries.specs.Writing.{IsCaused};
+ghost use Rattle.open_queries.specs.Queries.{HaveShard};
+ghost use Rattle.session_step.specs.Meaning.{IsReady, HaveShards};
+ghost use Rattle.session_desk.specs.Desks.{DeskState};
+ghost use Rattle.session_step.specs.Answering.{AnswersRequest};
+ghost use Rattle.session_step.specs.Moments.{moment_of};
+
+use crate::open_session::Session;
+use line_io::{Failed, Sink};
+use open_queries::{OpenQueries, say, send};
+use part_layout::Config;
+use query_protocol::{Tag, write_layout};
+use read_meter::Meters;
+use scatter_gather::Gate;
+use session_desk::Desk;
+use shard_query::RangeTask;
+use std::thread::Threads;
+
+/// Answers the next hits of the query of a tag.
+pub(crate) fn next<const W: usize, K: Sink, R: Threads + Sync, G: Gate, L: Send>(
+    rt: &R,
+    config: &Config,
+    session: &mut Session<W>,
+    tag: &Tag,
+    n: u32,
+    sink: &mut K,
+    gate: &G,
+    meters: &mut Meters<L>,
+) -> Result<(), Failed>
+    requires ready { IsReady W config.now }
+    requires sync { IsSync R.row }
+    requires shards { HaveShards config.now.shards session.old.queries }
+    ensures answers { (desk : DeskState) (upkeep : ℕ) → desk.alone ≡ true →
+        AnswersRequest (Next tag.now n) result config.now (K.held sink.old) (K.held sink.new)
+        (moment_of desk session.old meters.old upkeep)
+        (moment_of desk session.new meters.new upkeep) }
+    ensures cutter { session.new.cutter ≡ session.old.cutter }
+    ensures requests { session.new.requests ≡ session.old.requests }
+    ensures shards { HaveShards config.now.shards session.new.queries }
+    ensures cause { IsCaused (K.faults sink.old) (K.faults sink.new) result }
+{
+    // Each time the call says how many ledgers there are.
+    let _before = meters.as_mut().len();
+    let said = session
+        .queries
+        .next(rt, gate, tag, n, &mut session.out, sink, meters);
+    let _after = meters.as_mut().len();
+    said
+}
+
+/// Answers what the query of a tag has read, and what it may read.
+pub(crate) fn cost<const W: usize, K: Sink>(
+    config: &Config,
+    session: &mut Session<W>,
+    tag: &Tag,
+    sink: &mut K,
+) -> Result<(), Failed>
+    requires ready { IsReady W config.now }
+    requires shards { HaveShards config.now.shards session.old.queries }
+    ensures answers { (desk : DeskState) (reads : List ℕ) (upkeep : ℕ) → desk.alone ≡ true →
+        AnswersRequest (Cost tag.now) result config.now (K.held sink.old) (K.held sink.new)
+        (moment_of desk session.old reads upkeep) (moment_of desk session.new reads upkeep) }
+    ensures cutter { session.new.cutter ≡ session.old.cutter }
+    ensures requests { session.new.requests ≡ session.old.requests }
+    ensures shards { HaveShards config.now.shards session.new.queries }
+    ensures cause { IsCaused (K.faults sink.old) (K.faults sink.new) result }
+{
+    let reply = session.queries.cost(tag);
+    say(&mut session.out, sink, &reply)
+}
+
+/// Answers the threshold vector of the query of a tag in a shard, and its cost.
+pub(crate) fn plan<const W: usize, K: Sink>(
+    config: &Config,
+    session: &mut Session<W>,
+    tag: &Tag,
+    shard: u32,
+    sink: &mut K,
+) -> Result<(), Failed>
+    requires ready { IsReady W config.now }
+    requires shard { shard < config.now.shards }
+    requires shards { HaveShards config.now.shards session.old.queries }
+    ensures answers { (desk : DeskState) (reads : List ℕ) (upkeep : ℕ) → desk.alone ≡ true →
+        AnswersRequest (Plan tag.now shard) result config.now (K.held sink.old) (K.held sink.new)
+        (moment_of desk session.old reads upkeep) (moment_of desk session.new reads upkeep) }
+    ensures cutter { session.new.cutter ≡ session.old.cutter }
+    ensures requests { session.new.requests ≡ session.old.requests }
+    ensures shards { HaveShards config.now.shards session.new.queries }
+    ensures cause { IsCaused (K.faults sink.old) (K.faults sink.new) result }
+{
+    every_query_has_shard(config, &session.queries, shard);
+    session.queries.plan(tag, shard, &mut session.out);
+    send(&session.out, sink)
+}
+
+// A source stands behind each query for the shard.
+fn every_query_has_shard<const W: usize>(
+    config: &Config,
+    queries: &OpenQueries<RangeTask<W>>,
+    shard: u32,
+)
+    requires few_words { W ≤ 8 }
+    requires shard { shard < config.now.shards }
+    requires shards { HaveShards config.now.shards queries.now }
+    ensures { HaveShard queries.now shard }
+{}
+
+/// Ends the query of a tag, and answers how many hits it gave.
+pub(crate) fn cancel<const W: usize, K: Sink>(
+    config: &Config,
+    session: &mut Session<W>,
+    tag: &Tag,
+    sink: &mut K,
+) -> Result<(), Failed>
+    requires ready { IsReady W config.now }
+    requires shards { HaveShards config.now.shards session.old.queries }
+    ensures answers { (desk : DeskState) (reads : List ℕ) (upkeep : ℕ) → desk.alone ≡ true →
+        AnswersRequest (Cancel tag.now) result config.now (K.held sink.old) (K.held sink.new)
+        (moment_of desk session.old reads upkeep) (moment_of desk session.new reads upkeep) }
+    ensures cutter { session.new.cutter ≡ session.old.cutter }
+    ensures requests { session.new.requests ≡ session.old.requests }
+    ensures shards { HaveShards config.now.shards session.new.queries }
+    ensures cause { IsCaused (K.faults sink.old) (K.faults sink.new) result }
+{
+    let reply = session.queries.cancel(tag);
+    say(&mut session.out, sink, &reply)
+}
+
+/// Answers the present layout of a shard.
+pub(crate) fn layout<const W: usize, D: Desk<W>, K: Sink>(
+    config: &Config,
+    session: &mut Session<W>,
+    desk: &mut D,
+    shard: u32,
+    sink: &mut K,
+) -> Result<(), Failed>
+    requires alone { (D.desk desk.old).alone ≡ true }
+    requires config { (D.desk desk.old).config ≡ config.now }
+    requires shard { shard < config.now.shards }
+    ensures answers { (reads : List ℕ) (upkeep : ℕ) →
+        AnswersRequest (Layout shard) result config.now (K.held sink.old) (K.held sink.new)
+        (moment_of (D.desk desk.old) session.old reads upkeep)
+        (moment_of (D.desk desk.new) session.new reads upkeep) }
+    ensures cutter { session.new.cutter ≡ session.old.cutter }
+    ensures requests { session.new.requests ≡ session.old.requests }
+    ensures queries { session.new.queries ≡ session.old.queries }
+    ensures alone { (D.desk desk.new).alone ≡ true }
+    ensures config { (D.desk desk.new).config ≡ config.now }
+    ensures cause { IsCaused (K.faults sink.old) (K.faults sink.new) result }
+{
+    let text = desk.layout_of(shard);
+    session.out.clear();
+    write_layout(shard, &text, &mut session.out);
+    send(&session.out, sink)
+}

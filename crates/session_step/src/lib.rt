@@ -1,0 +1,14 @@
+//! What a session makes of one line. The line that was cut last is answered by a step of a session that is alone, whatever state
+//! the desk and the open queries mean: its replies are written, and the desk, the queries and the ledgers mean the next state.
+#![tactic(auto)]
+
+mod asking;
+mod commits;
+mod line_answer;
+mod open_session;
+mod opening;
+mod turn;
+
+pub use line_answer::answer;
+pub use open_session::{Session, new_session};
+pub use turn::Turn;

@@ -1,0 +1,8 @@
+//! How a session goes on.
+
+/// Whether a session goes on after a line.
+#[derive(Clone, Copy, Debug, PartialEq, Eq)]
+pub enum Turn {
+    Goes,
+    Quits,
+}
