@@ -1,9 +1,9 @@
 -- The words of a new code, one after another.
-use Rattle.std.proofs.Common.{◌≡◌, ℕ, zero, suc, ◌+◌, ◌-◌, ◌/◌, ◌<◌, ◌≤◌, nat_lt, Bool, true, false, List, [], ◌∷◌, ◌++◌, length, take, slice_set, refl, ap, sym, ◌∙◌, arith, append_assoc}
+use Rattle.std.proofs.Common.{◌≡◌, ℕ, zero, suc, ◌+◌, ◌-◌, ◌<◌, nat_lt, true, false, List, [], ◌∷◌, ◌++◌, length, take, slice_set, refl, ap, sym, ◌∙◌, arith, append_assoc}
 use Rattle.std.proofs.lemmas.Bool.{lt-ltb, le-ltb, ltb-true, ltb-false}
 use Rattle.std.proofs.lemmas.List.{take_more_set}
 use Rattle.load_lines.specs.Codes.{code_of_key, state_after_key, codes_from, state_after_keys}
-use Rattle.load_lines.specs.Draws.{next_state, drawn, word_if, state_if, state_after, new_words}
+use Rattle.load_lines.specs.Draws.{word_if, state_if, state_after, new_words}
 
 -- the first of some words, and the others
 first_word : (words draws state : ℕ) → new_words (suc words) draws state

@@ -1,5 +1,5 @@
 -- The lines of a workload, one after another.
-use Rattle.std.proofs.Common.{◌≡◌, ℕ, zero, suc, ◌+◌, ◌-◌, ◌/◌, ◌<◌, List, [], ◌∷◌, ◌++◌, length, drop, slice_index_or, refl, ap, sym, ◌∙◌, arith, append_assoc, add-one}
+use Rattle.std.proofs.Common.{◌≡◌, ℕ, zero, suc, ◌+◌, ◌-◌, ◌<◌, List, [], ◌∷◌, ◌++◌, length, drop, slice_index_or, refl, ap, sym, ◌∙◌, arith, append_assoc, add-one}
 use Rattle.load_lines.specs.Codes.{code_of_query, state_after_query}
 use Rattle.load_lines.specs.Lines.{digit_at, digits_from, times, add_line, add_lines, open_line, after_opening, query_lines}
 

@@ -14,7 +14,12 @@ const CHAIN: u64 = 16;
 
 impl Draws {
     /// The codes of so many keys from 0 on.
-    pub(crate) fn codes(&mut self, alloc: Global, bits: u32, keys: u64) -> Result<Vec<CodeWords>, NoMemory>
+    pub(crate) fn codes(
+        &mut self,
+        alloc: Global,
+        bits: u32,
+        keys: u64,
+    ) -> Result<Vec<CodeWords>, NoMemory>
         requires some { 0 < bits }
         requires few { bits ≤ 256 }
         ensures codes { IfOk result (λ codes. codes.items ≡ codes_drawn bits self.old.state keys) }

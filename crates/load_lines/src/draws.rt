@@ -11,6 +11,7 @@ pub(crate) type CodeWords = [u64; WORDS];
 
 // The multiplier and the increment of Knuth's linear congruential generator for MMIX.
 const MULTIPLIER: u64 = 6_364_136_223_846_793_005;
+
 const INCREMENT: u64 = 1_442_695_040_888_963_407;
 
 /// A generator: each draw changes its state.

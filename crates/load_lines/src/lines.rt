@@ -60,7 +60,12 @@ fn put_addition(text: &mut Vec<u8>, bits: u32, key: u64, code: &CodeWords) -> Re
 }
 
 // The lines of the queries.
-fn put_queries(text: &mut Vec<u8>, bits: u32, added: &[CodeWords], draws: &mut Draws) -> Result<(), NoMemory>
+fn put_queries(
+    text: &mut Vec<u8>,
+    bits: u32,
+    added: &[CodeWords],
+    draws: &mut Draws,
+) -> Result<(), NoMemory>
     requires few { bits ≤ 256 }
     requires added { length added.now ≤ ENTRIES_MOST }
     ensures { OnOk result (text.new.items
@@ -131,7 +136,11 @@ fn digit(value: u64) -> u8
     requires { value < 16 }
     ensures { result ≡ digit_char value }
 {
-    if value < 10 { b'0' + value as u8 } else { b'a' + (value - 10) as u8 }
+    if value < 10 {
+        b'0' + value as u8
+    } else {
+        b'a' + (value - 10) as u8
+    }
 }
 
 // A number in decimal.

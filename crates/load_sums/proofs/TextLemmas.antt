@@ -1,8 +1,8 @@
 -- The text of replies, reply by reply.
-use Rattle.std.proofs.Common.{◌≡◌, ℕ, ◌+◌, ◌-◌, ◌<◌, ◌≤◌, ◌==◌, not, nat_lt, Bool, true, false, cond, List, [], ◌∷◌, ◌++◌, length, take, drop, position, Option, Some, None, sum_by, refl, sym, ap, ◌∙◌, subst, arith, append_assoc, add-one, length-append}
+use Rattle.std.proofs.Common.{◌≡◌, ℕ, ◌+◌, ◌<◌, ◌==◌, not, nat_lt, Bool, true, false, cond, List, [], ◌∷◌, ◌++◌, length, take, drop, position, Some, None, sum_by, refl, sym, ap, ◌∙◌, subst, arith, append_assoc, add-one, length-append}
 use Rattle.std.proofs.lemmas.List.{length-drop}
 use Rattle.std.proofs.lemmas.List.Sums.{sum_by-cons}
-use Rattle.std.specs.List.{list_all, prefix_len, AllByRecursion}
+use Rattle.std.specs.List.{prefix_len, AllByRecursion}
 use Rattle.std.proofs.lemmas.Bool.{and_parts, lt-ltb, eqb-true}
 use Rattle.query_protocol.specs.Replies.{LineReply, reply_text, text}
 use Rattle.query_protocol.specs.Written.{has_no_feed, IsWritten}
@@ -68,13 +68,19 @@ one_added said rest line after old new plain some cut adds (this ∷ others) hel
     let of_hits : sum_by hits_of (this ∷ others) ≡ hits_of this + sum_by hits_of others = sum_by-cons hits_of this others in
     let of_bound : sum_by bound_of (this ∷ others) ≡ bound_of this + sum_by bound_of others = sum_by-cons bound_of this others in
     let of_reads : sum_by reads_of (this ∷ others) ≡ reads_of this + sum_by reads_of others = sum_by-cons reads_of this others in
-    let of_lacks : sum_by lacks_of (this ∷ others) ≡ lacks_of this + sum_by lacks_of others = sum_by-cons lacks_of this others in
-    (others, (at.1, held.1.1, record {
-      hits = omega (arith, more.hits, before.hits, of_hits);
-      bound = omega (arith, more.bound, before.bound, of_bound);
-      reads = omega (arith, more.reads, before.reads, of_reads);
-      none_lacks = omega (arith, more.not_lacks, before.none_lacks, of_lacks);
-    }))
+    let of_lacks : sum_by lacks_of (this ∷ others) ≡ lacks_of this + sum_by lacks_of others = sum_by-cons lacks_of this others in (
+      others,
+      (
+        at.1,
+        held.1.1,
+        record {
+          hits = omega (arith, more.hits, before.hits, of_hits);
+          bound = omega (arith, more.bound, before.bound, of_bound);
+          reads = omega (arith, more.reads, before.reads, of_reads);
+          none_lacks = omega (arith, more.not_lacks, before.none_lacks, of_lacks);
+        },
+      ),
+    )
 
 -- a reply has a line, which has a feed
 no_reply : (line rest : List ℕ) → ◌≡◌ {A = List ℕ} [] (line ++ 10 ∷ [] ++ rest) → ⊥

@@ -1,5 +1,5 @@
 -- How a text is taken line by line. No public clause cites this module.
-use Rattle.std.specs.Prelude.{◌≡◌, ℕ, ◌==◌, List, take, length, drop, ◌+◌, Some, position}
+use Rattle.std.specs.Prelude.{◌≡◌, ℕ, ◌==◌, List, take, drop, ◌+◌, Some, position}
 
 -- a line is what stands before the first line feed, and what follows it is left
 pub record IsFirstLine (text line after : List ℕ) : Type 0 where

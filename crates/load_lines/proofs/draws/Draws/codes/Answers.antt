@@ -1,4 +1,4 @@
-use Rattle.std.proofs.Common.{rules, arith, ◌∷◌, [], length-append}
+use Rattle.std.proofs.Common.{rules, ◌∷◌, [], length-append}
 use Rattle.load_lines.proofs.DrawLemmas.{code_drawn, key_drawn}
 use Rattle.load_lines.proofs.draws.Draws.codes.Goals as goal
 

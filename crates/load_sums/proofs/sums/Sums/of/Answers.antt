@@ -1,4 +1,4 @@
-use Rattle.std.proofs.Common.{◌≡◌, ℕ, List, [], subst, refl, arith}
+use Rattle.std.proofs.Common.{subst}
 use Rattle.load_sums.proofs.TextLemmas.{Left, none_added, one_added, all_added, fewer_left, empty_is, some_left}
 use Rattle.load_sums.proofs.sums.Sums.of.Goals as goal
 

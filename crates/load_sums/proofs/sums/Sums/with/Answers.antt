@@ -1,4 +1,4 @@
-use Rattle.std.proofs.Common.{◌≡◌, ℕ, ◌+◌, codes, Some, sym, ◌∙◌, ap, arith}
+use Rattle.std.proofs.Common.{codes, sym, ◌∙◌, ap}
 use Rattle.line_forms.specs.Words.{words}
 use Rattle.load_sums.proofs.SumLemmas.{first_is, hit_word, cost_word, cost_adds, same_word, with_adds}
 use Rattle.load_sums.proofs.sums.Sums.with.Goals as goal
