@@ -2,6 +2,7 @@
 //! sums.
 #![tactic(auto)]
 
+mod line;
 mod sums;
 
 pub use sums::Sums;
