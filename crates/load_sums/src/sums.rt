@@ -63,7 +63,7 @@ impl Sums {
             });
         }
         if word == b"nomem".as_slice() {
-            return None;
+            return Some(self);
         }
         Some(self)
     }
