@@ -38,7 +38,7 @@ fn no_rows<R: Abort>(rt: &R, alloc: Global) -> Version<1>
 }
 
 // The shard of the odd keys of 8 bits, before any entry.
-fn empty_shard<R: Abort>(rt: &R, alloc: Global) -> Shard<1>
+pub(crate) fn empty_shard<R: Abort>(rt: &R, alloc: Global) -> Shard<1>
     ensures rule { (live : ℕ → Option ℕ) (history : List JournalEntry) → KeepsRule live history result }
     ensures bits { result.current.layout.bits ≡ 8 }
 {
@@ -50,7 +50,7 @@ fn empty_shard<R: Abort>(rt: &R, alloc: Global) -> Shard<1>
 }
 
 // The version of the whole history, by a front of its own.
-fn pin_now<const W: usize, M>(
+pub(crate) fn pin_now<const W: usize, M>(
     journal: &mut Journal<W>,
     shard: &mut Shard<W>,
     who: u32,
@@ -82,7 +82,7 @@ fn pin_now<const W: usize, M>(
 }
 
 // Commits the addition of a row, and tells whether it was added.
-fn add(journal: &mut Journal<1>, shard: &Shard<1>, key: u64, text: &[u8]) -> bool
+pub(crate) fn add(journal: &mut Journal<1>, shard: &Shard<1>, key: u64, text: &[u8]) -> bool
     requires rule { KeepsJournalRule journal.old shard.now }
     requires codes { AreStoredEntries 1 8 journal.old.history }
     ensures rule { KeepsJournalRule journal.new shard.now }
