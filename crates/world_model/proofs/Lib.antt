@@ -12,4 +12,5 @@ pub mod RunLemmas
 pub mod LedgerLemmas
 pub mod PinLemmas
 pub mod GatherLemmas
+pub mod WorkedSources
 pub mod WorkedLemmas

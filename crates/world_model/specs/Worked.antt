@@ -3,12 +3,13 @@
 use Rattle.std.specs.Prelude.{◌≡◌, ℕ, List, [], ◌∷◌, map, replicate, ◌++◌, Ok, Err, Some, slice_get}
 use Rattle.hamming_model.specs.History.{Add}
 use Rattle.hamming_model.specs.Scan.{Range}
+use Rattle.hit_source.specs.declared.polled.Polled.TheVariants.{Ended}
 use Rattle.part_layout.specs.Laid.{Laid}
 use Rattle.entry_log.specs.declared.decision.Decision.TheVariants.{Added}
 use Rattle.commit_journal.specs.declared.decided.Decided.{Decided}
 use Rattle.world_model.specs.declared.refused.Refused.TheVariants.{Closed, Moved, Unready}
 use Rattle.world_model.specs.declared.told.Told.TheVariants as told
-use Rattle.world_model.specs.Events.{Setting, Event, Commit, Open, Advance, Cancel, BuildStart, BuildStep, Follow, Swap}
+use Rattle.world_model.specs.Events.{Setting, Event, Commit, Open, Advance, Pin, Poll, Give, Cancel, BuildStart, BuildStep, Follow, Swap}
 use Rattle.world_model.specs.Runs.{Answer}
 use Rattle.world_model.specs.WorldState.{ShardWithBuild, WorldState}
 
@@ -37,7 +38,8 @@ abbrev pub added_at : ℕ → Answer
 added_at position = Ok (told.Decided (record { decision = Added; position = position }))
 
 -- the events with their answers: a build begins on one row, isn't ready, places it, follows the
--- history beyond the shard, and is swapped in once a later query has brought the shard there
+-- history beyond the shard, and is swapped in once a later query has brought the shard there; the
+-- first query is answered on its own prefix, in the old layout
 abbrev pub worked : List (Event × Answer)
 worked =
     (Commit 1 (Add 1 zeros), added_at 1)
@@ -50,9 +52,13 @@ worked =
     ∷ (BuildStep 0 9, Ok (told.Built 0))
     ∷ (Follow 0, Ok (told.Followed 2))
     ∷ (Swap 0, Err (Moved 1))
-    ∷ (Advance 1 0, Ok (told.Advanced 2))
+    ∷ (Pin 1 0, Ok (told.Pinned 0))
     ∷ (Swap 0, Ok (told.Swapped 2))
-    ∷ (Cancel 0, Ok (told.Cancelled 0))
+    ∷ (Pin 0 0, Ok (told.Pinned 0))
+    ∷ (Poll 0 0 65536, Ok (told.Polled Ended))
+    ∷ (Give 0, Ok (told.Gave (record { dist = 0; key = 1 })))
+    ∷ (Give 0, Ok (told.Ended 1))
+    ∷ (Cancel 0, Ok (told.Cancelled 1))
     ∷ (Advance 0 0, Err Closed)
     ∷ []
 
