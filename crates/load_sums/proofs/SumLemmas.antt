@@ -9,7 +9,7 @@ use Rattle.load_sums.proofs.CostLemmas.{cost_words}
 use Rattle.line_forms.specs.Words.{words}
 use Rattle.query_protocol.specs.Replies.{LineReply, reply_text, fault_text}
 use Rattle.query_protocol.specs.Replies as reply
-use Rattle.load_sums.specs.Sums.{hits_of, bound_of, reads_of, lacks_of, AddsReply}
+use Rattle.load_sums.specs.Sums.{hits_of, told_bound, reads_of, lacks_of, AddsReply}
 use Rattle.load_sums.specs.declared.sums.Sums.{Sums}
 
 -- words that differ in a byte aren't the same
@@ -73,7 +73,7 @@ first_is this word after is =
 
 -- what a reply adds, by its first word
 abbrev Adds : LineReply → ℕ → Type 0
-Adds this hits = (hits_of this ≡ hits) × (bound_of this ≡ 0) × (reads_of this ≡ 0) × (lacks_of this ≡ 0)
+Adds this hits = (hits_of this ≡ hits) × (told_bound this ≡ 0) × (reads_of this ≡ 0) × (lacks_of this ≡ 0)
 
 pub hit_word : (this : LineReply) → word_of this ≡ codes "hit" → Adds this 1
 hit_word (reply.Added key at) is = absurd (differ (codes "added") (codes "hit") refl is)
@@ -175,7 +175,7 @@ cost_adds this line old new word after numbers told fits is first read of_hits o
     let second_number : numbers.1 ≡ bound = ap (λ (p : ℕ × ℕ). p.1) pair in
     let no_hits : hits_of this ≡ 0 = ap hits_of told.3 in
     let this_reads : reads_of this ≡ reads = ap reads_of told.3 in
-    let this_bound : bound_of this ≡ bound = ap bound_of told.3 in
+    let this_bound : told_bound this ≡ bound = ap told_bound told.3 in
     record {
       hits = omega (arith, of_hits, no_hits);
       bound = omega (arith, of_bound, second_number, this_bound);

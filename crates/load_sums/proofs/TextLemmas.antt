@@ -7,7 +7,7 @@ use Rattle.std.proofs.lemmas.Bool.{and_parts, lt-ltb, eqb-true}
 use Rattle.query_protocol.specs.Replies.{LineReply, reply_text, text}
 use Rattle.query_protocol.specs.Written.{has_no_feed, IsWritten}
 use Rattle.load_sums.specs.Lines.{IsFirstLine}
-use Rattle.load_sums.specs.Sums.{hits_of, bound_of, reads_of, lacks_of, IsSumOf, AddsReply, IsSumBefore}
+use Rattle.load_sums.specs.Sums.{hits_of, told_bound, reads_of, lacks_of, IsSumOf, AddsReply, IsSumBefore}
 use Rattle.load_sums.specs.declared.sums.Sums.{Sums}
 
 -- a line ends at the first feed
@@ -66,7 +66,7 @@ one_added said rest line after old new plain some cut adds (this ∷ others) hel
     let more = adds this written at.0 in
     let before : IsSumBefore said (this ∷ others) old = held.2 in
     let of_hits : sum_by hits_of (this ∷ others) ≡ hits_of this + sum_by hits_of others = sum_by-cons hits_of this others in
-    let of_bound : sum_by bound_of (this ∷ others) ≡ bound_of this + sum_by bound_of others = sum_by-cons bound_of this others in
+    let of_bound : sum_by told_bound (this ∷ others) ≡ told_bound this + sum_by told_bound others = sum_by-cons told_bound this others in
     let of_reads : sum_by reads_of (this ∷ others) ≡ reads_of this + sum_by reads_of others = sum_by-cons reads_of this others in
     let of_lacks : sum_by lacks_of (this ∷ others) ≡ lacks_of this + sum_by lacks_of others = sum_by-cons lacks_of this others in (
       others,

@@ -9,9 +9,9 @@ hits_of (Hit tag dist key) = 1
 hits_of reply = 0
 
 -- the bound that `cost` tells
-abbrev pub bound_of : LineReply → ℕ
-bound_of (Cost tag reads bound) = bound
-bound_of reply = 0
+abbrev pub told_bound : LineReply → ℕ
+told_bound (Cost tag reads bound) = bound
+told_bound reply = 0
 
 -- the postings read that `cost` tells
 abbrev pub reads_of : LineReply → ℕ
@@ -26,20 +26,20 @@ lacks_of reply = 0
 -- the sums of replies, none of which is that there was no memory
 pub record IsSumOf (replies : List LineReply) (sums : Sums) : Type 0 where
   pub hits : sums.hits ≡ sum_by hits_of replies
-  pub bound : sums.bound ≡ sum_by bound_of replies
+  pub bound : sums.bound ≡ sum_by told_bound replies
   pub reads : sums.reads ≡ sum_by reads_of replies
   pub none_lacks : sum_by lacks_of replies ≡ 0
 
 -- the sums with one reply more, which isn't that there was no memory
 pub record AddsReply (reply : LineReply) (old new : Sums) : Type 0 where
   pub hits : new.hits ≡ old.hits + hits_of reply
-  pub bound : new.bound ≡ old.bound + bound_of reply
+  pub bound : new.bound ≡ old.bound + told_bound reply
   pub reads : new.reads ≡ old.reads + reads_of reply
   pub not_lacks : lacks_of reply ≡ 0
 
 -- replies of which these are left to add, with the sums of the others
 pub record IsSumBefore (replies left : List LineReply) (sums : Sums) : Type 0 where
   pub hits : sums.hits + sum_by hits_of left ≡ sum_by hits_of replies
-  pub bound : sums.bound + sum_by bound_of left ≡ sum_by bound_of replies
+  pub bound : sums.bound + sum_by told_bound left ≡ sum_by told_bound replies
   pub reads : sums.reads + sum_by reads_of left ≡ sum_by reads_of replies
   pub none_lacks : sum_by lacks_of left ≡ sum_by lacks_of replies

@@ -20,7 +20,7 @@ use Rattle.versioned_shard.proofs.AlongLemmas.{follows_relaid, position_is, vers
 use Rattle.versioned_shard.proofs.RuleLemmas.{advances, given_is, has_there, rule_begins, rule_swapped}
 use Rattle.world_model.specs.Events.{Setting, IsLayoutFor}
 use Rattle.world_model.specs.WorldState.{ShardWithBuild, WorldQuery, Rebuild, front_on, live_fronts, pinned_version}
-use Rattle.world_model.specs.Sound.{IsBuild, IsOfShard, KeepsShard, KeepsOlder}
+use Rattle.world_model.specs.Sound.{IsBuild, IsShardVersion, KeepsShard, KeepsOlder}
 
 -- codes of so many bits stay as they are where they are cut to these
 cut_same : (bits : ℕ) (operation : Operation) → AddsCode bits operation → cut_operation bits operation ≡ operation
@@ -50,9 +50,9 @@ module _ (z : Setting) (history : List JournalEntry) (queries : List WorldQuery)
     abbrev front : FrontState
     front = front_on history query older
 
-    still_of_shard : IsOfShard z shard (advanced front place.shard).current
+    still_of_shard : IsShardVersion z shard (advanced front place.shard).current
     still_of_shard = cond_both (nat_lt place.shard.current.at (position_of front)) (further front place.shard) place.shard
-        (λ after. IsOfShard z shard after.current)
+        (λ after. IsShardVersion z shard after.current)
         (λ behind. record { shard_is = is.of_shard.shard_is; shards_is = is.of_shard.shards_is; layout = is.of_shard.layout })
         (λ there. is.of_shard)
 
@@ -75,16 +75,16 @@ module _ (z : Setting) (history : List JournalEntry) (queries : List WorldQuery)
   -- ---- versions
 
   -- each version of the shard is in a layout of the world's bits
-  pub one_is_laid : (position : ℕ) (version : Contents) → IsOneOf place.shard position version → IsOfShard z shard version
+  pub one_is_laid : (position : ℕ) (version : Contents) → IsOneOf place.shard position version → IsShardVersion z shard version
   one_is_laid position version one =
-      ⊎_elim (λ (current : version ≡ place.shard.current). subst (IsOfShard z shard) (sym current) is.of_shard)
+      ⊎_elim (λ (current : version ≡ place.shard.current). subst (IsShardVersion z shard) (sym current) is.of_shard)
       (λ (among : IsAmong place.shard.kept version). of_kept (among_kept among)) one.among
     where
       among_kept : IsAmong place.shard.kept version → IsKeptVersion history place.shard.current version
       among_kept among = subst (IsKeptVersion history place.shard.current) (sym among.1.1)
           (All-from_recursion (IsKeptVersion history place.shard.current) place.shard.kept is.rule.kept among.0 version among.1.0)
 
-      of_kept : IsKeptVersion history place.shard.current version → IsOfShard z shard version
+      of_kept : IsKeptVersion history place.shard.current version → IsShardVersion z shard version
       of_kept kept = record {
         shard_is = kept.shard_is ∙ is.of_shard.shard_is;
         shards_is = kept.shards_is ∙ is.of_shard.shards_is;

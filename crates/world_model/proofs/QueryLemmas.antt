@@ -11,7 +11,7 @@ use Rattle.hit_source.specs.Sources.{Asked, Standing, IsLawful}
 use Rattle.threshold_model.specs.Bounds.{last_distance}
 use Rattle.scatter_gather.specs.Kept.{IsUpTo}
 use Rattle.world_model.specs.Answering.{next_distance, with_source}
-use Rattle.world_model.specs.Asking.{SourceAsks, Begins}
+use Rattle.world_model.specs.Asking.{SourceAsks, BeginsSource}
 use Rattle.world_model.specs.Events.{Setting, IsLayoutFor, IsQuestion}
 use Rattle.world_model.specs.QuerySteps.{Completes, with_pin}
 use Rattle.world_model.specs.Sound.{IsSource, IsQuery}
@@ -144,7 +144,7 @@ module _ (z : Setting) (history : List JournalEntry) (query : WorldQuery) (is : 
         | inl both ↦ subst (IsLayoutFor z.bits) (sym (same_Some there layout both.1)) laid
       ]
 
-      of_begun : (other : ℕ) (source : Standing) → Begins z history (with_pin query shard layout) other source
+      of_begun : (other : ℕ) (source : Standing) → BeginsSource z history (with_pin query shard layout) other source
           → IsSource z history (record (with_pin query shard layout) { front = None; sources = completes.sources }) other source
       of_begun other source begins = record {
         asked = begins.asked;

@@ -44,7 +44,7 @@ pub record SourceAsks (z : Setting) (history : List JournalEntry) (query : World
   pub asks : AsksOf z.room (pinned_version z history query shard layout) query.ask a
 
 -- a source that has done nothing yet: its units of work are at most those of the question
-pub record Begins (z : Setting) (history : List JournalEntry) (query : WorldQuery) (shard : ℕ)
+pub record BeginsSource (z : Setting) (history : List JournalEntry) (query : WorldQuery) (shard : ℕ)
     (source : Standing) : Type 0 where
   pub asked : Asked
   pub asks : SourceAsks z history query shard asked

@@ -9,7 +9,7 @@ use Rattle.commit_journal.specs.Fronts.{ArePositionsInOrder, StandsAt, has_posit
 use Rattle.versioned_shard.specs.Shards.{IsOneOf}
 use Rattle.world_model.specs.declared.told.Told.{Told}
 use Rattle.world_model.specs.declared.told.Told.TheVariants as told
-use Rattle.world_model.specs.Asking.{Begins}
+use Rattle.world_model.specs.Asking.{BeginsSource}
 use Rattle.world_model.specs.Events.{Setting}
 use Rattle.world_model.specs.WorldState.{WorldState, ShardWithBuild, WorldQuery, live_fronts, fresh_query, unpinned, with_query}
 use Rattle.world_model.specs.ShardSteps.{Advances}
@@ -30,11 +30,11 @@ pub record OpensAtEnd (z : Setting) (s : WorldState) (ask : Ask) (said : Told)
   pub said_is : said ≡ told.Opened (length s.queries) (length s.history)
 
 -- a source for each shard, of which nothing was read, given or begun
-pub record AreBegun (z : Setting) (history : List JournalEntry) (query : WorldQuery)
+pub record AreSourcesBegun (z : Setting) (history : List JournalEntry) (query : WorldQuery)
     (sources : List Standing) : Type 0 where
   pub number : length sources ≡ z.shards
   pub each : (shard : ℕ) (source : Standing) → slice_get sources shard ≡ Some source
-      → Begins z history query shard source
+      → BeginsSource z history query shard source
 
 -- the query with a layout pinned on a shard
 abbrev pub with_pin : WorldQuery → ℕ → Laid → WorldQuery
@@ -47,7 +47,7 @@ pub record Completes (z : Setting) (history : List JournalEntry) (query after : 
   pub sources : List Standing
   pub after_is : after ≡ (if nat_lt 0 (unpinned query) then query
       else record query { front = None; sources = sources })
-  pub are_begun : unpinned query ≡ 0 → AreBegun z history query sources
+  pub are_begun : unpinned query ≡ 0 → AreSourcesBegun z history query sources
 
 -- the shard is brought to the query's front, and the version there is pinned
 pub record PinsAtFront (z : Setting) (s : WorldState) (number shard : ℕ) (query after : WorldQuery)

@@ -17,7 +17,7 @@ use Rattle.world_model.specs.Events.{Setting, IsLayoutFor, IsQuestion}
 use Rattle.world_model.specs.WorldState.{WorldState, ShardWithBuild, WorldQuery, Rebuild, answer_on, front_on, live_fronts, unpinned}
 
 -- a version of one of the world's shards
-pub record IsOfShard (z : Setting) (shard : ℕ) (version : Contents) : Type 0 where
+pub record IsShardVersion (z : Setting) (shard : ℕ) (version : Contents) : Type 0 where
   pub shard_is : version.shard ≡ shard
   pub shards_is : version.shards ≡ z.shards
   pub layout : IsLayoutFor z.bits version.layout
@@ -25,7 +25,7 @@ pub record IsOfShard (z : Setting) (shard : ℕ) (version : Contents) : Type 0 w
 -- a build of a shard has the shard's rows of a prefix of the history, and so many aren't placed
 pub record IsBuild (z : Setting) (history : List JournalEntry) (shard : ℕ) (build : Rebuild)
     : Type 0 where
-  pub of_shard : IsOfShard z shard build.version
+  pub of_shard : IsShardVersion z shard build.version
   pub within : build.version.at ≤ length history
   pub follows : Follows history build.version
   pub few : build.left ≤ length build.version.rows
@@ -35,7 +35,7 @@ pub record IsBuild (z : Setting) (history : List JournalEntry) (shard : ℕ) (bu
 pub record KeepsShard (z : Setting) (history : List JournalEntry) (queries : List WorldQuery)
     (shard : ℕ) (place : ShardWithBuild) : Type 0 where
   pub rule : KeepsRule (live_fronts queries) history place.shard
-  pub of_shard : IsOfShard z shard place.shard.current
+  pub of_shard : IsShardVersion z shard place.shard.current
   pub build : IfSome place.build (IsBuild z history shard)
 
 -- an open front keeps the rule of older fronts: each live front below it stands in its list
