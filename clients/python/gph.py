@@ -37,8 +37,8 @@ from contextlib import contextmanager
 from typing import Any, Callable, Deque, Dict, Iterable, Iterator, List, NamedTuple, Optional, Sequence, Tuple, Type, Union
 
 __all__ = [
-    "Absent", "Answer", "BadRequest", "Cost", "Ended", "Full", "GphError", "Hit", "Index", "OutOfMemory", "Plan", "Query",
-    "Refused", "SomeRefused", "Taken",
+    "Absent", "Answer", "BadRequest", "Cost", "Ended", "Found", "Full", "GphError", "Hit", "Index", "OtherBuild", "OutOfMemory", "Plan", "Query",
+    "Refused", "RowsLeft", "SomeRefused", "Taken",
 ]
 
 Code = Union[int, bytes, str]
@@ -80,6 +80,17 @@ class Answer(NamedTuple):
 
     hits: List[Hit]
     cost: Cost
+
+
+class Found(NamedTuple):
+    """What a search found: the postings that the samples would read, of the rows looked at, in the shard's layout and in the one found;
+    how many exchanges of two positions lie between them; the number of entries so far; and the text of the layout found."""
+
+    before: int
+    after: int
+    swaps: int
+    entries: int
+    layout: str
 
 
 class GphError(Exception):
@@ -167,6 +178,8 @@ class BadRequest(Refused):
         7: "the query's name is in use",
         8: "there is no such query: it was closed",
         9: "sixteen queries are open: close one",
+        10: "a build goes on already, or none does",
+        11: "the build has rows left to place",
     }
 
     def __init__(self, number: int, word: int = 0) -> None:
@@ -176,6 +189,14 @@ class BadRequest(Refused):
     def __str__(self) -> str:
         place = f" (word {self.word})" if self.word else ""
         return f"bad {self.number}{place}: {self.CAUSES.get(self.number, 'docs/PROTOCOL.md says why')}"
+
+
+class OtherBuild(BadRequest):
+    """There is no build to go on with, or one goes on already and a second isn't begun."""
+
+
+class RowsLeft(BadRequest):
+    """The build has rows left to place, and isn't put in place before that."""
 
 
 class SomeRefused(GphError):
@@ -208,7 +229,8 @@ def _refusal(words: List[bytes]) -> Optional[Refused]:
     if kind == b"nomem":
         return OutOfMemory()
     if kind == b"bad":
-        return BadRequest(*map(int, words[1:]))
+        numbers = [int(word) for word in words[1:]]
+        return {10: OtherBuild, 11: RowsLeft}.get(numbers[0], BadRequest)(*numbers)
     return None
 
 
@@ -437,6 +459,16 @@ def _is_hex(text: str) -> bool:
     return all(digit in "0123456789abcdefABCDEF" for digit in text)
 
 
+def _layout(layout: Union[str, Iterable[Iterable[int]]]) -> bytes:
+    """The text of a layout; raises `ValueError` where it can't be one."""
+    if not isinstance(layout, str):
+        layout = "/".join(",".join(str(_within(position, 0, 999, "a position")) for position in part) for part in layout)
+    # another text could be more words than one, or lines
+    if not layout or not set(layout) <= set("0123456789,/"):
+        raise ValueError(f"{layout!r} is no layout: positions with ',' between them, and parts with '/'")
+    return layout.encode("ascii")
+
+
 def _launcher() -> str:
     """The path of the program: the launcher beside this file or at the top of its repository, or else `gph` on the PATH."""
     here = os.path.dirname(os.path.realpath(__file__))
@@ -514,6 +546,42 @@ class Index:
         """The text of a shard's layout: the positions of a code from 0, `,` between those of a part, `/` between parts. Shards are
         numbered from 0. Raises `BadRequest(6)` where there is no such shard, and `Ended`."""
         return self._met(b"layout %d\n" % _within(shard, 0, 99, "shard"))[2].decode("ascii")
+
+    def repart(self, shard: int, layout: Union[str, Iterable[Iterable[int]]]) -> int:
+        """Begins to build a shard's tables for another layout; the number of rows to be placed. Until `swap` the shard has its old one.
+
+        The layout is the text that `layout` gives, or the positions of each part, from 0 to `bits - 1`: 1 to 64 parts of 1 to 12
+        positions, and every position in one of them, once. It changes no answer, but the postings that a query reads.
+
+        Raises `ValueError` where a number isn't from 0 to 999, or the text is none of digits, `,` and `/`; `BadRequest(5, 3)` where it is
+        no layout of these bits, and `BadRequest(6)` where there is no such shard; `OtherBuild` where a build goes on already;
+        `OutOfMemory` and `Ended`.
+        """
+        return int(self._met(b"repart %d %s\n" % (_within(shard, 0, 99, "shard"), _layout(layout)))[3])
+
+    def build(self, rows: int = TURN) -> int:
+        """Places the build's next rows, 1 to 65,536, or all that are left; how many are left then. Raises `OtherBuild` where no build goes
+        on, and `Ended`."""
+        return int(self._met(b"build %d\n" % _within(rows, 1, TURN, "rows"))[3])
+
+    def swap(self) -> int:
+        """Puts the build in the place of its shard's layout, with all that was added and deleted meanwhile; the number of entries so far.
+        Queries that are open keep the layout that they were opened on.
+
+        Raises `OtherBuild` where no build goes on, `RowsLeft` where rows are left to place, `OutOfMemory`, after which the build stays, and
+        `Ended`.
+        """
+        return self._position(b"swap\n")
+
+    def search(self, shard: int, rounds: int = 8) -> Found:
+        """Looks for a layout in which this index's queries read fewer postings of a shard; `repart` takes what it finds.
+
+        It goes by at most so many rounds, 1 to 8, from the shard's layout on, each of which makes an exchange of two positions that lowers
+        what the last 16 `range` queries with a `tau` of at most 16 would read of the shard's first 64 rows by key. The shard keeps its
+        layout. Raises `BadRequest(6)` where there is no such shard, `OutOfMemory` and `Ended`.
+        """
+        words = self._met(b"search %d %d\n" % (_within(shard, 0, 99, "shard"), _within(rounds, 1, 8, "rounds")))
+        return Found(int(words[3]), int(words[5]), int(words[7]), int(words[9]), words[10].decode("ascii"))
 
     def range(self, code: Code, tau: int) -> List[Hit]:
         """All rows at most `tau` bits from the code, 0 to `bits`, by distance and then by key. Raises what `open_range` does."""

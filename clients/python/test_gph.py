@@ -17,7 +17,9 @@ from contextlib import contextmanager
 from typing import Dict, Iterator, List, Tuple
 
 import gph
-from gph import Absent, BadRequest, Cost, Ended, Full, Hit, Index, OutOfMemory, Plan, SomeRefused, Taken
+from gph import (
+    Absent, BadRequest, Cost, Ended, Found, Full, Hit, Index, OtherBuild, OutOfMemory, Plan, RowsLeft, SomeRefused, Taken,
+)
 
 HERE = os.path.dirname(os.path.realpath(__file__))
 TOP = os.path.dirname(os.path.dirname(HERE))
@@ -116,6 +118,116 @@ class WorkedExamples(unittest.TestCase):
             self.assertEqual((told.exception.number, told.exception.word), (6, 0))
 
 
+class Builds(unittest.TestCase):
+    """What docs/PROTOCOL.md says of another layout for a shard."""
+
+    EVEN_AND_ODD = "0,2,4,6/1,3,5,7"
+
+    def test_a_shard_is_repartitioned_under_an_open_query(self) -> None:
+        with worked() as it:
+            before = it.open_range(0, 3)
+            self.assertEqual((it.repart(0, self.EVEN_AND_ODD), it.build(9), it.swap()), (4, 0, 4))
+            self.assertEqual(list(before), [Hit(0, 1), Hit(1, 4)])
+            after = it.open_range(0, 3)
+            self.assertEqual(list(after), [Hit(0, 1), Hit(1, 4)])
+            self.assertEqual((before.plan(0), after.plan(0)), (Plan(2, (-1, 3)), Plan(3, (-1, 3))))
+            self.assertEqual(it.layout(0), self.EVEN_AND_ODD)
+
+    def test_a_repartition_reads_fewer_postings(self) -> None:
+        with index(bits=8, parts=2, shards=1) as it:
+            it.add_many(enumerate((16 * one + other for one in (0, 1, 4, 5) for other in (0, 1, 4, 5)), 1))
+            nearest = [Hit(0, 1), Hit(1, 2), Hit(1, 3), Hit(1, 5), Hit(1, 9)]
+            first = next(it.range_many([0], 1))
+            self.assertEqual((first.hits, first.cost), (nearest, Cost(8, 8)))
+            self.assertEqual((it.repart(0, [range(0, 8, 2), range(1, 8, 2)]), it.build(9), it.build(), it.swap()), (16, 7, 0, 16))
+            second = next(it.range_many([0], 1))
+            self.assertEqual((second.hits, second.cost), (nearest, Cost(5, 5)))
+
+    def test_a_build_follows_rows_that_are_deleted(self) -> None:
+        with worked() as it:
+            self.assertEqual((it.repart(0, self.EVEN_AND_ODD), it.build(2)), (4, 2))
+            it.delete(1)
+            it.delete(4)
+            it.add(5, 0x02)
+            self.assertEqual(it.build(), 0)
+            it.delete(2)
+            it.add(1, 0x03)
+            self.assertEqual(it.swap(), 9)
+            self.assertEqual(it.range(0x03, 8), scanned({1: 0x03, 3: 0xFF, 5: 0x02}, 0x03))
+
+    def test_a_search_reads_fewer_postings(self) -> None:
+        with index(bits=8, parts=2, shards=1) as it:
+            it.add_many(enumerate((16 * one + other for one in (0, 1, 4, 5) for other in (0, 1, 4, 5)), 1))
+            asked = [(0x00, 1), (0x55, 2)]
+            before = [next(it.range_many([code], tau)) for code, tau in asked]
+            self.assertEqual([answer.cost for answer in before], [Cost(8, 8), Cost(16, 16)])
+            found = it.search(0)
+            self.assertEqual(found, Found(24, 16, 2, 16, "5,1,7,3/4,0,6,2"))
+            self.assertEqual(it.layout(0), "0,1,2,3/4,5,6,7")
+            self.assertEqual((it.repart(0, found.layout), it.build(), it.swap(), it.layout(0)), (16, 0, 16, found.layout))
+            after = [next(it.range_many([code], tau)) for code, tau in asked]
+            self.assertEqual([answer.cost for answer in after], [Cost(5, 5), Cost(11, 11)])
+            self.assertEqual([answer.hits for answer in after], [answer.hits for answer in before])
+
+    def test_a_search_of_fewer_rounds_and_without_samples(self) -> None:
+        with worked() as it:
+            self.assertEqual(it.search(0), Found(0, 0, 0, 4, "0,1,2,3/4,5,6,7"))
+            it.near(0, 2)
+            self.assertEqual(it.search(0, 1), Found(0, 0, 0, 4, "0,1,2,3/4,5,6,7"))
+            self.assertEqual((it.repart(0, "0,1,2,4/3,5,6,7"), it.build(), it.swap()), (4, 0, 4))
+            it.range(0, 3)
+            self.assertEqual(it.search(0, 1), Found(3, 2, 1, 4, "0,1,2,3/4,5,6,7"))
+            for shard, rounds in ((0, 0), (0, 9), (-1, 1), (100, 1)):
+                self.assertRaises(ValueError, it.search, shard, rounds)
+            with self.assertRaises(BadRequest) as told:
+                it.search(1)
+            self.assertEqual((told.exception.number, told.exception.word), (6, 0))
+
+    def test_refusals_of_builds(self) -> None:
+        with worked() as it:
+            self.assertRaises(OtherBuild, it.build)
+            self.assertRaises(OtherBuild, it.swap)
+            self.assertEqual(it.repart(0, self.EVEN_AND_ODD), 4)
+            self.assertRaises(OtherBuild, it.repart, 0, self.EVEN_AND_ODD)
+            self.assertEqual(it.build(1), 3)
+            self.assertRaises(RowsLeft, it.swap)
+            for shard, layout, number in ((1, self.EVEN_AND_ODD, 6), (1, "0", 5), (0, "0,1,2,3/4,5,6", 5), (0, [[0, 999]], 5)):
+                with self.assertRaises(BadRequest, msg=layout) as told:
+                    it.repart(shard, layout)
+                self.assertEqual((told.exception.number, told.exception.word), (number, 3 if number == 5 else 0))
+            self.assertEqual((it.build(), it.swap(), it.layout(0)), (0, 4, self.EVEN_AND_ODD))
+
+    def test_what_can_be_no_layout_is_refused_before_it_is_sent(self) -> None:
+        with worked() as it:
+            for layout in ("", " ", "0 1", "0,1\nquit", "x", "٠", [[-1]], [[1000]], [["0"]], []):
+                self.assertRaises(ValueError, it.repart, 0, layout)
+            for rows in (0, 65_537, -1):
+                self.assertRaises(ValueError, it.build, rows)
+            self.assertRaises(ValueError, it.repart, 100, self.EVEN_AND_ODD)
+            self.assertRaises(OtherBuild, it.build)
+
+    def test_answers_are_those_of_a_scan_on_any_layout(self) -> None:
+        chance = random.Random(64)
+        rows = near_copies(chance, 64, 300)
+        with index(shards=2) as it:
+            it.add_many(rows.items())
+            for shard in (0, 1, 0):
+                positions = chance.sample(range(64), 64)
+                left = it.repart(shard, [positions[at : at + 11] for at in range(0, 64, 11)])
+                self.assertEqual(left, sum(key % 2 == shard for key in rows))
+                while left:
+                    left = it.build(40)
+                    gone, code = chance.choice(sorted(rows)), chance.getrandbits(64)
+                    it.delete(gone)
+                    del rows[gone]
+                    it.add(code, code)
+                    rows[code] = code
+                it.swap()
+                for code in chance.sample(sorted(rows.values()), 5):
+                    self.assertEqual(it.range(code, 20), [hit for hit in scanned(rows, code) if hit.distance <= 20])
+                    self.assertEqual(it.near(code, 10), scanned(rows, code)[:10])
+
+
 class Codes(unittest.TestCase):
     def test_the_three_forms_of_a_code_are_one(self) -> None:
         with index(bits=16) as it:
@@ -198,7 +310,7 @@ class Refusals(unittest.TestCase):
 
     def test_every_exception_tells_its_cause(self) -> None:
         told = [Taken(1, 2), Absent(1, 2), Full(2), OutOfMemory(), BadRequest(5, 3), BadRequest(99), Ended(6), Ended(-9), Ended(77)]
-        for error in [*told, SomeRefused(3, [Full(2)])]:
+        for error in [*told, OtherBuild(10), RowsLeft(11), SomeRefused(3, [Full(2)])]:
             self.assertRegex(str(error), "^[a-z0-9]", repr(error))
             self.assertIsInstance(error, gph.GphError)
 

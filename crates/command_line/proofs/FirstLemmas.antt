@@ -1,11 +1,12 @@
 -- The first word at fault: the words before it alone have no fault, or just that a value is wanting at its place.
 use Rattle.std.proofs.Common.{◌≡◌, ℕ, zero, suc, ◌+◌, ◌-◌, ◌≤◌, ◌⊎◌, inl, inr, Bool, true, false, cond, List, [], ◌∷◌, length, take, Option, Some, None, is_some, Err, refl, sym, ap, ◌∙◌, subst, arith}
-use Rattle.command_line.specs.CommandOptions.{option_named, is_value}
-use Rattle.command_line.specs.CommandWords.{asked_after, or_fault}
+use Rattle.command_line.specs.CommandOptions.{option_of, is_value}
+use Rattle.command_line.specs.CommandWords.{asked_after, options_asked, or_fault}
 use Rattle.command_line.specs.WrittenOptions.{Written, parted, in_one_word, in_two_words, written_options, given, value_fault, option_fault, fault_of_option, fault_or, first_fault, IsNoneBut}
 use Rattle.command_line.specs.Kept.{next_in, after_next}
 use Rattle.command_line.specs.declared.command_option.CommandOption.{CommandOption}
 use Rattle.command_line.proofs.GivenLemmas.{written_one, written_two}
+use Rattle.command_line.specs.declared.command.CommandWord.{CommandWord}
 
 -- a fault is the first one, or there is none and a later one is
 first_is : (fault later : Option ℕ) (place : ℕ) → fault_or fault later ≡ Some place
@@ -57,43 +58,44 @@ one_option before place at parts (Some option) is =
       | inr both ↦ value_at option place at (Some parts.1) both.1
     ]
 
--- what is told is the first fault
-pub told : (before settings : List Written) (place : ℕ) → first_fault before settings ≡ Some place → asked_after before settings ≡ Err place
-told before [] place is = cc
-told before (one ∷ others) place is =
-    elim (first_is (fault_of_option before one) (first_fault (one ∷ before) others) place is) [
-      | inl here ↦ ap (λ (fault : Option ℕ). or_fault fault (asked_after (one ∷ before) others)) here
+-- what is told command end is the first fault
+pub told : (command : CommandWord) (end : ℕ) (before settings : List Written) (place : ℕ) → first_fault command before settings ≡ Some place
+    → asked_after command end before settings ≡ Err place
+told command end before [] place is = cc
+told command end before (one ∷ others) place is =
+    elim (first_is (fault_of_option command before one) (first_fault command (one ∷ before) others) place is) [
+      | inl here ↦ ap (λ (fault : Option ℕ). or_fault fault (asked_after command end (one ∷ before) others)) here
       | inr both ↦
-          ap (λ (fault : Option ℕ). or_fault fault (asked_after (one ∷ before) others)) both.0
-          ∙ told (one ∷ before) others place both.1
+          ap (λ (fault : Option ℕ). or_fault fault (asked_after command end (one ∷ before) others)) both.0
+          ∙ told command end (one ∷ before) others place both.1
     ]
 
 -- the words before a place, the first of them at another, have no fault, or just one at that place
-abbrev CutsAt : List Written → ℕ → List (List ℕ) → ℕ → Type 0
-CutsAt before first words place =
-    (first ≤ place) × IsNoneBut place (first_fault before (written_options first (take (place - first) words)))
+abbrev CutsAt : CommandWord → List Written → ℕ → List (List ℕ) → ℕ → Type 0
+CutsAt command before first words place =
+    (first ≤ place) × IsNoneBut place (first_fault command before (written_options first (take (place - first) words)))
 
 -- no words stand before the first
-at_first : (before : List Written) (first place : ℕ) (words : List (List ℕ)) → first ≡ place → CutsAt before first words place
-at_first before first place words same =
+at_first : (command : CommandWord) (before : List Written) (first place : ℕ) (words : List (List ℕ)) → first ≡ place → CutsAt command before first words place
+at_first command before first place words same =
     let none : place - first ≡ 0 = omega (arith, same) in
-    let whole : first_fault before (written_options first (take (place - first) words)) ≡ None =
-    ap (λ n. first_fault before (written_options first (take n words))) none in
+    let whole : first_fault command before (written_options first (take (place - first) words)) ≡ None =
+    ap (λ n. first_fault command before (written_options first (take n words))) none in
     (omega (arith, same), subst (IsNoneBut place) (sym whole) tt)
 
 -- the words after an option in one word
-after_one : (before : List Written) (first place : ℕ) (word : List ℕ) (texts : List (List ℕ)) (parts : List ℕ × List ℕ)
-    → parted word ≡ Some parts → fault_of_option before (in_one_word first parts) ≡ None
-    → CutsAt (in_one_word first parts ∷ before) (first + 1) texts place → CutsAt before first (word ∷ texts) place
-after_one before first place word texts parts has none cut =
+after_one : (command : CommandWord) (before : List Written) (first place : ℕ) (word : List ℕ) (texts : List (List ℕ)) (parts : List ℕ × List ℕ)
+    → parted word ≡ Some parts → fault_of_option command before (in_one_word first parts) ≡ None
+    → CutsAt command (in_one_word first parts ∷ before) (first + 1) texts place → CutsAt command before first (word ∷ texts) place
+after_one command before first place word texts parts has none cut =
     let one = in_one_word first parts in
     let left = place - (first + 1) in
     let more : place - first ≡ suc left = omega (arith, cut.0) in
-    let same : first_fault before (written_options first (take (place - first) (word ∷ texts)))
-    ≡ first_fault (one ∷ before) (written_options (first + 1) (take left texts)) =
-    ap (λ n. first_fault before (written_options first (take n (word ∷ texts)))) more
-    ∙ ap (first_fault before) (written_one first word (take left texts) parts has)
-    ∙ after_none (fault_of_option before one) (first_fault (one ∷ before) (written_options (first + 1) (take left texts))) none in
+    let same : first_fault command before (written_options first (take (place - first) (word ∷ texts)))
+    ≡ first_fault command (one ∷ before) (written_options (first + 1) (take left texts)) =
+    ap (λ n. first_fault command before (written_options first (take n (word ∷ texts)))) more
+    ∙ ap (first_fault command before) (written_one first word (take left texts) parts has)
+    ∙ after_none (fault_of_option command before one) (first_fault command (one ∷ before) (written_options (first + 1) (take left texts))) none in
     (omega (arith, cut.0), subst (IsNoneBut place) (sym same) cut.1)
 
 -- the next of some first words, and those after it
@@ -111,11 +113,11 @@ rest_fits [] = omega arith
 rest_fits (text ∷ texts) = omega arith
 
 -- the words after an option in two words
-after_two : (before : List Written) (first place : ℕ) (word : List ℕ) (texts : List (List ℕ)) → parted word ≡ None
-    → fault_of_option before (in_two_words first word (next_in texts)) ≡ None
-    → CutsAt (in_two_words first word (next_in texts) ∷ before) (first + 2) (after_next texts) place
-    → CutsAt before first (word ∷ texts) place
-after_two before first place word texts has none cut =
+after_two : (command : CommandWord) (before : List Written) (first place : ℕ) (word : List ℕ) (texts : List (List ℕ)) → parted word ≡ None
+    → fault_of_option command before (in_two_words first word (next_in texts)) ≡ None
+    → CutsAt command (in_two_words first word (next_in texts) ∷ before) (first + 2) (after_next texts) place
+    → CutsAt command before first (word ∷ texts) place
+after_two command before first place word texts has none cut =
     let one = in_two_words first word (next_in texts) in
     let left = place - (first + 2) in
     let more : place - first ≡ suc (suc left) = omega (arith, cut.0) in
@@ -123,64 +125,67 @@ after_two before first place word texts has none cut =
     let next : in_two_words first word (next_in front) ≡ one = ap (in_two_words first word) (next_taken left texts) in
     let rest : written_options (first + 2) (after_next front) ≡ written_options (first + 2) (take left (after_next texts)) =
     ap (written_options (first + 2)) (rest_taken left texts) in
-    let same : first_fault before (written_options first (take (place - first) (word ∷ texts)))
-    ≡ first_fault (one ∷ before) (written_options (first + 2) (take left (after_next texts))) =
-    ap (λ n. first_fault before (written_options first (take n (word ∷ texts)))) more
-    ∙ ap (first_fault before) (written_two first word front has)
-    ∙ ap (λ (w : Written). first_fault before (w ∷ written_options (first + 2) (after_next front))) next
-    ∙ ap (λ (others : List Written). first_fault before (one ∷ others)) rest
-    ∙ after_none (fault_of_option before one) (first_fault (one ∷ before) (written_options (first + 2) (take left (after_next texts)))) none in
+    let same : first_fault command before (written_options first (take (place - first) (word ∷ texts)))
+    ≡ first_fault command (one ∷ before) (written_options (first + 2) (take left (after_next texts))) =
+    ap (λ n. first_fault command before (written_options first (take n (word ∷ texts)))) more
+    ∙ ap (first_fault command before) (written_two first word front has)
+    ∙ ap (λ (w : Written). first_fault command before (w ∷ written_options (first + 2) (after_next front))) next
+    ∙ ap (λ (others : List Written). first_fault command before (one ∷ others)) rest
+    ∙ after_none (fault_of_option command before one) (first_fault command (one ∷ before) (written_options (first + 2) (take left (after_next texts)))) none in
     (omega (arith, cut.0), subst (IsNoneBut place) (sym same) cut.1)
 
 -- an option in two words that is at fault by its value
-at_value : (before : List Written) (first place : ℕ) (word : List ℕ) (texts : List (List ℕ)) → parted word ≡ None → first + 1 ≡ place
-    → fault_of_option before (in_two_words first word None) ≡ Some place → CutsAt before first (word ∷ texts) place
-at_value before first place word texts has here is =
+at_value : (command : CommandWord) (before : List Written) (first place : ℕ) (word : List ℕ) (texts : List (List ℕ)) → parted word ≡ None → first + 1 ≡ place
+    → fault_of_option command before (in_two_words first word None) ≡ Some place → CutsAt command before first (word ∷ texts) place
+at_value command before first place word texts has here is =
     let more : place - first ≡ 1 = omega (arith, here) in
-    let same : first_fault before (written_options first (take (place - first) (word ∷ texts))) ≡ Some place =
-    ap (λ n. first_fault before (written_options first (take n (word ∷ texts)))) more
-    ∙ ap (first_fault before) (written_two first word [] has)
+    let same : first_fault command before (written_options first (take (place - first) (word ∷ texts))) ≡ Some place =
+    ap (λ n. first_fault command before (written_options first (take n (word ∷ texts)))) more
+    ∙ ap (first_fault command before) (written_two first word [] has)
     ∙ ap (λ (fault : Option ℕ). fault_or fault None) is in
     (omega (arith, here), subst (IsNoneBut place) (sym same) refl)
 
 -- the words from a word on, where it is cut or not
-word_cut : (size place : ℕ) → ((words : List (List ℕ)) (before : List Written) (first : ℕ) → length words ≤ size
-    → first_fault before (written_options first words) ≡ Some place → CutsAt before first words place)
+word_cut : (command : CommandWord) (size place : ℕ) → ((words : List (List ℕ)) (before : List Written) (first : ℕ) → length words ≤ size
+    → first_fault command before (written_options first words) ≡ Some place → CutsAt command before first words place)
     → (word : List ℕ) (texts : List (List ℕ)) (before : List Written) (first : ℕ) → length texts ≤ size
-    → first_fault before (written_options first (word ∷ texts)) ≡ Some place → (found : Option (List ℕ × List ℕ)) → parted word ≡ found
-    → CutsAt before first (word ∷ texts) place
-word_cut size place rest word texts before first fits is (Some parts) has =
+    → first_fault command before (written_options first (word ∷ texts)) ≡ Some place → (found : Option (List ℕ × List ℕ)) → parted word ≡ found
+    → CutsAt command before first (word ∷ texts) place
+word_cut command size place rest word texts before first fits is (Some parts) has =
     let one = in_one_word first parts in
-    let split = ap (first_fault before) (written_one first word texts parts has) in
-    elim (first_is (fault_of_option before one) (first_fault (one ∷ before) (written_options (first + 1) texts)) place (sym split ∙ is)) [
-      | inl here ↦ at_first before first place (word ∷ texts) (one_option before first place parts (option_named one.name) here)
+    let split = ap (first_fault command before) (written_one first word texts parts has) in
+    elim (first_is (fault_of_option command before one) (first_fault command (one ∷ before) (written_options (first + 1) texts)) place (sym split ∙ is)) [
+      | inl here ↦ at_first command before first place (word ∷ texts) (one_option before first place parts (option_of command one.name) here)
       | inr both ↦
-          after_one before first place word texts parts has both.0 (rest texts (one ∷ before) (first + 1) fits both.1)
+          after_one command before first place word texts parts has both.0 (rest texts (one ∷ before) (first + 1) fits both.1)
     ]
-word_cut size place rest word texts before first fits is None has =
+word_cut command size place rest word texts before first fits is None has =
     let one = in_two_words first word (next_in texts) in
-    let split = ap (first_fault before) (written_two first word texts has) in
-    let later = first_fault (one ∷ before) (written_options (first + 2) (after_next texts)) in
-    elim (first_is (fault_of_option before one) later place (sym split ∙ is)) [
+    let split = ap (first_fault command before) (written_two first word texts has) in
+    let later = first_fault command (one ∷ before) (written_options (first + 2) (after_next texts)) in
+    elim (first_is (fault_of_option command before one) later place (sym split ∙ is)) [
       | inl here ↦
-          elim (cut_option before first place word (next_in texts) (option_named word) here) [
-            | inl same ↦ at_first before first place (word ∷ texts) same
-            | inr both ↦ at_value before first place word texts has both.0 both.1
+          elim (cut_option before first place word (next_in texts) (option_of command word) here) [
+            | inl same ↦ at_first command before first place (word ∷ texts) same
+            | inr both ↦ at_value command before first place word texts has both.0 both.1
           ]
       | inr both ↦
-          after_two before first place word texts has both.0
+          after_two command before first place word texts has both.0
           (rest (after_next texts) (one ∷ before) (first + 2) (omega (arith, fits, rest_fits texts)) both.1)
     ]
 
 -- all words
-pub cuts : (size place : ℕ) (words : List (List ℕ)) (before : List Written) (first : ℕ) → length words ≤ size
-    → first_fault before (written_options first words) ≡ Some place → CutsAt before first words place
-cuts size place [] before first fits is = cc
-cuts zero place (word ∷ texts) before first fits is = absurd (omega (arith, fits))
-cuts (suc size) place (word ∷ texts) before first fits is =
-    word_cut size place (cuts size place) word texts before first (omega (arith, fits)) is (parted word) refl
+pub cuts : (command : CommandWord) (size place : ℕ) (words : List (List ℕ)) (before : List Written) (first : ℕ) → length words ≤ size
+    → first_fault command before (written_options first words) ≡ Some place → CutsAt command before first words place
+cuts command size place [] before first fits is = cc
+cuts command zero place (word ∷ texts) before first fits is = absurd (omega (arith, fits))
+cuts command (suc size) place (word ∷ texts) before first fits is =
+    word_cut command size place (cuts command size place) word texts before first (omega (arith, fits)) is (parted word) refl
 
 -- the first fault is told, and the words before it alone have none but that a value is wanting there
-pub first_told : (options : List (List ℕ)) (place : ℕ) → first_fault [] (written_options 2 options) ≡ Some place
-    → (asked_after [] (written_options 2 options) ≡ Err place) × IsNoneBut place (first_fault [] (written_options 2 (take (place - 2) options)))
-first_told options place is = (told [] (written_options 2 options) place is, (cuts (length options) place options [] 2 (omega arith) is).1)
+pub first_told : (command : CommandWord) (options : List (List ℕ)) (place : ℕ) → first_fault command [] (written_options 2 options) ≡ Some place
+    → (options_asked command options ≡ Err place) × IsNoneBut place (first_fault command [] (written_options 2 (take (place - 2) options)))
+first_told command options place is = (
+  told command (length options + 2) [] (written_options 2 options) place is,
+  (cuts command (length options) place options [] 2 (omega arith) is).1,
+)

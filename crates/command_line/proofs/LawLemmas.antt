@@ -1,5 +1,5 @@
 -- What options ask for depends on their names and values alone, and not on their places or their order.
-use Rattle.std.proofs.Common.{◌≡◌, ◌≢◌, ℕ, ◌+◌, ◌/◌, ◌<◌, ◌==◌, Bool, true, false, not, cond, nat_lt, List, [], ◌∷◌, ◌++◌, map, length, take, drop, Option, Some, None, is_some, is_none, unwrap_or, Result, Ok, Err, refl, ap, sym, ◌∙◌, arith, add-one, length-append}
+use Rattle.std.proofs.Common.{◌≡◌, ◌≢◌, ℕ, ◌+◌, ◌/◌, ◌<◌, ◌==◌, Bool, true, false, not, cond, nat_lt, List, [], ◌∷◌, ◌++◌, map, length, take, drop, Option, Some, None, is_some, is_none, unwrap_or, Result, Ok, Err, ok_or, refl, ap, sym, ◌∙◌, arith, add-one, length-append}
 use Rattle.std.specs.List.{prefix_len}
 use Rattle.std.specs.Option.{option_map, option_and_then}
 use Rattle.std.specs.Result.{result_ok}
@@ -7,14 +7,18 @@ use Rattle.std.specs.Str.{bytes_eq}
 use Rattle.std.proofs.lemmas.Bool.{and_parts, lt-ltb, le-ltb, false_from_ne_true}
 use Rattle.std.proofs.lemmas.Slice.Eq.{bytes_eq-Decides}
 use Rattle.part_layout.specs.declared.config.Config.{Config}
-use Rattle.command_line.specs.CommandOptions.{name_of, option_named, number, is_value}
+use Rattle.command_line.specs.CommandOptions.{name_of, option_of, number, is_value}
 use Rattle.part_layout.specs.Contiguous.{can_be_cut}
-use Rattle.command_line.specs.CommandWords.{number_given, number_or, config, parts_for, or_fault, asked_after}
+use Rattle.command_line.specs.CommandWords.{number_given, number_or, config, config_of, parts_for, required, load_of, with_config, config_of_load, or_fault, asked_after, options_asked}
 use Rattle.command_line.specs.WrittenOptions.{Written, parted, has_no_equals, in_one_word, in_two_words, written_options, first_written, others_written, given, value_fault, option_fault, fault_of_option}
 use Rattle.command_line.proofs.OptionLemmas.{named_name}
-use Rattle.command_line.proofs.GivenLemmas.{written_one, written_two}
+use Rattle.command_line.proofs.GivenLemmas.{of_named, written_one, written_two}
 use Rattle.command_line.specs.declared.command_option.CommandOption.{CommandOption}
-use Rattle.command_line.specs.declared.command_option.CommandOption.TheVariants.{Bits, Parts, Shards, Room, Entries, Input}
+use Rattle.command_line.specs.declared.command_option.CommandOption.TheVariants.{Bits, Parts, Shards, Room, Entries, Input, Number, Codes}
+use Rattle.command_line.specs.declared.command.Command.{Command}
+use Rattle.command_line.specs.declared.command.Command.TheVariants as ask
+use Rattle.command_line.specs.declared.command.CommandWord.{CommandWord}
+use Rattle.command_line.specs.declared.command.CommandWord.TheVariants.{Run, Load}
 
 -- an option without its places
 abbrev Bare : Type 0
@@ -39,8 +43,8 @@ option_passes before one None = false
 option_passes before one (Some option) = cond (is_some (bare_given option before)) false (stands option one.1)
 
 -- whether an option has no fault after others
-abbrev passes : List Bare → Bare → Bool
-passes before one = option_passes before one (option_named one.0)
+abbrev passes : CommandWord → List Bare → Bare → Bool
+passes command before one = option_passes before one (option_of command one.0)
 
 -- the number of a value that may be missing
 abbrev number_in : CommandOption → Option (List ℕ) → Option ℕ
@@ -75,10 +79,31 @@ bare_session bits before parts = record {
 abbrev bare_config : ℕ → List Bare → Option (Option (List ℕ)) → Option Config
 bare_config bits before found = option_map (bare_session bits before) (bare_parts bits found)
 
+-- a number that an option has to be given, if it was
+abbrev bare_required : CommandOption → Option (Option (List ℕ)) → Option ℕ
+bare_required option found = option_and_then (number_in option) found
+
+-- a workload of a number and so many codes, if both were given
+abbrev bare_load : Config → Option ℕ → Option ℕ → Option Command
+bare_load config None codes = None
+bare_load config (Some number) None = None
+bare_load config (Some number) (Some codes) = Some (ask.Load config number codes)
+
+-- what a command asks for
+abbrev bare_with : CommandWord → List Bare → Config → Option Command
+bare_with Run before config = Some (ask.Run config)
+bare_with Load before config =
+    bare_load (config_of_load config) (bare_required Number (bare_given Number before)) (bare_required Codes (bare_given Codes before))
+
+-- what a command asks for, where the numbers of a session can be had
+abbrev bare_command : CommandWord → List Bare → Option Config → Option Command
+bare_command command before found = option_and_then (bare_with command before) found
+
 -- what options ask for that are written after others, without their places
-abbrev bare_asked : List Bare → List Bare → Option Config
-bare_asked before [] = bare_config (bare_number Bits 64 (bare_given Bits before)) before (bare_given Parts before)
-bare_asked before (one ∷ others) = cond (passes before one) (bare_asked (one ∷ before) others) None
+abbrev bare_asked : CommandWord → List Bare → List Bare → Option Command
+bare_asked command before [] =
+    bare_command command before (bare_config (bare_number Bits 64 (bare_given Bits before)) before (bare_given Parts before))
+bare_asked command before (one ∷ others) = cond (passes command before one) (bare_asked command (one ∷ before) others) None
 
 -- the value of an option that is found
 abbrev value_of : Option Written → Option (Option (List ℕ))
@@ -128,7 +153,7 @@ named_passes before one (Some option) =
     ∙ ap (λ (old : Bool). cond old false (stands option one.value)) old
 
 -- a result stands where there is no fault
-stood : (fault : Option ℕ) (result : Result Config ℕ) → result_ok (or_fault fault result) ≡ cond (is_none fault) (result_ok result) None
+stood : (fault : Option ℕ) (result : Result Command ℕ) → result_ok (or_fault fault result) ≡ cond (is_none fault) (result_ok result) None
 stood None result = refl
 stood (Some place) result = refl
 
@@ -186,16 +211,60 @@ config_bare : (bits : ℕ) (before : List Written) (found : Option Written)
 config_bare bits before None = ap (λ (one : Config). Some one) (session_bare bits before (bits / 8))
 config_bare bits before (Some one) = parts_by_bare bits before one.value_place (number_given Parts one)
 
--- what options ask for, without their places
-pub asked_bare : (before settings : List Written) → result_ok (asked_after before settings) ≡ bare_asked (map bare before) (map bare settings)
-asked_bare before [] =
+-- the numbers of a session
+session_found : (before : List Written) → result_ok (config_of before)
+    ≡ bare_config (bare_number Bits 64 (bare_given Bits (map bare before))) (map bare before) (bare_given Parts (map bare before))
+session_found before =
     config_bare (number_or Bits 64 before) before (given Parts before)
     ∙ ap (bare_config (number_or Bits 64 before) (map bare before)) (given_bare Parts before)
     ∙ ap (λ (bits : ℕ). bare_config bits (map bare before) (bare_given Parts (map bare before))) (number_or_bare Bits 64 before)
-asked_bare before (one ∷ others) =
-    stood (fault_of_option before one) (asked_after (one ∷ before) others)
-    ∙ ap (λ (passed : Bool). cond passed (result_ok (asked_after (one ∷ before) others)) None) (named_passes before one (option_named one.name))
-    ∙ ap (λ (asked : Option Config). cond (passes (map bare before) (bare one)) asked None) (asked_bare (one ∷ before) others)
+
+-- a number that has to be given
+ok_bare : (number : Option ℕ) (end : ℕ) → result_ok (ok_or number end) ≡ number
+ok_bare None end = refl
+ok_bare (Some number) end = refl
+
+required_bare : (option : CommandOption) (end : ℕ) (before : List Written)
+    → result_ok (required option end before) ≡ bare_required option (bare_given option (map bare before))
+required_bare option end before =
+    ok_bare (option_and_then (number_given option) (given option before)) end
+    ∙ number_bare option (given option before) ∙ ap (bare_required option) (given_bare option before)
+
+-- a workload
+load_bare : (config : Config) (number codes : Result ℕ ℕ) → result_ok (load_of config number codes) ≡ bare_load config (result_ok number) (result_ok codes)
+load_bare config (Err place) codes = refl
+load_bare config (Ok number) (Err place) = refl
+load_bare config (Ok number) (Ok codes) = refl
+
+with_bare : (command : CommandWord) (end : ℕ) (before : List Written) (config : Config)
+    → result_ok (with_config command end before config) ≡ bare_with command (map bare before) config
+with_bare Run end before config = refl
+with_bare Load end before config =
+    load_bare (config_of_load config) (required Number end before) (required Codes end before)
+    ∙ ap (λ (number : Option ℕ). bare_load (config_of_load config) number (result_ok (required Codes end before))) (required_bare Number end before)
+    ∙ ap (bare_load (config_of_load config) (bare_required Number (bare_given Number (map bare before)))) (required_bare Codes end before)
+
+-- what a command asks for once the numbers of a session were judged
+abbrev judged : CommandWord → ℕ → List Written → Result Config ℕ → Result Command ℕ
+judged command end before found =
+    elim found [ Err place ↦ Err place | Ok config ↦ with_config command end before config ]
+
+command_bare : (command : CommandWord) (end : ℕ) (before : List Written) (found : Result Config ℕ)
+    → result_ok (judged command end before found) ≡ bare_command command (map bare before) (result_ok found)
+command_bare command end before (Err place) = refl
+command_bare command end before (Ok config) = with_bare command end before config
+
+-- what options ask for, without their places
+pub asked_bare : (command : CommandWord) (end : ℕ) (before settings : List Written)
+    → result_ok (asked_after command end before settings) ≡ bare_asked command (map bare before) (map bare settings)
+asked_bare command end before [] =
+    command_bare command end before (config_of before)
+    ∙ ap (bare_command command (map bare before)) (session_found before)
+asked_bare command end before (one ∷ others) =
+    stood (fault_of_option command before one) (asked_after command end (one ∷ before) others)
+    ∙ ap (λ (passed : Bool). cond passed (result_ok (asked_after command end (one ∷ before) others)) None)
+    (named_passes before one (option_of command one.name))
+    ∙ ap (λ (asked : Option Command). cond (passes command (map bare before) (bare one)) asked None) (asked_bare command end (one ∷ before) others)
 
 -- options before which give each option the same
 abbrev GivesSame : List Bare → List Bare → Type 0
@@ -218,17 +287,42 @@ config_same : (bits : ℕ) (before other : List Bare) (parts : Option ℕ) → G
 config_same bits before other None same = refl
 config_same bits before other (Some parts) same = ap (λ (one : Config). Some one) (session_same bits before other parts same)
 
--- what was given decides what is asked for
-asked_same : (before other settings : List Bare) → GivesSame before other → bare_asked before settings ≡ bare_asked other settings
-asked_same before other [] same =
+-- the numbers of a session by what was given
+found_same : (before other : List Bare) → GivesSame before other
+    → bare_config (bare_number Bits 64 (bare_given Bits before)) before (bare_given Parts before)
+    ≡ bare_config (bare_number Bits 64 (bare_given Bits other)) other (bare_given Parts other)
+found_same before other same =
     ap (λ (found : Option (Option (List ℕ))). bare_config (bare_number Bits 64 found) before (bare_given Parts before)) (same Bits)
     ∙ ap (bare_config (bare_number Bits 64 (bare_given Bits other)) before) (same Parts)
     ∙ config_same (bare_number Bits 64 (bare_given Bits other)) before other
     (bare_parts (bare_number Bits 64 (bare_given Bits other)) (bare_given Parts other)) same
-asked_same before other (one ∷ others) same =
-    ap (λ (passed : Bool). cond passed (bare_asked (one ∷ before) others) None) (passes_same before other one (option_named one.0) same)
-    ∙ ap (λ (asked : Option Config). cond (passes other one) asked None)
-    (asked_same (one ∷ before) (one ∷ other) others
+
+-- what a command asks for by what was given
+with_same : (command : CommandWord) (before other : List Bare) (config : Config) → GivesSame before other
+    → bare_with command before config ≡ bare_with command other config
+with_same Run before other config same = refl
+with_same Load before other config same =
+    ap (λ (found : Option (Option (List ℕ))). bare_load (config_of_load config) (bare_required Number found) (bare_required Codes (bare_given Codes before)))
+    (same Number)
+    ∙ ap (λ (found : Option (Option (List ℕ))). bare_load (config_of_load config) (bare_required Number (bare_given Number other)) (bare_required Codes found))
+    (same Codes)
+
+command_same : (command : CommandWord) (before other : List Bare) (found : Option Config) → GivesSame before other
+    → bare_command command before found ≡ bare_command command other found
+command_same command before other None same = refl
+command_same command before other (Some config) same = with_same command before other config same
+
+-- what was given decides what is asked for
+asked_same : (command : CommandWord) (before other settings : List Bare) → GivesSame before other
+    → bare_asked command before settings ≡ bare_asked command other settings
+asked_same command before other [] same =
+    ap (bare_command command before) (found_same before other same)
+    ∙ command_same command before other
+    (bare_config (bare_number Bits 64 (bare_given Bits other)) other (bare_given Parts other)) same
+asked_same command before other (one ∷ others) same =
+    ap (λ (passed : Bool). cond passed (bare_asked command (one ∷ before) others) None) (passes_same before other one (option_of command one.0) same)
+    ∙ ap (λ (asked : Option Command). cond (passes command other one) asked None)
+    (asked_same command (one ∷ before) (one ∷ other) others
     (λ option. ap (λ (found : Option (Option (List ℕ))). cond (bytes_eq one.0 (name_of option)) (Some one.1) found) (same option)))
 
 -- a name is not another option's
@@ -236,16 +330,17 @@ not_named : (name : List ℕ) (option : CommandOption) → name ≢ name_of opti
 not_named name option other = false_from_ne_true (bytes_eq name (name_of option)) (λ same. other ((bytes_eq-Decides name (name_of option)).0 same))
 
 -- an option passes whether or not another one comes before it
-passes_after : (before : List Bare) (one other : Bare) (named : Option CommandOption) → option_named other.0 ≡ named → one.0 ≢ other.0
+passes_after : (command : CommandWord) (before : List Bare) (one other : Bare) (named : Option CommandOption) → option_of command other.0 ≡ named
+    → one.0 ≢ other.0
     → option_passes (one ∷ before) other named ≡ option_passes before other named
-passes_after before one other None is differ = refl
-passes_after before one other (Some option) is differ =
-    let same : other.0 ≡ name_of option = named_name other.0 option is in
+passes_after command before one other None is differ = refl
+passes_after command before one other (Some option) is differ =
+    let same : other.0 ≡ name_of option = named_name other.0 option (of_named command other.0 option is) in
     let apart : bytes_eq one.0 (name_of option) ≡ false = not_named one.0 option (λ equal. differ (equal ∙ sym same)) in
     ap (λ (test : Bool). cond (is_some (cond test (Some one.1) (bare_given option before))) false (stands option other.1)) apart
 
 -- two tests in either order
-tests_swap : (first second : Bool) (asked : Option Config) → cond first (cond second asked None) None ≡ cond second (cond first asked None) None
+tests_swap : (first second : Bool) (asked : Option Command) → cond first (cond second asked None) None ≡ cond second (cond first asked None) None
 tests_swap true true asked = refl
 tests_swap true false asked = refl
 tests_swap false true asked = refl
@@ -266,23 +361,23 @@ gives_swap before one other differ = λ option.
     (λ is_other is_one. differ ((bytes_eq-Decides one.0 (name_of option)).0 is_one ∙ sym ((bytes_eq-Decides other.0 (name_of option)).0 is_other)))
 
 -- two options in either order
-bare_swap : (before settings : List Bare) (one other : Bare) → one.0 ≢ other.0
-    → bare_asked before (one ∷ other ∷ settings) ≡ bare_asked before (other ∷ one ∷ settings)
-bare_swap before settings one other differ =
-    ap (λ (test : Bool). cond (passes before one) (cond test (bare_asked (other ∷ one ∷ before) settings) None) None)
-    (passes_after before one other (option_named other.0) refl differ)
-    ∙ ap (λ (asked : Option Config). cond (passes before one) (cond (passes before other) asked None) None)
-    (asked_same (other ∷ one ∷ before) (one ∷ other ∷ before) settings (gives_swap before one other differ))
-    ∙ tests_swap (passes before one) (passes before other) (bare_asked (one ∷ other ∷ before) settings)
-    ∙ ap (λ (test : Bool). cond (passes before other) (cond test (bare_asked (one ∷ other ∷ before) settings) None) None)
-    (sym (passes_after before other one (option_named one.0) refl (λ same. differ (sym same))))
+bare_swap : (command : CommandWord) (before settings : List Bare) (one other : Bare) → one.0 ≢ other.0
+    → bare_asked command before (one ∷ other ∷ settings) ≡ bare_asked command before (other ∷ one ∷ settings)
+bare_swap command before settings one other differ =
+    ap (λ (test : Bool). cond (passes command before one) (cond test (bare_asked command (other ∷ one ∷ before) settings) None) None)
+    (passes_after command before one other (option_of command other.0) refl differ)
+    ∙ ap (λ (asked : Option Command). cond (passes command before one) (cond (passes command before other) asked None) None)
+    (asked_same command (other ∷ one ∷ before) (one ∷ other ∷ before) settings (gives_swap before one other differ))
+    ∙ tests_swap (passes command before one) (passes command before other) (bare_asked command (one ∷ other ∷ before) settings)
+    ∙ ap (λ (test : Bool). cond (passes command before other) (cond test (bare_asked command (one ∷ other ∷ before) settings) None) None)
+    (sym (passes_after command before other one (option_of command one.0) refl (λ same. differ (sym same))))
 
 -- two options in either order, with their places
-pub order_free : (before later : List Written) (one other : Written) → one.name ≢ other.name
-    → result_ok (asked_after before (one ∷ other ∷ later)) ≡ result_ok (asked_after before (other ∷ one ∷ later))
-order_free before later one other differ =
-    asked_bare before (one ∷ other ∷ later) ∙ bare_swap (map bare before) (map bare later) (bare one) (bare other) differ
-    ∙ sym (asked_bare before (other ∷ one ∷ later))
+pub order_free : (command : CommandWord) (end : ℕ) (before later : List Written) (one other : Written) → one.name ≢ other.name
+    → result_ok (asked_after command end before (one ∷ other ∷ later)) ≡ result_ok (asked_after command end before (other ∷ one ∷ later))
+order_free command end before later one other differ =
+    asked_bare command end before (one ∷ other ∷ later) ∙ bare_swap command (map bare before) (map bare later) (bare one) (bare other) differ
+    ∙ sym (asked_bare command end before (other ∷ one ∷ later))
 
 -- a name ends at the first `=`
 name_ends : (name rest : List ℕ) → has_no_equals name ≡ true → prefix_len (λ byte. not (byte == 61)) (name ++ 61 ∷ rest) ≡ length name
@@ -353,14 +448,16 @@ bare_written (word ∷ next ∷ texts) place other =
     ∙ ap (λ (others : List Bare). bare (first_written other word (Some next) (parted word)) ∷ others) rest
 
 -- an option in either form
-pub either_form : (name value : List ℕ) (words : List (List ℕ)) → has_no_equals name ≡ true
-    → result_ok (asked_after [] (written_options 2 ((name ++ 61 ∷ value) ∷ words))) ≡ result_ok (asked_after [] (written_options 2 (name ∷ value ∷ words)))
-either_form name value words plain =
-    let Asked : List Written → Option Config = λ (settings : List Written). result_ok (asked_after [] settings) in
+pub either_form : (command : CommandWord) (name value : List ℕ) (words : List (List ℕ)) → has_no_equals name ≡ true
+    → result_ok (options_asked command ((name ++ 61 ∷ value) ∷ words)) ≡ result_ok (options_asked command (name ∷ value ∷ words))
+either_form command name value words plain =
+    let Asked : ℕ → List Written → Option Command = λ (end : ℕ) (settings : List Written). result_ok (asked_after command end [] settings) in
+    let ends = length ((name ++ 61 ∷ value) ∷ words) + 2 in
+    let ends_two = length (name ∷ value ∷ words) + 2 in
     let one = in_one_word 2 (name, value) in
     let two = in_two_words 2 name (Some value) in
-    ap Asked (written_one 2 (name ++ 61 ∷ value) words (name, value) (parted_joined name value plain))
-    ∙ asked_bare [] (one ∷ written_options 3 words)
-    ∙ ap (λ (others : List Bare). bare_asked [] (bare one ∷ others)) (bare_written words 3 4)
-    ∙ sym (asked_bare [] (two ∷ written_options 4 words))
-    ∙ sym (ap Asked (written_two 2 name (value ∷ words) (parted_none name plain)))
+    ap (Asked ends) (written_one 2 (name ++ 61 ∷ value) words (name, value) (parted_joined name value plain))
+    ∙ asked_bare command ends [] (one ∷ written_options 3 words)
+    ∙ ap (λ (others : List Bare). bare_asked command [] (bare one ∷ others)) (bare_written words 3 4)
+    ∙ sym (asked_bare command ends_two [] (two ∷ written_options 4 words))
+    ∙ sym (ap (Asked ends_two) (written_two 2 name (value ∷ words) (parted_none name plain)))

@@ -1,5 +1,5 @@
--- The options of the command `run`: their names and the numbers that they may be given.
-use Rattle.std.specs.Prelude.{ℕ, ◌%◌, ◌==◌, Bool, if◌then◌else◌, List, codes}
+-- The commands and their options: their names, and the numbers that an option may be given.
+use Rattle.std.specs.Prelude.{ℕ, ◌-◌, ◌^◌, ◌%◌, ◌==◌, Bool, true, false, if◌then◌else◌, List, codes}
 use Rattle.std.specs.Prelude.{Option, Some, None, is_some}
 use Rattle.std.specs.Option.{option_and_then}
 use Rattle.std.specs.Str.{bytes_eq}
@@ -11,6 +11,9 @@ use Rattle.command_line.specs.declared.command_option.CommandOption.{CommandOpti
 use Rattle.command_line.specs.declared.command_option.CommandOption.TheVariants.{Bits, Parts}
 use Rattle.command_line.specs.declared.command_option.CommandOption.TheVariants.{Shards, Room}
 use Rattle.command_line.specs.declared.command_option.CommandOption.TheVariants.{Entries, Input}
+use Rattle.command_line.specs.declared.command_option.CommandOption.TheVariants.{Number, Codes}
+use Rattle.command_line.specs.declared.command.CommandWord.{CommandWord}
+use Rattle.command_line.specs.declared.command.CommandWord.TheVariants.{Run, Load}
 
 -- the name of an option
 abbrev pub name_of : CommandOption → List ℕ
@@ -20,6 +23,8 @@ name_of Shards = codes "--shards"
 name_of Room = codes "--room"
 name_of Entries = codes "--entries"
 name_of Input = codes "--input"
+name_of Number = codes "--number"
+name_of Codes = codes "--codes"
 
 -- the least number that an option may be given
 abbrev pub least : CommandOption → ℕ
@@ -29,6 +34,8 @@ least Shards = 1
 least Room = 1
 least Entries = 1
 least Input = 1
+least Number = 0
+least Codes = 0
 
 -- the greatest number that an option may be given
 abbrev pub greatest : CommandOption → ℕ
@@ -38,6 +45,8 @@ greatest Shards = SHARDS_MOST
 greatest Room = ROOM_MOST
 greatest Entries = ENTRIES_MOST
 greatest Input = INPUT_MOST
+greatest Number = 2 ^ 64 - 1
+greatest Codes = ENTRIES_MOST
 
 -- the option that a name names
 abbrev pub option_named : List ℕ → Option CommandOption
@@ -47,7 +56,31 @@ option_named name =
     if bytes_eq name (name_of Shards) then Some Shards else
     if bytes_eq name (name_of Room) then Some Room else
     if bytes_eq name (name_of Entries) then Some Entries else
-    if bytes_eq name (name_of Input) then Some Input else None
+    if bytes_eq name (name_of Input) then Some Input else
+    if bytes_eq name (name_of Number) then Some Number else
+    if bytes_eq name (name_of Codes) then Some Codes else None
+
+-- the command that a word names
+abbrev pub command_named : List ℕ → Option CommandWord
+command_named word =
+    if bytes_eq word (codes "run") then Some Run else
+    if bytes_eq word (codes "load") then Some Load else None
+
+-- whether an option may stand after a command
+abbrev pub has_option : CommandWord → CommandOption → Bool
+has_option Run Number = false
+has_option Run Codes = false
+has_option Load Entries = false
+has_option Load Input = false
+has_option command option = true
+
+-- an option, where it may stand after a command
+abbrev pub if_allowed : CommandWord → CommandOption → Option CommandOption
+if_allowed command option = if has_option command option then Some option else None
+
+-- the option of a command that a name names
+abbrev pub option_of : CommandWord → List ℕ → Option CommandOption
+option_of command name = option_and_then (if_allowed command) (option_named name)
 
 -- a multiple of eight
 abbrev pub multiple_of_8 : ℕ → Option ℕ

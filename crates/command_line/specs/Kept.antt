@@ -1,6 +1,6 @@
 -- How the reader keeps what the options were given. No public clause cites this module.
 use Rattle.std.specs.Prelude.{◌≡◌, ℕ, ◌+◌, ◌/◌, ◌%◌, ◌≤◌, if◌then◌else◌, List, [], ◌∷◌}
-use Rattle.std.specs.Prelude.{Option, Some, None, IfSome, unwrap_or, Result, Ok, Err}
+use Rattle.std.specs.Prelude.{Option, Some, None, IfSome, unwrap_or, Result, Ok, Err, ok_or}
 use Rattle.std.specs.Option.{option_map, option_and_then}
 use Rattle.hamming_model.specs.declared.limits.TheConstants.{BITS_MOST}
 use Rattle.part_layout.specs.Contiguous.{can_be_cut}
@@ -11,6 +11,8 @@ use Rattle.command_line.specs.declared.command_option.CommandOption.{CommandOpti
 use Rattle.command_line.specs.declared.command_option.CommandOption.TheVariants.{Bits, Parts}
 use Rattle.command_line.specs.declared.command_option.CommandOption.TheVariants.{Shards, Room}
 use Rattle.command_line.specs.declared.command_option.CommandOption.TheVariants.{Entries, Input}
+use Rattle.command_line.specs.declared.command_option.CommandOption.TheVariants.{Number, Codes}
+use Rattle.command_line.specs.declared.command.CommandWord.{CommandWord}
 use Rattle.command_line.specs.declared.given.GivenNumber.{GivenNumber}
 use Rattle.command_line.specs.declared.given.Given.{Given}
 
@@ -30,6 +32,8 @@ entry_at Shards given = given.shards
 entry_at Room given = given.room
 entry_at Entries given = given.entries
 entry_at Input given = given.input
+entry_at Number given = given.number
+entry_at Codes given = given.codes
 
 -- what is kept once an option is given
 abbrev pub put : CommandOption → GivenNumber → Given → Given
@@ -39,6 +43,8 @@ put Shards entry given = record given { shards = Some entry }
 put Room entry given = record given { room = Some entry }
 put Entries entry given = record given { entries = Some entry }
 put Input entry given = record given { input = Some entry }
+put Number entry given = record given { number = Some entry }
+put Codes entry given = record given { codes = Some entry }
 
 -- the number of an entry, or else a default
 abbrev pub entry_number_or : ℕ → Option GivenNumber → ℕ
@@ -63,7 +69,7 @@ present (Some entry) = 1
 abbrev pub size : Given → ℕ
 size given =
     present given.bits + present given.parts + present given.shards + present given.room
-    + present given.entries + present given.input
+    + present given.entries + present given.input + present given.number + present given.codes
 
 -- what is kept of the options
 abbrev pub options_kept : List Written → Given
@@ -74,11 +80,19 @@ options_kept settings = record {
   room = entry_in Room settings;
   entries = entry_in Entries settings;
   input = entry_in Input settings;
+  number = entry_in Number settings;
+  codes = entry_in Codes settings;
 }
 
 -- what is kept after one more option, or its fault
-abbrev pub kept_after : List Written → Written → Result Given ℕ
-kept_after before one = or_fault (fault_of_option before one) (Ok (options_kept (one ∷ before)))
+abbrev pub kept_after : CommandWord → List Written → Written → Result Given ℕ
+kept_after command before one =
+    or_fault (fault_of_option command before one) (Ok (options_kept (one ∷ before)))
+
+-- the number of an entry, or else a place
+abbrev pub entry_number_at : ℕ → Option GivenNumber → Result ℕ ℕ
+entry_number_at place entry =
+    ok_or (option_and_then (λ options_kept. options_kept.number) entry) place
 
 -- a number that an option may be given
 abbrev pub IsNumberOf : CommandOption → ℕ → Type 0

@@ -1,4 +1,5 @@
 pub mod CommandOptions
 pub mod WrittenOptions
 pub mod CommandWords
+pub mod Commands
 pub mod Kept

@@ -4,8 +4,9 @@ use Rattle.std.specs.Prelude.{take, drop, position, Option, Some, None, is_some}
 use Rattle.std.specs.List.{list_all}
 use Rattle.std.specs.Option.{option_map}
 use Rattle.std.specs.Str.{bytes_eq}
-use Rattle.command_line.specs.CommandOptions.{name_of, option_named, is_value}
+use Rattle.command_line.specs.CommandOptions.{name_of, option_of, is_value}
 use Rattle.command_line.specs.declared.command_option.CommandOption.{CommandOption}
+use Rattle.command_line.specs.declared.command.CommandWord.{CommandWord}
 
 -- an option as it is written: its name with its place, and its value with its own, if there is one
 pub record Written : Type 0 where
@@ -74,9 +75,10 @@ option_fault before one (Some option) =
     if is_some (given option before) then Some one.place
     else value_fault option one.value_place one.value
 
--- the fault of an option after others: it is unknown or given before, or its value bad or missing
-abbrev pub fault_of_option : List Written → Written → Option ℕ
-fault_of_option before one = option_fault before one (option_named one.name)
+-- the fault of an option of a command after others: the command has no such option, or it was given
+-- before, or its value is bad or missing
+abbrev pub fault_of_option : CommandWord → List Written → Written → Option ℕ
+fault_of_option command before one = option_fault before one (option_of command one.name)
 
 -- a fault, or where there is none another one
 abbrev pub fault_or : Option ℕ → Option ℕ → Option ℕ
@@ -84,14 +86,14 @@ fault_or (Some place) later = Some place
 fault_or None later = later
 
 -- the place of the first option at fault, of those written after others
-abbrev pub first_fault : List Written → List Written → Option ℕ
-first_fault before [] = None
-first_fault before (one ∷ others) =
-    fault_or (fault_of_option before one) (first_fault (one ∷ before) others)
+abbrev pub first_fault : CommandWord → List Written → List Written → Option ℕ
+first_fault command before [] = None
+first_fault command before (one ∷ others) =
+    fault_or (fault_of_option command before one) (first_fault command (one ∷ before) others)
 
--- the place at which words after the command, read from left to right, are first at fault
-abbrev pub fault_in : List (List ℕ) → Option ℕ
-fault_in words = first_fault [] (written_options 2 words)
+-- the place at which words after a command, read from left to right, are first at fault
+abbrev pub fault_in : CommandWord → List (List ℕ) → Option ℕ
+fault_in command words = first_fault command [] (written_options 2 words)
 
 -- no fault, or just the one at this place
 abbrev pub IsNoneBut : ℕ → Option ℕ → Type 0

@@ -1,4 +1,4 @@
-//! The options of the command `run`.
+//! The options of the commands.
 
 ghost use Rattle.std.specs.Prelude.{◌≡◌};
 ghost use Rattle.command_line.specs.CommandOptions.{option_named, least, greatest, number, is_value};
@@ -34,6 +34,10 @@ pub enum CommandOption {
     Entries,
     /// The most bytes of a session's input.
     Input,
+    /// The number from which a workload is drawn.
+    Number,
+    /// The codes of a workload.
+    Codes,
 }
 
 impl CommandOption {
@@ -59,6 +63,12 @@ impl CommandOption {
         if name == b"--input".as_slice() {
             return Some(CommandOption::Input);
         }
+        if name == b"--number".as_slice() {
+            return Some(CommandOption::Number);
+        }
+        if name == b"--codes".as_slice() {
+            return Some(CommandOption::Codes);
+        }
         None
     }
 
@@ -73,6 +83,8 @@ impl CommandOption {
             CommandOption::Room => 1,
             CommandOption::Entries => 1,
             CommandOption::Input => 1,
+            CommandOption::Number => 0,
+            CommandOption::Codes => 0,
         }
     }
 
@@ -87,6 +99,8 @@ impl CommandOption {
             CommandOption::Room => ROOM_MOST as u64,
             CommandOption::Entries => ENTRIES_MOST,
             CommandOption::Input => INPUT_MOST,
+            CommandOption::Number => u64::MAX,
+            CommandOption::Codes => ENTRIES_MOST,
         }
     }
 

@@ -2,49 +2,48 @@
 
 ghost use Rattle.std.specs.Prelude.{◌≡◌, ◌==◌, ◌<◌, ◌-◌, [], length, map, position, string_bytes, option_copied, IfSome, IfOk};
 ghost use Rattle.std.specs.Option.{option_map};
-ghost use Rattle.part_layout.specs.Ranges.{IsConfig};
-ghost use Rattle.command_line.specs.CommandWords.{asked, asked_after};
-ghost use Rattle.command_line.specs.WrittenOptions.{written_options, parted};
+ghost use Rattle.command_line.specs.CommandWords.{asked, options_asked};
+ghost use Rattle.command_line.specs.Commands.{IsCommand};
+ghost use Rattle.command_line.specs.WrittenOptions.{parted};
 ghost use Rattle.command_line.specs.Kept.{next_in, after_next};
 
+use crate::command::{Command, CommandWord};
 use crate::given::Given;
-use part_layout::Config;
 
 /// What the words after the program's name ask for, or the place of the first word at fault, counted from 1.
 ///
-/// The first word is the command `run`. Options follow it in any order, each at most once, as two words `--name VALUE`
-/// or as one word `--name=VALUE`; a value is 1 to 20 decimal digits, and leading zeros are allowed:
+/// The first word is the command, `run` or `load`. Options follow it in any order, each at most once, as two words
+/// `--name VALUE` or as one word `--name=VALUE`; a value is 1 to 20 decimal digits, and leading zeros are allowed:
 ///
 /// - `--bits`, a multiple of 8 from 8 to 256, and 64 where it is left out;
 /// - `--parts`, from 1 to 64, so that each has from 1 to 12 of the bits, and an eighth of the bits where it is left out;
 /// - `--shards`, from 1 to 16, and 4 where it is left out;
 /// - `--room`, from 1 to 256, and 64 where it is left out;
-/// - `--entries`, from 1 to 1,048,576, and the greatest where it is left out;
-/// - `--input`, from 1 to 4,294,967,296, and the greatest where it is left out.
+/// - `--entries` of `run`, from 1 to 1,048,576, and the greatest where it is left out;
+/// - `--input` of `run`, from 1 to 4,294,967,296, and the greatest where it is left out;
+/// - `--number` of `load`, from 0 to 18,446,744,073,709,551,615, which may not be left out;
+/// - `--codes` of `load`, from 0 to 1,048,576, which may not be left out.
 ///
-/// An unknown command is word 1, an unknown or repeated option is its own word, a bad value is its word, and a missing
-/// command or value is the number of words plus one. The words are judged from left to right, and after them the parts
-/// against the bits.
-pub fn read_words(words: &[String]) -> Result<Config, usize>
+/// An unknown command is word 1; an option that is repeated, or that the command hasn't, is its own word; a bad value is its
+/// word, and a missing command or value is the number of words plus one. The words are judged from left to right, after them
+/// the parts against the bits, and last whether an option is missing, which is the number of words plus one.
+pub fn read_words(words: &[String]) -> Result<Command, usize>
     ensures value { result ≡ asked (map string_bytes words.now) }
-    ensures within { IfOk result IsConfig }
+    ensures within { IfOk result IsCommand }
 {
     match words {
         [] => Err(1),
-        [command, options @ ..] => {
-            if command.as_bytes() == b"run".as_slice() {
-                read_options(options)
-            } else {
-                Err(1)
-            }
-        }
+        [word, options @ ..] => match CommandWord::named(word.as_bytes()) {
+            None => Err(1),
+            Some(command) => read_options(command, options),
+        },
     }
 }
 
-// What the words after the command ask for, the first of them being word 2.
-fn read_options(options: &[String]) -> Result<Config, usize>
-    ensures value { result ≡ asked_after [] (written_options 2 (map string_bytes options.now)) }
-    ensures within { IfOk result IsConfig }
+// What the words after a command ask for, the first of them being word 2.
+fn read_options(command: CommandWord, options: &[String]) -> Result<Command, usize>
+    ensures value { result ≡ options_asked command (map string_bytes options.now) }
+    ensures within { IfOk result IsCommand }
 {
     let mut given = Given {
         bits: None,
@@ -53,22 +52,24 @@ fn read_options(options: &[String]) -> Result<Config, usize>
         room: None,
         entries: None,
         input: None,
+        number: None,
+        codes: None,
     };
     let mut place = 2;
     let mut rest = options;
     while let (Some(word), after) = next_word(rest) {
         if let Some((name, value)) = parted(word) {
-            given = given.with(name, place, Some(value), place)?;
+            given = given.with(command, name, place, Some(value), place)?;
             place += 1;
             rest = after;
             continue;
         }
         let (value, after) = next_word(after);
-        given = given.with(word, place, value, place + 1)?;
+        given = given.with(command, word, place, value, place + 1)?;
         place += 2;
         rest = after;
     }
-    given.config()
+    given.command(command, options.len() + 2)
 }
 
 // The name and the value that a word has before and after its first `=`.

@@ -3,12 +3,14 @@
 ghost use Rattle.std.specs.Prelude.{◌≡◌, ◌+◌, ◌≤◌, ℕ, List, option_copied, IfOk};
 ghost use Rattle.part_layout.specs.Contiguous.{CanBeCut};
 ghost use Rattle.part_layout.specs.Ranges.{IsConfig};
-ghost use Rattle.command_line.specs.CommandWords.{config_of};
+ghost use Rattle.command_line.specs.CommandWords.{config_of, command_of};
+ghost use Rattle.command_line.specs.Commands.{IsCommand};
 ghost use Rattle.command_line.specs.WrittenOptions.{Written, setting};
-ghost use Rattle.command_line.specs.Kept.{entry_at, entry_number_or, entry_parts_or, put, size, options_kept, kept_after, IsNumberOf, IsEntryOf, AreEntries};
+ghost use Rattle.command_line.specs.Kept.{entry_at, entry_number_or, entry_number_at, entry_parts_or, put, size, options_kept, kept_after, IsNumberOf, IsEntryOf, AreEntries};
 ghost use Rattle.command_line.specs.declared.command_option.CommandOption.TheVariants.{Bits, Parts};
 
 use crate::CommandOption;
+use crate::command::{Command, CommandWord};
 use crate::command_option::{BITS, ROOM, SHARDS};
 use hamming_model::ENTRIES_MOST;
 use part_layout::{Config, INPUT_MOST, Layout};
@@ -31,24 +33,27 @@ pub(crate) struct Given {
     pub(crate) room: Option<GivenNumber>,
     pub(crate) entries: Option<GivenNumber>,
     pub(crate) input: Option<GivenNumber>,
+    pub(crate) number: Option<GivenNumber>,
+    pub(crate) codes: Option<GivenNumber>,
 }
 
 impl Given {
-    // What is kept with one more option, or the place of its fault.
+    // What is kept with one more option of a command, or the place of its fault.
     pub(crate) fn with(
         self,
+        command: CommandWord,
         name: &[u8],
         place: usize,
         value: Option<&[u8]>,
         value_place: usize,
     ) -> Result<Given, usize>
         ensures value { (before : List Written) → self ≡ options_kept before →
-            result ≡ kept_after before
+            result ≡ kept_after command before
             (setting name.now place (option_copied value.entry) value_place) }
         ensures more { IfOk result (λ given. size given ≡ size self + 1) }
-        ensures few { IfOk result (λ given. size given ≤ 6) }
+        ensures few { IfOk result (λ given. size given ≤ 8) }
     {
-        let Some(option) = CommandOption::named(name) else {
+        let Some(option) = command.option(name) else {
             return Err(place);
         };
         if self.at(option).is_some() {
@@ -82,6 +87,8 @@ impl Given {
             CommandOption::Room => self.room,
             CommandOption::Entries => self.entries,
             CommandOption::Input => self.input,
+            CommandOption::Number => self.number,
+            CommandOption::Codes => self.codes,
         }
     }
 
@@ -115,11 +122,46 @@ impl Given {
                 input: entry,
                 ..self
             },
+            CommandOption::Number => Given {
+                number: entry,
+                ..self
+            },
+            CommandOption::Codes => Given {
+                codes: entry,
+                ..self
+            },
         }
     }
 
-    // What the options ask for, where none has a fault of its own.
-    pub(crate) fn config(self) -> Result<Config, usize>
+    // What a command asks for with these options, where none has a fault of its own and the words end before a place.
+    pub(crate) fn command(self, command: CommandWord, end: usize) -> Result<Command, usize>
+        requires { AreEntries self }
+        ensures value { (settings : List Written) → self ≡ options_kept settings →
+            result ≡ command_of command end settings }
+        ensures within { IfOk result IsCommand }
+    {
+        let config = self.config()?;
+        match command {
+            CommandWord::Run => Ok(Command::Run { config }),
+            CommandWord::Load => {
+                let number = self.required(CommandOption::Number, end)?;
+                let codes = self.required(CommandOption::Codes, end)?;
+                let config = Config {
+                    entries: ENTRIES_MOST,
+                    input: INPUT_MOST,
+                    ..config
+                };
+                Ok(Command::Load {
+                    config,
+                    number,
+                    codes,
+                })
+            }
+        }
+    }
+
+    // What the options ask a session to be.
+    fn config(self) -> Result<Config, usize>
         requires { AreEntries self }
         ensures value { (settings : List Written) → self ≡ options_kept settings →
             result ≡ config_of settings }
@@ -135,6 +177,21 @@ impl Given {
             entries: self.number_or(CommandOption::Entries, ENTRIES_MOST),
             input: self.number_or(CommandOption::Input, INPUT_MOST),
         })
+    }
+
+    // The number that a required option was given, or else the place of its word after all others.
+    fn required(self, option: CommandOption, end: usize) -> Result<u64, usize>
+        requires { AreEntries self }
+        ensures value { result ≡ entry_number_at end (entry_at option self) }
+        ensures within { IfOk result (IsNumberOf option) }
+    {
+        let Some(entry) = self.at(option) else {
+            return Err(end);
+        };
+        let Some(number) = entry.number else {
+            return Err(end);
+        };
+        Ok(number)
     }
 
     // The number that an option was given, or else its default.

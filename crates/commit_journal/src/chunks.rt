@@ -66,12 +66,8 @@ impl<const W: usize> Chunks<W> {
         ensures added { OnOk result (self.new ≡ self.old ++ map kept_entry chunk.entry.items) }
         ensures unchanged { OnErr result (self.new ≡ self.old) }
     {
-        let Ok(shared) = Arc::new(self.alloc, chunk) else {
-            return Err(NoMemory);
-        };
-        let Ok(()) = self.all.push(shared) else {
-            return Err(NoMemory);
-        };
+        let shared = Arc::new(self.alloc, chunk)?;
+        self.all.push(shared)?;
         Ok(())
     }
 
@@ -114,16 +110,10 @@ fn shared_chunks<const W: usize>(
     requires { W ≤ WORDS_MOST }
     ensures { IfOk result (λ shared. AreShared shared.items chunks.now) }
 {
-    let Ok(mut shared) = Vec::with_capacity(alloc, chunks.len()) else {
-        return Err(NoMemory);
-    };
+    let mut shared = Vec::with_capacity(alloc, chunks.len())?;
     for chunk in chunks {
-        let Ok(one) = chunk.clone() else {
-            return Err(NoMemory);
-        };
-        let Ok(()) = shared.push(one) else {
-            return Err(NoMemory);
-        };
+        let one = chunk.clone()?;
+        shared.push(one)?;
     }
     Ok(shared)
 }

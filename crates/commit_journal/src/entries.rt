@@ -44,9 +44,7 @@ impl<const W: usize> Entries<W> {
         requires { W ≤ WORDS_MOST }
         ensures { IfOk result (λ entries. entries ≡ []) }
     {
-        let Ok(whole) = Arc::new(alloc, Chunks::new(alloc)) else {
-            return Err(NoMemory);
-        };
+        let whole = Arc::new(alloc, Chunks::new(alloc))?;
         Ok(Entries {
             alloc,
             whole,
@@ -69,9 +67,7 @@ impl<const W: usize> Entries<W> {
         ensures unchanged { OnErr result (self.new ≡ self.old) }
     {
         if self.last.len() + 1 < CHUNK {
-            let Ok(()) = self.last.push(entry) else {
-                return Err(NoMemory);
-            };
+            self.last.push(entry)?;
             return Ok(());
         }
         let chunk = with_entry(self.alloc, &self.last, entry)?;
@@ -84,12 +80,8 @@ impl<const W: usize> Entries<W> {
     pub fn copy(&self) -> Result<Entries<W>, NoMemory>
         ensures { IfOk result (λ copy. copy ≡ self.now) }
     {
-        let Ok(last) = Vec::from_slice(self.alloc, self.last.as_slice()) else {
-            return Err(NoMemory);
-        };
-        let Ok(whole) = self.whole.clone() else {
-            return Err(NoMemory);
-        };
+        let last = Vec::from_slice(self.alloc, self.last.as_slice())?;
+        let whole = self.whole.clone()?;
         Ok(Entries {
             alloc: self.alloc,
             whole,
@@ -120,12 +112,8 @@ fn with_entry<const W: usize>(
 ) -> Result<Vec<Entry<W>>, NoMemory>
     ensures { IfOk result (λ chunk. chunk.items ≡ last.now ++ entry.entry ∷ []) }
 {
-    let Ok(mut chunk) = Vec::from_slice(alloc, last) else {
-        return Err(NoMemory);
-    };
-    let Ok(()) = chunk.push(entry) else {
-        return Err(NoMemory);
-    };
+    let mut chunk = Vec::from_slice(alloc, last)?;
+    chunk.push(entry)?;
     Ok(chunk)
 }
 
@@ -140,8 +128,6 @@ fn push_chunk<const W: usize>(
         ≡ arc_value whole.old ++ map kept_entry chunk.entry.items) }
     ensures unchanged { OnErr result (arc_value whole.new ≡ arc_value whole.old) }
 {
-    let Ok(own) = Arc::make_mut(whole) else {
-        return Err(NoMemory);
-    };
+    let own = Arc::make_mut(whole)?;
     own.push(chunk)
 }

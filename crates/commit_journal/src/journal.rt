@@ -152,9 +152,7 @@ impl<const W: usize> Journal<W> {
     {
         legal_histories_grow();
         rows_follow_the_history();
-        let Ok(_) = self.rows.insert(key, code) else {
-            return Err(NoMemory);
-        };
+        self.rows.insert(key, code)?;
         let Ok(()) = self.entries.push(Entry {
             who,
             op: Op::Add { key, code },
@@ -201,9 +199,7 @@ impl<const W: usize> Journal<W> {
         let position = self.entries.len();
         let older = older_positions(self.alloc, &self.live, position)?;
         let entries = self.entries.copy()?;
-        let Ok(id) = self.live.insert((who, position)) else {
-            return Err(NoMemory);
-        };
+        let id = self.live.insert((who, position))?;
         Ok(Front {
             id,
             who,

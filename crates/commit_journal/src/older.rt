@@ -35,14 +35,10 @@ fn add_position(positions: &mut Vec<u64>, position: u64) -> Result<(), NoMemory>
             return Ok(());
         }
         if positions[place] > position {
-            let Ok(()) = positions.insert(place, position) else {
-                return Err(NoMemory);
-            };
+            positions.insert(place, position)?;
             return Ok(());
         }
     }
-    let Ok(()) = positions.push(position) else {
-        return Err(NoMemory);
-    };
+    positions.push(position)?;
     Ok(())
 }

@@ -59,9 +59,7 @@ impl Counts {
     pub fn copy(&self) -> Result<Counts, NoMemory>
         ensures { IfOk result (λ counts. counts ≡ self.now) }
     {
-        let Ok(copies) = self.copies.clone() else {
-            return Err(NoMemory);
-        };
+        let copies = self.copies.clone()?;
         Ok(Counts {
             width: self.width,
             total: self.total,
@@ -148,13 +146,9 @@ fn no_copies(alloc: Global, width: u32) -> Result<Vec<u32>, NoMemory>
     ensures { IfOk result (λ copies. copies.items ≡ replicate (2 ^ width) 0) }
 {
     let bound = bound_of(width);
-    let Ok(mut copies) = Vec::with_capacity(alloc, bound) else {
-        return Err(NoMemory);
-    };
+    let mut copies = Vec::with_capacity(alloc, bound)?;
     for _i in 0..bound {
-        let Ok(()) = copies.push(0) else {
-            return Err(NoMemory);
-        };
+        copies.push(0)?;
     }
     Ok(copies)
 }

@@ -7,7 +7,11 @@ mod faults;
 #[cfg(test)]
 mod lines;
 #[cfg(test)]
+mod loads;
+#[cfg(test)]
 mod protocol;
+#[cfg(test)]
+mod replies;
 #[cfg(test)]
 mod sessions;
 #[cfg(test)]

@@ -1,5 +1,5 @@
 -- Lemmas on what the words asked for, and that no input within its limit is turned away.
-use Rattle.std.proofs.Common.{◌≡◌, ℕ, suc, ◌+◌, ◌≤◌, ◌<◌, true, false, Option, Some, None}
+use Rattle.std.proofs.Common.{◌≡◌, ℕ, suc, ◌≤◌, ◌<◌, true, false, Option, Some, None}
 use Rattle.std.proofs.Common.{List, [], ◌∷◌, ◌++◌, length, take, Result, Ok}
 use Rattle.std.proofs.Common.{refl, sym, ap, ◌∙◌, subst, arith, inl, inr, append_assoc, length-append}
 use Rattle.std.specs.Io.KnownBytes.{Consumes}
@@ -7,6 +7,8 @@ use Rattle.std.proofs.lemmas.List.{take_at}
 use Rattle.line_io.specs.Faults.{Rose}
 use Rattle.byte_lines.specs.Lines.{lines}
 use Rattle.part_layout.specs.declared.config.Config.{Config}
+use Rattle.command_line.specs.declared.command.Command.{Command}
+use Rattle.command_line.specs.declared.command.Command.TheVariants.{Run, Load}
 use Rattle.gph_serve.specs.declared.outcome.Outcome.{Outcome}
 use Rattle.gph_serve.specs.declared.outcome.Outcome.TheVariants.{Done, Usage, NoMemory}
 use Rattle.gph_serve.specs.declared.outcome.Outcome.TheVariants.{ReadFault, WriteFault, InputLimit}
@@ -15,20 +17,34 @@ use Rattle.session_model.specs.Run.{IsRunAlone, has_quit}
 use Rattle.session_model.specs.Outside.{Call, Untouched}
 use Rattle.session_model.specs.Outcomes.{EndsWith, IsWithin, IsInputLimit}
 use Rattle.gph_serve.specs.TopCall.{IsDoneOrNoMemory, IsUnread}
-use Rattle.gph_serve.specs.TopCall.{ForConfig, IsComplete}
+use Rattle.gph_serve.specs.TopCall.{ForRun, IsForLoad, IsComplete, ServedBy}
+use Rattle.gph_serve.specs.Loads.{ForLoad, LoadedAs}
 use Rattle.gph_serve.specs.TopCall.{ServedAs}
 
 -- ---- what the words asked for
 
--- an ending, for what the words asked for
-pub for_config : (outcome expected : Outcome) (P : Config → Call → Rise → Type 0) (asked : Result Config ℕ)
-    (config : Config) (it : Call) → outcome ≡ expected → Ok config ≡ asked → ServedAs outcome config it
-    → (ServedAs expected config it → EndsWith (P config) it) → ForConfig P asked it
-for_config outcome expected P asked config it is words served ends =
-    (config, sym words, ends (subst (λ o. ServedAs o config it) is served))
+-- the command that the words asked for
+the_command : (asked : Result Command ℕ) (command other : Command) → Ok command ≡ asked → asked ≡ Ok other → command ≡ other
+the_command asked command other words asks =
+    let both : Ok command ≡ Ok other = words ∙ asks in
+    cc
+
+-- an ending of a session, where the words asked for it
+pub for_run : (outcome expected : Outcome) (P : Config → Call → Rise → Type 0) (asked : Result Command ℕ) (command : Command) (it : Call)
+    → outcome ≡ expected → Ok command ≡ asked → ServedBy outcome command it
+    → ((config : Config) → ServedAs expected config it → EndsWith (P config) it) → ForRun P asked it
+for_run outcome expected P asked command it is words served ends = λ config asks.
+    let same = the_command asked command (Run config) words asks in
+    ends config (subst (λ o. ServedAs o config it) is (subst (λ c. ServedBy outcome c it) same served))
+
+-- an ending of a load, where the words asked for it
+pub for_load : (outcome : Outcome) (asked : Result Command ℕ) (command : Command) (it : Call) → Ok command ≡ asked
+    → ServedBy outcome command it → ForLoad (LoadedAs outcome) asked it
+for_load outcome asked command it words served = λ config number codes asks.
+    subst (λ c. ServedBy outcome c it) (the_command asked command (Load config number codes) words asks) served
 
 -- a session that was served has read
-pub nothing_unread : (outcome : Outcome) (config : Config) (it : Call) → ServedAs outcome config it
+nothing_unread : (outcome : Outcome) (config : Config) (it : Call) → ServedAs outcome config it
     → IsUnread outcome → Untouched it
 nothing_unread Done config it served unread = absurd unread
 nothing_unread (Usage word) config it served unread = absurd served
@@ -36,6 +52,11 @@ nothing_unread ReadFault config it served unread = absurd unread
 nothing_unread WriteFault config it served unread = absurd unread
 nothing_unread NoMemory config it served unread = served
 nothing_unread InputLimit config it served unread = absurd unread
+
+pub unread_as : (outcome : Outcome) (asked : Result Command ℕ) (command : Command) (it : Call) → Ok command ≡ asked
+    → ServedBy outcome command it → ¬ IsForLoad asked → IsUnread outcome → Untouched it
+unread_as outcome asked (Run config) it words served session unread = nothing_unread outcome config it served unread
+unread_as outcome asked (Load config number codes) it words served session unread = absurd (session (subst IsForLoad words tt))
 
 -- ---- no input within the limit is turned away
 
@@ -75,7 +96,7 @@ not_within config input it rise told reached within =
     (subst (λ left. Consumes left left' (reached.bytes ++ reached.past ∷ [])) told reached.read) in
     past_limit config input reached.bytes reached.full reached.goes_on front within
 
-pub is_complete : (outcome : Outcome) (config : Config) (input : List ℕ) (it : Call)
+is_complete : (outcome : Outcome) (config : Config) (input : List ℕ) (it : Call)
     → it.before.source.bytes ≡ Some input → ServedAs outcome config it → IsWithin config input
     → ¬ Rose it.before.source.faults it.after.source.faults → ¬ Rose it.before.sink.faults it.after.sink.faults
     → IsDoneOrNoMemory outcome
@@ -87,10 +108,9 @@ is_complete NoMemory config input it told served within read wrote = inr refl
 is_complete InputLimit config input it told served within read wrote =
     absurd (not_within config input it served.rise told served.ended within)
 
-pub complete_as : (outcome : Outcome) (asked : Result Config ℕ) (config : Config) (it : Call)
-    → Ok config ≡ asked → ServedAs outcome config it → IsComplete outcome asked it
-complete_as outcome asked config it is served =
-    λ config' input words told within read wrote.
-    let both : Ok config ≡ Ok config' = is ∙ words in
-    let same : config ≡ config' = cc in
-    is_complete outcome config' input it told (subst (λ c. ServedAs outcome c it) same served) within read wrote
+pub complete_as : (outcome : Outcome) (asked : Result Command ℕ) (command : Command) (it : Call)
+    → Ok command ≡ asked → ServedBy outcome command it → IsComplete outcome asked it
+complete_as outcome asked command it words served =
+    λ config input asks told within read wrote.
+    let same = the_command asked command (Run config) words asks in
+    is_complete outcome config input it told (subst (λ c. ServedBy outcome c it) same served) within read wrote

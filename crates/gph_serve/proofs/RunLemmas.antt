@@ -1,5 +1,5 @@
 -- Lemmas on the top call: a session over a new desk is a first session.
-use Rattle.std.proofs.Common.{◌≡◌, ℕ, zero, suc, ◌+◌, None}
+use Rattle.std.proofs.Common.{◌≡◌, ℕ, zero, suc, None}
 use Rattle.std.proofs.Common.{List, [], ◌∷◌, ◌++◌, map, replicate}
 use Rattle.std.proofs.Common.{refl, ap, ◌∙◌, subst}
 use Rattle.part_layout.specs.declared.config.Config.{Config}
@@ -12,7 +12,7 @@ use Rattle.session_model.specs.Run.{IsRunAlone, IsServedAlone, AnswersLines, fir
 use Rattle.session_model.specs.Outside.{Call}
 use Rattle.session_model.specs.Outcomes.{EndsWith, IsDone, IsReadFault, IsWriteFault, IsInputLimit}
 use Rattle.gph_session.specs.declared.report.Report.{Report}
-use Rattle.gph_session.specs.Sessions.{EndsBy, IsServed, state_of}
+use Rattle.gph_session.specs.Sessions.{EndsBy, IsServed, state_of, told_by}
 use Rattle.session_step.specs.KeptDesk.{pins_of}
 
 map_replicate : {A B : Type 0} (f : A → B) (n : ℕ) (x : A) → map f (replicate n x) ≡ replicate n (f x)
@@ -22,7 +22,7 @@ map_replicate f (suc n) x = ap (λ l. f x ∷ l) (map_replicate f n x)
 module _ (config : Config) (desk desk' : DeskState) (report : Report) (new : desk ≡ new_desk config) where
   -- a session over the desk
   abbrev Served : Config → List Exchange → Rise → Type 0
-  Served = IsServed desk desk' report.requests report.position
+  Served = IsServed desk desk' (told_by report)
 
   state_is : state_of desk ≡ first_session config
   state_is = ap state_of new

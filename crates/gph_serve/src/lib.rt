@@ -2,6 +2,7 @@
 //! replies of a session that is alone over the lines that it read, for each way in which it ends.
 #![tactic(auto)]
 
+mod load;
 mod outcome;
 mod top;
 

@@ -1,53 +1,37 @@
 -- Lemmas on a session before its first byte, and on its ending by its status.
-use Rattle.std.proofs.Common.{◌≡◌, ℕ, zero, suc, ◌+◌, ◌<◌, true, Option}
-use Rattle.std.proofs.Common.{List, [], ◌∷◌, ◌++◌, length, map}
-use Rattle.std.proofs.Common.{refl, sym, ◌∙◌, subst, arith, append-nil}
-use Rattle.std.proofs.Common.{slice_index_or}
-use Rattle.std.specs.List.{AllByRecursion}
-use Rattle.std.proofs.lemmas.List.{length-map}
+use Rattle.std.proofs.Common.{◌≡◌, ℕ, ◌+◌, true, Option, None, List, [], ◌++◌, length, map}
+use Rattle.std.proofs.Common.{refl, sym, ap, subst, inl, arith, append-nil}
 use Rattle.byte_lines.specs.Cut.{held_of}
-use Rattle.hamming_model.specs.Layouts.{IsLayout}
 use Rattle.part_layout.specs.declared.config.Config.{Config}
-use Rattle.session_desk.specs.Desks.{DeskState, IsDesk, ShardPlace, no_place}
+use Rattle.session_desk.specs.Desks.{DeskState, IsDesk}
 use Rattle.session_desk.specs.Desks.{seen_history}
-use Rattle.session_model.specs.Step.{AreLayouts}
+use Rattle.layout_search.specs.Improves.{AreSamples, plain_sample}
 use Rattle.session_model.specs.Ledger.{Ledgers}
 use Rattle.session_model.specs.Outside.{Call}
-use Rattle.gph_session.specs.Sessions.{state_of}
-use Rattle.session_step.specs.KeptDesk.{layouts_of}
-use Rattle.session_step.specs.Moments.{Moment}
+use Rattle.gph_session.specs.Sessions.{Told, state_of}
+use Rattle.session_step.specs.declared.shard_build.ShardBuild.{ShardBuild}
+use Rattle.session_step.specs.KeptBuild.{MeansBuild, StandsFrom, left_in}
+use Rattle.session_step.specs.Moments.{Moment, Spends}
 use Rattle.session_step.specs.Meaning.{AllKeep, IsReady, Means}
 use Rattle.gph_session.specs.Flow.{HasBegunWith}
 use Rattle.gph_session.specs.declared.report.Status.{Status}
 use Rattle.gph_session.specs.Serving.{EndsAs}
 use Rattle.session_step.proofs.MomentLemmas.{reads_still, spends_still, as_long}
 use Rattle.session_step.proofs.MomentLemmas.{desk_keeps}
+use Rattle.session_step.proofs.SwapInLemmas.{are_layouts}
+use Rattle.session_step.proofs.WholeLemmas.{leaves}
 
 -- ---- a session before its first byte
 
-layouts_by : (bits : ℕ) (places : List ShardPlace) → ((i : ℕ) → i < length places
-    → IsLayout bits (slice_index_or places i no_place).1.parts)
-    → AllByRecursion (IsLayout bits) (map (λ (place : ShardPlace). place.1.parts) places)
-layouts_by bits [] each = tt
-layouts_by bits (place ∷ places) each =
-    (each zero (omega arith), layouts_by bits places (λ i lt. each (suc i) (omega (arith, lt))))
-
--- the layouts of a desk that is alone
-are_layouts : (words : ℕ) (config : Config) (desk : DeskState) → IsDesk words desk → desk.alone ≡ true
-    → desk.config ≡ config → AreLayouts config (layouts_of desk)
-are_layouts words config desk is alone same =
-    let number : length desk.places ≡ desk.config.shards = is.places alone in
-    subst (λ c. AreLayouts c (layouts_of desk)) same (record {
-      number = length-map desk.places (λ (place : ShardPlace). place.1.parts) ∙ number;
-      each = layouts_by desk.config.bits desk.places (λ i lt.
-          let place = is.each alone i (omega (arith, lt, number)) in
-          subst (λ bits. IsLayout bits (slice_index_or desk.places i no_place).1.parts) place.bits place.laid.layout);
-    })
+-- no row is left to place where nothing is built
+spent_none : {W : ℕ} {build : Option (ShardBuild W)} {steps : ℕ} → build ≡ None → steps ≡ steps + left_in build
+spent_none {build = build} none = omega (arith, ap left_in none)
 
 pub begun_session : {W : ℕ} (words : ℕ) (config : Config) (now : Moment W) (begun : Option (List ℕ))
     → IsDesk words now.desk → now.desk.alone ≡ true → now.desk.config ≡ config → now.cursors ≡ []
-    → now.requests ≡ 0 → now.position ≡ length now.desk.seen → begun ≡ held_of [] → HasBegunWith config now begun
-begun_session {W} words config now begun is alone same none requests position nothing =
+    → now.pinned.opened ≡ 0 → now.pinned.told ≡ [] → now.samples ≡ [] → now.build ≡ None → now.requests ≡ 0 → now.position ≡ length now.desk.seen
+    → begun ≡ held_of [] → HasBegunWith config now begun
+begun_session {W} words config now begun is alone same none opened told no_samples no_build requests position nothing =
     let desk = now.desk in
     let before = seen_history desk in
     let means : Means config desk before (state_of desk) = record {
@@ -58,7 +42,6 @@ begun_session {W} words config now begun is alone same none requests position no
       who = refl;
       layouts = refl;
       are_layouts = are_layouts words config desk is alone same;
-      no_build = refl;
     } in
     record {
       exchanges = [];
@@ -66,10 +49,17 @@ begun_session {W} words config now begun is alone same none requests position no
       ran = record {
         run = λ later. refl;
         reads = reads_still now.ledgers.reads [];
-        spent = spends_still desk now.ledgers.upkeep 0;
+        unmoved = tt;
+        spent = subst (λ n. Spends desk desk now.ledgers.upkeep n 0) (spent_none no_build)
+            (spends_still desk now.ledgers.upkeep 0);
+        stands = subst (StandsFrom 0) (sym no_build) tt;
         means = subst (λ h. Means config desk h (state_of desk)) (sym (append-nil before)) means;
         settled = tt;
-        keeps = desk_keeps desk;
+        samples = ap (map (plain_sample config.bits)) no_samples;
+        build = subst (λ b. MeansBuild desk b None) (sym no_build) tt;
+        keeps = leaves desk desk (desk_keeps desk);
+        done = inl (omega arith);
+        pinned = record { each = tt; opened = opened; told = told };
         requests = requests;
         position = position;
       };
@@ -78,6 +68,10 @@ begun_session {W} words config now begun is alone same none requests position no
       output_is = refl;
       begun_is = nothing;
     }
+
+-- no sample is one
+pub no_samples : (W bits : ℕ) → AreSamples {W = W} bits []
+no_samples W bits = record { few = omega arith; each = λ k other inside. absurd (omega (arith, inside)) }
 
 pub is_ready : (words : ℕ) (config : Config) (desk : DeskState) → IsDesk words desk → desk.config ≡ config
     → IsReady words config
@@ -89,8 +83,8 @@ is_ready words config desk is same = subst (IsReady words) same (record {
 
 -- the ending by the status, over the desk as it was
 pub ended_as : (status expected : Status) → status ≡ expected → (config : Config) (desk before desk' : DeskState)
-    (requests position : ℕ) (it : Call) → desk ≡ before → EndsAs status config desk desk' requests position it
-    → EndsAs expected config before desk' requests position it
-ended_as status expected is config desk before desk' requests position it same ends =
-    subst (λ d. EndsAs expected config d desk' requests position it) same
-    (subst (λ s. EndsAs s config desk desk' requests position it) is ends)
+    (told : Told) (it : Call) → desk ≡ before → EndsAs status config desk desk' told it
+    → EndsAs expected config before desk' told it
+ended_as status expected is config desk before desk' told it same ends =
+    subst (λ d. EndsAs expected config d desk' told it) same
+    (subst (λ s. EndsAs s config desk desk' told it) is ends)

@@ -1,10 +1,11 @@
 -- Lemmas on a session that goes on: one line more, the line that ends it, and the line whose reply is
 -- refused.
-use Rattle.std.proofs.Common.{◌≡◌, ℕ, ◌+◌, ◌-◌, ◌≤◌, ◌<◌, min, true, false, cond, Option, Result, Ok, Bool}
+use Rattle.std.proofs.Common.{◌≡◌, ℕ, ◌+◌, ◌-◌, ◌≤◌, ◌<◌, ◌==◌, ◌⊎◌, inl, inr, min, true, false, cond, Option, Result, Ok, Bool}
 use Rattle.std.proofs.Common.{List, [], ◌∷◌, ◌++◌, length, take, drop}
 use Rattle.std.proofs.Common.{refl, sym, ap, ◌∙◌, subst, arith, append_assoc, append-nil}
 use Rattle.std.specs.List.{AllByRecursion}
 use Rattle.std.specs.Io.KnownBytes.{Appends}
+use Rattle.std.proofs.lemmas.Bool.Decides.{nat_tests}
 use Rattle.std.proofs.lemmas.List.{map_push, length-map}
 use Rattle.std.proofs.lemmas.List.Sums.{sum_by-append}
 use Rattle.std.proofs.Math.Seq.{drop-append_seam}
@@ -20,23 +21,31 @@ use Rattle.session_desk.specs.Desks.{DeskState, seen_history}
 use Rattle.session_model.specs.State.{Query, State, open_queries}
 use Rattle.session_model.specs.Entries.{Exchange}
 use Rattle.session_model.specs.Ledger.{Ledgers, Rise, RisesBy, column, readings_of, IsBounded}
-use Rattle.session_model.specs.Upkeep.{all_vain_steps, vain_steps, entries_beyond}
-use Rattle.session_model.specs.Run.{Run, IsAlone, IsServedAlone, entries_by, is_answered, requests_of}
-use Rattle.session_model.specs.Run.{commit_of, commits, lines_of, asks_quit, before_quit, has_quit}
+use Rattle.session_desk.specs.Calls.{one_more}
+use Rattle.session_model.specs.Builds.{swaps_of, was_moved, was_swapped}
+use Rattle.session_model.specs.Upkeep.{all_other_steps, other_steps, entries_beyond}
+use Rattle.session_model.specs.Upkeep.{all_build_steps, build_after, build_at, build_steps}
+use Rattle.session_model.specs.Commits.{entries_by}
+use Rattle.session_model.specs.Commits.{is_answered, requests_of}
+use Rattle.session_model.specs.Run.{Run, IsAlone, IsServedAlone}
+use Rattle.session_model.specs.Commits.{commit_of, commits}
+use Rattle.session_model.specs.Run.{lines_of, asks_quit, before_quit, has_quit}
 use Rattle.session_model.proofs.RunLemmas.{run_more, commits_more, written_more, own_commits}
 use Rattle.session_model.proofs.RunLemmas.{before_answered, quit_answered, before_more, quit_more}
 use Rattle.session_step.specs.declared.turn.Turn.{Turn}
 use Rattle.session_step.specs.declared.turn.Turn.TheVariants.{Goes}
-use Rattle.gph_session.specs.Sessions.{IsServed, state_of}
-use Rattle.session_step.specs.KeptDesk.{KeepsDesk, pins_of}
+use Rattle.gph_session.specs.Sessions.{IsServed, RisesByCount, state_of}
+use Rattle.session_step.specs.KeptBuild.{StandsFrom, left_in}
+use Rattle.session_step.specs.KeptDesk.{LeavesDesk, pins_of}
 use Rattle.session_step.specs.Moments.{Moment, ReadsTo, Spends}
 use Rattle.session_step.specs.Meaning.{Means, IsSettled, AllKeep}
 use Rattle.session_step.specs.Answering.{OneLine}
-use Rattle.gph_session.specs.Flow.{Start, HasRun, GoesOn}
+use Rattle.gph_session.specs.Flow.{Start, HasRun, GoesOn, told_by}
 use Rattle.gph_session.specs.Pieces.{HasServed, HasEnded, WasRefused}
-use Rattle.session_step.specs.Answering.{Stands, requests_with}
+use Rattle.session_step.specs.Answering.{requests_with}
+use Rattle.session_step.specs.Steps.{Stands}
 use Rattle.gph_session.specs.Flow.{history_after}
-use Rattle.session_step.proofs.MomentLemmas.{reads_then, spends_then, vain_more, as_long}
+use Rattle.session_step.proofs.MomentLemmas.{reads_then, spends_then, others_more, as_long}
 
 -- ---- what a state's queries have read
 
@@ -76,7 +85,7 @@ module _ {W : ℕ} (config : Config) (start : Start) (now : Moment W) (exchanges
     steps = omega arith;
   }
 
-  pub is_served : IsServed start.desk now.desk now.requests now.position config exchanges
+  pub is_served : IsServed start.desk now.desk (told_by now) config exchanges
       (rise_of state steps)
   is_served =
       let who = start.desk.who in
@@ -95,6 +104,7 @@ module _ {W : ℕ} (config : Config) (start : Start) (now : Moment W) (exchanges
                   (sym (as_long start.desk)))
                   ∙ own_commits who config exchanges;
             };
+            unmoved = ran.unmoved;
           };
           ledger = record {
             readings = refl;
@@ -107,20 +117,21 @@ module _ {W : ℕ} (config : Config) (start : Start) (now : Moment W) (exchanges
         };
         seen = sym ran.means.history_is;
         keeps = ran.keeps;
-        requests_are = ran.requests;
-        position_is = ran.position;
+        layouts = sym ran.means.layouts;
+        done = ran.done;
+        requests = ran.requests;
+        position = ran.position;
+        pinned = ran.pinned.told;
       }
 
-keeps_then : (a b c : DeskState) → KeepsDesk a b → KeepsDesk b c → KeepsDesk a c
-keeps_then a b c one two = record {
+leaves_then : (a b c : DeskState) → LeavesDesk a b → LeavesDesk b c → LeavesDesk a c
+leaves_then a b c one two = record {
   board = two.board ∙ one.board;
   who = two.who ∙ one.who;
   config = two.config ∙ one.config;
   fronts = two.fronts ∙ one.fronts;
-  done = two.done ∙ one.done;
   late = two.late ∙ one.late;
   alone = two.alone ∙ one.alone;
-  layouts = two.layouts ∙ one.layouts;
 }
 
 -- ---- one exchange more
@@ -138,6 +149,58 @@ counted_once : (asked : Bool) (number : ℕ)
     ≡ min (number + cond asked 1 0) 18446744073709551615
 counted_once true number = omega arith
 counted_once false number = omega arith
+
+-- the build after one exchange more, and its steps
+build_more : (from : ℕ) (exchanges : List Exchange) (e : Exchange)
+    → build_after from (exchanges ++ e ∷ []) ≡ build_at (build_after from exchanges) e.replies
+build_more from [] e = refl
+build_more from (first ∷ exchanges) e = build_more (build_at from first.replies) exchanges e
+
+build_steps_more : (from : ℕ) (exchanges : List Exchange) (e : Exchange)
+    → all_build_steps from (exchanges ++ e ∷ [])
+    ≡ all_build_steps from exchanges + build_steps (build_after from exchanges) e.replies
+build_steps_more from [] e = omega arith
+build_steps_more from (first ∷ exchanges) e =
+    omega (arith, build_steps_more (build_at from first.replies) exchanges e)
+
+unmoved_more : (exchanges : List Exchange) (e : Exchange)
+    → AllByRecursion (λ e. was_moved e.replies ≡ false) exchanges → was_moved e.replies ≡ false
+    → AllByRecursion (λ e. was_moved e.replies ≡ false) (exchanges ++ e ∷ [])
+unmoved_more [] e all last = (last, tt)
+unmoved_more (first ∷ exchanges) e all last = (all.0, unmoved_more exchanges e all.1 last)
+
+-- the swaps with one exchange more, and the count of them
+swaps_more : (exchanges : List Exchange) (e : Exchange)
+    → swaps_of (exchanges ++ e ∷ []) ≡ swaps_of exchanges + cond (was_swapped e.replies) 1 0
+swaps_more exchanges e =
+    let Counts = λ (x : Exchange). cond (was_swapped x.replies) 1 0 in
+    let both = sum_by-append Counts exchanges (e ∷ []) in
+    omega (arith, both)
+
+equal_by_test : (mid : ℕ) → (mid == 18446744073709551615) ≡ true → mid ≡ 18446744073709551615
+equal_by_test mid is = grind (arith, nat_tests)
+
+one_more_by : (mid : ℕ) (most : Bool) → (mid == 18446744073709551615) ≡ most
+    → (one_more mid ≡ mid + 1) ⊎ (one_more mid ≡ 18446744073709551615)
+one_more_by mid true is =
+    inr (ap (λ b. cond b mid (mid + 1)) is ∙ equal_by_test mid is)
+one_more_by mid false is = inl (ap (λ b. cond b mid (mid + 1)) is)
+
+most_stays : (mid : ℕ) → mid ≡ 18446744073709551615 → one_more mid ≡ 18446744073709551615
+most_stays mid is = ap one_more is
+
+counted_by : (old mid new number : ℕ) (swapped : Bool) → RisesByCount old mid number
+    → new ≡ cond swapped (one_more mid) mid → RisesByCount old new (number + cond swapped 1 0)
+counted_by old mid new number false (inl rose) same = inl (omega (arith, rose, same))
+counted_by old mid new number false (inr most) same = inr (same ∙ most)
+counted_by old mid new number true (inr most) same = inr (same ∙ most_stays mid most)
+counted_by old mid new number true (inl rose) same =
+    counted_one (one_more_by mid (mid == 18446744073709551615) refl)
+  where
+    counted_one : (one_more mid ≡ mid + 1) ⊎ (one_more mid ≡ 18446744073709551615)
+        → RisesByCount old new (number + 1)
+    counted_one (inl one) = inl (omega (arith, rose, same, one))
+    counted_one (inr most) = inr (same ∙ most)
 
 module _ {W : ℕ} (config : Config) (start : Start) (now : Moment W) (exchanges : List Exchange)
     (state : State) (ran : HasRun config start now exchanges state) (line : List ℕ)
@@ -178,18 +241,38 @@ module _ {W : ℕ} (config : Config) (start : Start) (now : Moment W) (exchanges
         one.step.exchange state one.step.state run one.step.alone (one.step.step later));
     reads = reads_then start.ledgers.reads now.ledgers.reads next.ledgers.reads [] state.queries
         one.step.state.queries ran.reads one.step.reads;
-    spent = subst (Spends start.desk next.desk start.ledgers.upkeep next.ledgers.upkeep)
-        (sym (vain_more config.shards exchanges one.step.exchange))
-        (spends_then start.desk now.desk next.desk start.ledgers.upkeep now.ledgers.upkeep
-        next.ledgers.upkeep (all_vain_steps config.shards exchanges)
-        (vain_steps config.shards one.step.exchange.replies one.step.exchange.seen) ran.spent one.step.spent);
+    unmoved = unmoved_more exchanges one.step.exchange ran.unmoved one.step.unmoved;
+    spent =
+        let both = spends_then start.desk now.desk next.desk start.ledgers.upkeep
+        (now.ledgers.upkeep + left_in now.build) (next.ledgers.upkeep + left_in next.build)
+        (all_other_steps config.shards exchanges + all_build_steps 0 exchanges)
+        (other_steps config.shards one.step.exchange.replies one.step.exchange.seen
+        + build_steps (build_after 0 exchanges) one.step.exchange.replies)
+        ran.spent (one.step.spent (build_after 0 exchanges) ran.stands).spent in
+        record {
+          longer = both.longer;
+          within = λ most le. omega (
+            arith,
+            both.within most le,
+            others_more config.shards exchanges one.step.exchange,
+            build_steps_more 0 exchanges one.step.exchange,
+          );
+        };
+    stands = subst (λ n. StandsFrom n next.build) (sym (build_more 0 exchanges one.step.exchange))
+        (one.step.spent (build_after 0 exchanges) ran.stands).stands;
     means = subst (λ h. Means config next.desk h one.step.state) (sym same_history) one.step.means;
     settled = subst (λ h. AllByRecursion (IsSettled config h) one.step.state.queries) (sym same_history)
         one.step.settled;
-    keeps = keeps_then start.desk now.desk next.desk ran.keeps one.step.keeps;
+    samples = one.step.samples;
+    build = one.step.build;
+    keeps = leaves_then start.desk now.desk next.desk ran.keeps one.step.keeps;
+    done = subst (RisesByCount start.desk.done next.desk.done) (sym (swaps_more exchanges one.step.exchange))
+        (counted_by start.desk.done now.desk.done next.desk.done (swaps_of exchanges)
+        (was_swapped one.step.exchange.replies) ran.done one.step.done);
     requests = one.requests ∙ ap (requests_with (reading config line)) ran.requests
         ∙ counted_once (is_answered (reading config line)) (requests_of config exchanges)
         ∙ ap (λ n. min n 18446744073709551615) (sym (requests_more config exchanges one.step.exchange line one.step.is_line));
+    pinned = one.step.pinned;
     position = one.step.position;
   }
 
@@ -213,7 +296,10 @@ module _ {W : ℕ} (config : Config) (start : Start) (now : Moment W) (bytes out
   stands_here = record {
     means = going.ran.means;
     settled = going.ran.settled;
+    samples = going.ran.samples;
+    build = going.ran.build;
     keep = going.keep;
+    pinned = going.ran.pinned;
     position = going.ran.position;
   }
 

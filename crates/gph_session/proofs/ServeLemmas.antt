@@ -23,7 +23,7 @@ use Rattle.session_step.specs.declared.turn.Turn.{Turn}
 use Rattle.session_step.specs.declared.turn.Turn.TheVariants.{Goes, Quits}
 use Rattle.gph_session.specs.Sessions.{IsServed}
 use Rattle.session_step.specs.Moments.{Moment}
-use Rattle.gph_session.specs.Flow.{Start, GoesOn}
+use Rattle.gph_session.specs.Flow.{Start, GoesOn, told_by}
 use Rattle.gph_session.specs.Pieces.{FlowIs, FlowsOn, EndIs, EndsOn}
 use Rattle.gph_session.specs.Pieces.{HasEnded, HasServed, WasRefused}
 use Rattle.gph_session.specs.Serving.{Serves}
@@ -108,7 +108,7 @@ module _ {W : ℕ} {config : Config} {start : Start} {old : Moment W} {taken : �
 
   -- what makes a session of exchanges that end at a moment
   abbrev Served : Moment W → Config → List Exchange → Rise → Type 0
-  Served now = IsServed start.desk now.desk now.requests now.position
+  Served now = IsServed start.desk now.desk (told_by now)
 
   -- the lines so far were answered, and none of them ends the session
   served : HasServed config start old (ended_lines [] serves.bytes) serves.output

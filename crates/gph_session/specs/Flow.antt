@@ -1,6 +1,6 @@
 -- What a session has written for what it has read, while it goes on.
 -- No public clause cites this module.
-use Rattle.std.specs.Prelude.{◌≡◌, ℕ, ◌+◌, min, Option}
+use Rattle.std.specs.Prelude.{◌≡◌, ℕ, ◌+◌, min, false, Option}
 use Rattle.std.specs.Prelude.{List, [], ◌++◌}
 use Rattle.std.specs.List.{AllByRecursion}
 use Rattle.byte_lines.specs.Cut.{held_of}
@@ -11,13 +11,20 @@ use Rattle.session_desk.specs.Desks.{DeskState, seen_history}
 use Rattle.session_model.specs.State.{State, open_queries}
 use Rattle.session_model.specs.Entries.{Exchange}
 use Rattle.session_model.specs.Ledger.{Ledgers}
-use Rattle.session_model.specs.Upkeep.{all_vain_steps}
-use Rattle.session_model.specs.Run.{Run, IsAlone, requests_of}
-use Rattle.session_model.specs.Run.{commits, written_text, lines_of}
+use Rattle.session_model.specs.Builds.{swaps_of, was_moved}
+use Rattle.session_model.specs.Upkeep.{all_build_steps, all_other_steps, build_after}
+use Rattle.session_model.specs.Commits.{requests_of}
+use Rattle.session_model.specs.Told.{pinned_by}
+use Rattle.session_model.specs.Run.{Run, IsAlone}
+use Rattle.session_model.specs.Commits.{commits}
+use Rattle.session_model.specs.Run.{written_text, lines_of}
 use Rattle.session_step.specs.Moments.{Moment, ReadsTo, Spends}
 use Rattle.session_step.specs.Meaning.{Means, AllKeep, IsSettled}
-use Rattle.gph_session.specs.Sessions.{state_of}
-use Rattle.session_step.specs.KeptDesk.{KeepsDesk}
+use Rattle.session_step.specs.Pinned.{TellsPinned}
+use Rattle.session_step.specs.KeptBuild.{MeansBuild, StandsFrom, left_in}
+use Rattle.session_step.specs.KeptDesk.{LeavesDesk}
+use Rattle.session_step.specs.Samples.{MeansSamples}
+use Rattle.gph_session.specs.Sessions.{RisesByCount, Told, state_of}
 
 -- what a session began with
 pub record Start : Type 0 where
@@ -29,18 +36,33 @@ abbrev pub history_after : Start → Config → List Exchange → List JournalEn
 history_after start config exchanges =
     seen_history start.desk ++ commits start.desk.who config exchanges
 
+-- what a session would tell of itself at a moment
+abbrev pub told_by : {W : ℕ} → Moment W → Told
+told_by now = record {
+  requests = now.requests;
+  position = now.position;
+  layouts = now.pinned.told;
+}
+
 -- these exchanges lead a session that is alone from what it began with to a moment and a state
 pub record HasRun {W : ℕ} (config : Config) (start : Start) (now : Moment W)
     (exchanges : List Exchange) (state : State) : Type 0 where
   pub run : (later : List JournalEntry) → Run (IsAlone config) config
       (history_after start config exchanges ++ later) (state_of start.desk) exchanges state
   pub reads : ReadsTo start.ledgers.reads now.ledgers.reads [] state.queries
-  pub spent : Spends start.desk now.desk start.ledgers.upkeep now.ledgers.upkeep
-      (all_vain_steps config.shards exchanges)
+  pub unmoved : AllByRecursion (λ e. was_moved e.replies ≡ false) exchanges
+  pub spent : Spends start.desk now.desk start.ledgers.upkeep
+      (now.ledgers.upkeep + left_in now.build)
+      (all_other_steps config.shards exchanges + all_build_steps 0 exchanges)
+  pub stands : StandsFrom (build_after 0 exchanges) now.build
   pub means : Means config now.desk (history_after start config exchanges) state
   pub settled :
       AllByRecursion (IsSettled config (history_after start config exchanges)) state.queries
-  pub keeps : KeepsDesk start.desk now.desk
+  pub samples : MeansSamples config.bits now.samples state.queries
+  pub build : MeansBuild now.desk now.build state.build
+  pub keeps : LeavesDesk start.desk now.desk
+  pub done : RisesByCount start.desk.done now.desk.done (swaps_of exchanges)
+  pub pinned : TellsPinned config.shards now.pinned (pinned_by state.queries)
   pub requests : now.requests ≡ min (requests_of config exchanges) 18446744073709551615
   pub position : now.position ≡ state.position
 

@@ -12,7 +12,7 @@ use Rattle.session_step.specs.declared.turn.Turn.{Turn}
 use Rattle.session_step.specs.declared.turn.Turn.TheVariants.{Goes, Quits}
 use Rattle.session_step.specs.Moments.{Moment}
 use Rattle.gph_session.specs.Sessions.{IsServed}
-use Rattle.gph_session.specs.Flow.{Start, GoesOn}
+use Rattle.gph_session.specs.Flow.{Start, GoesOn, told_by}
 use Rattle.session_step.specs.Moments.{Point}
 
 -- a session that began so answers these lines by that output
@@ -20,7 +20,7 @@ pub record HasServed {W : ℕ} (config : Config) (start : Start) (now : Moment W
     (of_lines : List (List ℕ)) (output : List ℕ) : Type 0 where
   pub rise : Rise
   pub rises : RisesBy start.ledgers now.ledgers rise
-  pub answered : AnswersLines (IsServed start.desk now.desk now.requests now.position config)
+  pub answered : AnswersLines (IsServed start.desk now.desk (told_by now) config)
       of_lines output rise
 
 -- one of these lines ended the session, and those before it were answered
@@ -34,7 +34,7 @@ pub record WasRefused {W : ℕ} (config : Config) (start : Start) (now : Moment 
     (of_lines : List (List ℕ)) (output : List ℕ) (known : ℕ) : Type 0 where
   pub rise : Rise
   pub rises : RisesBy start.ledgers now.ledgers rise
-  pub refused : IsRefused (IsServed start.desk now.desk now.requests now.position config)
+  pub refused : IsRefused (IsServed start.desk now.desk (told_by now) config)
       of_lines output rise
   pub all_before : known ≤ length refused.answered
 

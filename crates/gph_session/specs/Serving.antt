@@ -10,7 +10,7 @@ use Rattle.session_model.specs.Outcomes.{IsDone, IsReadFault, IsWriteFault, IsIn
 use Rattle.gph_session.specs.declared.report.Status.{Status}
 use Rattle.gph_session.specs.declared.report.Status.TheVariants.{Done, ReadFault, WriteFault}
 use Rattle.gph_session.specs.declared.report.Status.TheVariants.{NoMemory, InputLimit}
-use Rattle.gph_session.specs.Sessions.{IsServed}
+use Rattle.gph_session.specs.Sessions.{IsServed, Told}
 use Rattle.session_step.specs.Moments.{Moment}
 use Rattle.gph_session.specs.Flow.{GoesOn, Start}
 
@@ -28,13 +28,13 @@ pub record Serves {W : ℕ} (config : Config) (start : Start) (now : Moment W) (
   pub goes : GoesOn config start now bytes output begun
 
 -- what a session over a desk has read, written and counted, by its status
-abbrev pub EndsAs : Status → Config → DeskState → DeskState → ℕ → ℕ → Call → Type 0
-EndsAs Done config desk desk' requests position =
-    EndsWith (IsDone (IsServed desk desk' requests position) config)
-EndsAs ReadFault config desk desk' requests position =
-    EndsWith (IsReadFault (IsServed desk desk' requests position) config)
-EndsAs WriteFault config desk desk' requests position =
-    EndsWith (IsWriteFault (IsServed desk desk' requests position) config)
-EndsAs InputLimit config desk desk' requests position =
-    EndsWith (IsInputLimit (IsServed desk desk' requests position) config)
-EndsAs NoMemory config desk desk' requests position = λ it. ⊥
+abbrev pub EndsAs : Status → Config → DeskState → DeskState → Told → Call → Type 0
+EndsAs Done config desk desk' told =
+    EndsWith (IsDone (IsServed desk desk' told) config)
+EndsAs ReadFault config desk desk' told =
+    EndsWith (IsReadFault (IsServed desk desk' told) config)
+EndsAs WriteFault config desk desk' told =
+    EndsWith (IsWriteFault (IsServed desk desk' told) config)
+EndsAs InputLimit config desk desk' told =
+    EndsWith (IsInputLimit (IsServed desk desk' told) config)
+EndsAs NoMemory config desk desk' told = λ it. ⊥

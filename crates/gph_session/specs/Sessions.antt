@@ -1,12 +1,17 @@
 -- A session over a desk: the state in which it begins, and what it leaves.
-use Rattle.std.specs.Prelude.{◌≡◌, ℕ, min, List, ◌++◌, length}
+use Rattle.std.specs.Prelude.{◌≡◌, ℕ, ◌+◌, ◌⊎◌, min, List, ◌++◌, length, map}
 use Rattle.part_layout.specs.declared.config.Config.{Config}
 use Rattle.session_desk.specs.Desks.{DeskState, seen_history}
-use Rattle.session_step.specs.KeptDesk.{KeepsDesk, layouts_of, pins_of}
+use Rattle.session_step.specs.KeptDesk.{LeavesDesk, layouts_of, pins_of}
+use Rattle.session_model.specs.Builds.{swaps_of}
 use Rattle.session_model.specs.State.{State, new_session}
 use Rattle.session_model.specs.Entries.{Exchange}
 use Rattle.session_model.specs.Ledger.{Rise}
-use Rattle.session_model.specs.Run.{IsServedAlone, commits, requests_of}
+use Rattle.session_model.specs.Commits.{commits}
+use Rattle.session_model.specs.Commits.{requests_of}
+use Rattle.session_model.specs.Run.{IsServedAlone}
+use Rattle.session_model.specs.Told.{ToldLayout, layouts_told}
+use Rattle.session_step.specs.Pinned.{told_layout}
 use Rattle.session_model.specs.Outside.{Call}
 use Rattle.session_model.specs.Outcomes.{EndsWith}
 use Rattle.gph_session.specs.declared.report.Report.{Report}
@@ -15,19 +20,41 @@ use Rattle.gph_session.specs.declared.report.Report.{Report}
 abbrev pub state_of : DeskState → State
 state_of desk = new_session desk.who (length desk.seen) (layouts_of desk)
 
+-- what a session tells of itself: how many lines it answered, the position of the last, and the
+-- layouts that its queries pinned
+pub record Told : Type 0 where
+  pub requests : ℕ
+  pub position : ℕ
+  pub layouts : List ToldLayout
+
+-- what a report tells
+abbrev pub told_by : Report → Told
+told_by report = record {
+  requests = report.requests;
+  position = report.position;
+  layouts = map told_layout report.layouts.items;
+}
+
+-- a count that stops at the greatest number rose by so many
+abbrev pub RisesByCount : ℕ → ℕ → ℕ → Type 0
+RisesByCount old new number = (new ≡ old + number) ⊎ (new ≡ 18446744073709551615)
+
 -- the exchanges are those of a session over a desk that is alone, which leaves it having seen what
--- it committed, and which reports so many requests and this position
-pub record IsServed (old new : DeskState) (requests position : ℕ) (config : Config)
+-- it committed, with the shards in the layouts that it put in place, and which tells this of itself
+pub record IsServed (old new : DeskState) (told : Told) (config : Config)
     (exchanges : List Exchange) (rise : Rise) : Type 0 where
   pub served : IsServedAlone config (seen_history old) (state_of old) (pins_of old) exchanges rise
   pub seen : seen_history new ≡ seen_history old ++ commits old.who config exchanges
-  pub keeps : KeepsDesk old new
-  pub requests_are : requests ≡ min (requests_of config exchanges) 18446744073709551615
-  pub position_is : position ≡ served.last.position
+  pub keeps : LeavesDesk old new
+  pub layouts : layouts_of new ≡ served.last.layouts
+  pub done : RisesByCount old.done new.done (swaps_of exchanges)
+  pub requests : told.requests ≡ min (requests_of config exchanges) 18446744073709551615
+  pub position : told.position ≡ served.last.position
+  pub pinned : told.layouts ≡ layouts_told served.last.queries
 
 -- a session over a desk, of which this is the report, ended so, by what it has read, written and
 -- counted
 abbrev pub EndsBy : ((Config → List Exchange → Rise → Type 0) → Config → Call → Rise → Type 0)
     → Config → Report → DeskState → DeskState → Call → Type 0
 EndsBy Ending config report desk desk' =
-    EndsWith (Ending (IsServed desk desk' report.requests report.position) config)
+    EndsWith (Ending (IsServed desk desk' (told_by report)) config)

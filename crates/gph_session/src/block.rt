@@ -3,6 +3,8 @@
 ghost use Rattle.std.specs.Prelude.{◌≡◌, ◌<◌, ◌≤◌, length, take, true};
 ghost use Rattle.std.specs.Thread.{IsSync};
 ghost use Rattle.open_queries.specs.Writing.{IsCaused};
+ghost use Rattle.layout_search.specs.Improves.{AreSamples};
+ghost use Rattle.session_step.specs.KeptBuild.{IsBuildOfDesk};
 ghost use Rattle.session_step.specs.Meaning.{IsReady, HaveShards};
 ghost use Rattle.gph_session.specs.Pieces.{FlowsBetween, EndsBetween};
 ghost use Rattle.session_step.specs.Moments.{point_of};
@@ -42,12 +44,16 @@ pub(crate) fn answer_block<
     requires alone { (D.desk desk.old).alone ≡ true }
     requires config { (D.desk desk.old).config ≡ config.now }
     requires shards { HaveShards config.now.shards session.old.queries }
+    requires samples { AreSamples config.now.bits session.old.samples }
+    requires build { IsBuildOfDesk (D.desk desk.old) session.old.build }
     ensures flow { FlowsBetween result config.now block.now
         (point_of (D.desk desk.old) session.old meters.old upkeep.old (K.held sink.old))
         (point_of (D.desk desk.new) session.new meters.new upkeep.new (K.held sink.new)) }
     ensures alone { (D.desk desk.new).alone ≡ true }
     ensures config { (D.desk desk.new).config ≡ config.now }
     ensures shards { HaveShards config.now.shards session.new.queries }
+    ensures samples { AreSamples config.now.bits session.new.samples }
+    ensures build { IsBuildOfDesk (D.desk desk.new) session.new.build }
     ensures cause { IsCaused (K.faults sink.old) (K.faults sink.new) result }
 {
     let mut done = 0;
@@ -91,6 +97,8 @@ fn answer_line<const W: usize, D: Desk<W>, K: Sink, R: Threads + Sync, G: Gate, 
     requires alone { (D.desk desk.old).alone ≡ true }
     requires config { (D.desk desk.old).config ≡ config.now }
     requires shards { HaveShards config.now.shards session.old.queries }
+    requires samples { AreSamples config.now.bits session.old.samples }
+    requires build { IsBuildOfDesk (D.desk desk.old) session.old.build }
     requires some { 0 < length bytes.now }
     ensures progress { (0 < result.0) × (result.0 ≤ length bytes.now) }
     ensures flow { FlowsBetween result.1 config.now (take result.0 bytes.now)
@@ -99,6 +107,8 @@ fn answer_line<const W: usize, D: Desk<W>, K: Sink, R: Threads + Sync, G: Gate, 
     ensures alone { (D.desk desk.new).alone ≡ true }
     ensures config { (D.desk desk.new).config ≡ config.now }
     ensures shards { HaveShards config.now.shards session.new.queries }
+    ensures samples { AreSamples config.now.bits session.new.samples }
+    ensures build { IsBuildOfDesk (D.desk desk.new) session.new.build }
     ensures cause { IsCaused (K.faults sink.old) (K.faults sink.new) result.1 }
 {
     let (taken, cut) = session.cutter.push(bytes);
@@ -138,6 +148,8 @@ pub(crate) fn answer_end<
     requires alone { (D.desk desk.old).alone ≡ true }
     requires config { (D.desk desk.old).config ≡ config.now }
     requires shards { HaveShards config.now.shards session.old.queries }
+    requires samples { AreSamples config.now.bits session.old.samples }
+    requires build { IsBuildOfDesk (D.desk desk.old) session.old.build }
     ensures flow { EndsBetween result config.now
         (point_of (D.desk desk.old) session.old meters.old upkeep.old (K.held sink.old))
         (point_of (D.desk desk.new) session.new meters.new upkeep.new (K.held sink.new)) }

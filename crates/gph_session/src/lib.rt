@@ -10,3 +10,4 @@ mod session_call;
 
 pub use report::{Report, Status};
 pub use session_call::session;
+pub use session_step::LayoutFrom;

@@ -1,5 +1,7 @@
 //! What a session tells of itself once it has ended.
 
+use session_step::LayoutFrom;
+
 /// How a session ended.
 #[derive(Clone, Copy, Debug, PartialEq, Eq)]
 pub enum Status {
@@ -15,11 +17,13 @@ pub enum Status {
     InputLimit,
 }
 
-/// What a session tells of itself: how it ended, how many lines it answered, at most the greatest u64, and the position of the
-/// last of them.
-#[derive(Clone, Copy, Debug, PartialEq, Eq)]
+/// What a session tells of itself: how it ended, how many lines it answered, at most the greatest u64, the position of the last of
+/// them, and the layouts that its queries pinned. These are in the order of the queries, and for one query of the shards: one for
+/// each shard of the first, and then each where a query pinned another layout than the one before.
+#[derive(Drop)]
 pub struct Report {
     pub status: Status,
     pub requests: u64,
     pub position: u64,
+    pub layouts: Vec<LayoutFrom>,
 }

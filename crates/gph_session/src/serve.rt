@@ -4,8 +4,10 @@ ghost use Rattle.std.specs.Prelude.{◌≡◌, ◌≤◌, [], length, true};
 ghost use Rattle.std.specs.Thread.{IsSync};
 ghost use Rattle.session_model.specs.declared.limits.TheConstants.{BLOCK_MOST};
 ghost use Rattle.session_model.specs.Outside.{call};
+ghost use Rattle.layout_search.specs.Improves.{AreSamples};
+ghost use Rattle.session_step.specs.KeptBuild.{IsBuildOfDesk};
 ghost use Rattle.session_step.specs.Meaning.{IsReady, HaveShards};
-ghost use Rattle.gph_session.specs.Flow.{HasBegunWith};
+ghost use Rattle.gph_session.specs.Flow.{HasBegunWith, told_by};
 ghost use Rattle.session_step.specs.Moments.{moment_of};
 ghost use Rattle.gph_session.specs.Serving.{EndsAs};
 
@@ -49,11 +51,14 @@ pub(crate) fn serve<
     requires alone { (D.desk desk.old).alone ≡ true }
     requires config { (D.desk desk.old).config ≡ config.now }
     requires shards { HaveShards config.now.shards session.old.queries }
+    requires samples { AreSamples config.now.bits session.old.samples }
+    requires build { IsBuildOfDesk (D.desk desk.old) session.old.build }
     requires room { length block.old ≡ BLOCK_MOST }
     requires new { HasBegunWith config.now
         (moment_of (D.desk desk.old) session.old meters.old upkeep.old) session.old.cutter.held }
-    ensures { EndsAs result config.now (D.desk desk.old) (D.desk desk.new) session.new.requests
-        session.new.position (call S.left S.faults K.held K.faults source.old source.new
+    ensures { EndsAs result config.now (D.desk desk.old) (D.desk desk.new)
+        (told_by (moment_of (D.desk desk.new) session.new meters.new upkeep.new))
+        (call S.left S.faults K.held K.faults source.old source.new
         sink.old sink.new meters.old meters.new upkeep.old upkeep.new) }
 {
     let limit = config.input;

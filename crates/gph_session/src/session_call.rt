@@ -16,7 +16,7 @@ use read_meter::{Meters, NoMemory, Steps};
 use scatter_gather::Gate;
 use session_desk::Desk;
 use session_model::BLOCK_MOST;
-use session_step::new_session;
+use session_step::{Session, new_session};
 use std::alloc::Global;
 use std::thread::Threads;
 
@@ -72,6 +72,7 @@ pub fn session<
             status: Status::NoMemory,
             requests: 0,
             position,
+            layouts: Vec::new(alloc),
         };
     };
     let status = serve(
@@ -87,9 +88,13 @@ pub fn session<
         upkeep,
         meters,
     );
+    let requests = session.requests;
+    let position = session.position;
+    let Session { pinned, .. } = session;
     Report {
         status,
-        requests: session.requests,
-        position: session.position,
+        requests,
+        position,
+        layouts: pinned.told,
     }
 }

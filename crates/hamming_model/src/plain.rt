@@ -34,9 +34,7 @@ fn near_rows(alloc: Global, rows: &[Row], query: &[u8], radius: u32) -> Result<V
     for row in rows {
         let dist = differences(&row.code, query);
         if dist <= radius {
-            let Ok(()) = hits.push(Hit { dist, key: row.key }) else {
-                return Err(NoMemory);
-            };
+            hits.push(Hit { dist, key: row.key })?;
         }
     }
     Ok(hits)

@@ -56,9 +56,7 @@ pub fn take_waiting<H: HitSource>(source: &mut H, out: &mut Vec<Hit>) -> Result<
     ensures lawful { IsLawful (H.asked source.new) (H.standing source.new) }
 {
     while let Some(hit) = source.head() {
-        let Ok(()) = out.push(hit) else {
-            return Err(NoMemory);
-        };
+        out.push(hit)?;
         let _given = source.pop();
     }
     Ok(())

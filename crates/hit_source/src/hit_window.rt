@@ -43,9 +43,7 @@ impl HitWindow {
     pub fn reserve(alloc: Global, capacity: usize, room: usize) -> Result<HitWindow, NoMemory>
         ensures { IfOk result (λ window. window ≡ window_of [] capacity room) }
     {
-        let Ok(found) = Vec::with_capacity(alloc, capacity) else {
-            return Err(NoMemory);
-        };
+        let found = Vec::with_capacity(alloc, capacity)?;
         Ok(HitWindow {
             found,
             capacity,

@@ -47,7 +47,8 @@ impl Gate for Meeting {
 // A source of these hits, a distance and a key each, of which two may wait.
 fn source_of(alloc: Global, hits: &[(u32, u64)]) -> Result<ListedHits, AllocError>
     ensures fresh { IfOk result (λ source. IsFresh (⟦<ListedHits as HitSource>⟧.standing source)) }
-    ensures far { IfOk result (λ source. (⟦<ListedHits as HitSource>⟧.asked source).farthest ≡ BITS_MOST) }
+    ensures far { IfOk result (λ source.
+        (⟦<ListedHits as HitSource>⟧.asked source).farthest ≡ BITS_MOST) }
 {
     let mut list = Vec::new(alloc);
     for &(dist, key) in hits {

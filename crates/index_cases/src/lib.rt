@@ -19,8 +19,6 @@ mod meters;
 #[cfg(test)]
 mod plain;
 #[cfg(test)]
-mod postings;
-#[cfg(test)]
 mod range_tasks;
 #[cfg(test)]
 mod rows;

@@ -39,7 +39,8 @@ fn no_rows<R: Abort>(rt: &R, alloc: Global) -> Version<1>
 
 // The shard of the odd keys of 8 bits, before any entry.
 fn empty_shard<R: Abort>(rt: &R, alloc: Global) -> Shard<1>
-    ensures rule { (live : ℕ → Option ℕ) (history : List JournalEntry) → KeepsRule live history result }
+    ensures rule { (live : ℕ → Option ℕ) (history : List JournalEntry) →
+        KeepsRule live history result }
     ensures bits { result.current.layout.bits ≡ 8 }
 {
     let version = no_rows(rt, alloc);

@@ -1,14 +1,14 @@
 -- What the steps of a near query leave.
-use Rattle.std.proofs.Common.{◌≡◌, ◌≢◌, ℕ, zero, suc, ◌+◌, ◌-◌, ◌*◌, ◌<◌, ◌≤◌, ◌==◌, nat_lt, Bool, true, false, cond, List, []}
-use Rattle.std.proofs.Common.{◌∷◌, ◌++◌, length, map, filter, take, drop, get_or, sum, sum_by, refl, sym, ap, ◌∙◌, subst, ⊎_elim}
-use Rattle.std.proofs.Common.{arith, inl, inr, Option, Some, None}
-use Rattle.std.specs.Prelude.{All, IfSome, ◌⊎◌, nat_le, not}
+use Rattle.std.proofs.Common.{◌≡◌, ◌≢◌, ℕ, zero, suc, ◌+◌, ◌-◌, ◌<◌, ◌≤◌, ◌==◌, nat_lt, Bool, true, false, cond, List, []}
+use Rattle.std.proofs.Common.{◌∷◌, ◌++◌, length, take, drop, get_or, sum, sum_by, refl, sym, ap, ◌∙◌, subst, ⊎_elim}
+use Rattle.std.proofs.Common.{arith, Option, Some, None}
+use Rattle.std.specs.Prelude.{All, IfSome, nat_le, not}
 use Rattle.std.specs.Option.{option_to_list}
 use Rattle.std.specs.List.{AllByRecursion}
-use Rattle.std.proofs.lemmas.Bool.{ltb-true, cases_lt, cases_eq, eqb-true, eq-eqb, ne_eqb, lt-ltb, le-ltb}
+use Rattle.std.proofs.lemmas.Bool.{ltb-true, cases_lt, cases_eq, eq-eqb, ne_eqb, lt-ltb, le-ltb}
 use Rattle.std.proofs.lemmas.Bool.Decides.{nat_tests}
-use Rattle.std.proofs.lemmas.List.{append-nil, append_assoc, length-map, length-take-le, length-take, length-drop, length-append}
-use Rattle.std.proofs.lemmas.List.{take-append-drop, take-append-le, drop-append-le, nil_from_length, drop-drop}
+use Rattle.std.proofs.lemmas.List.{append-nil, append_assoc, length-map, length-take-le, length-take, length-append}
+use Rattle.std.proofs.lemmas.List.{take-append-drop, take-append-le, drop-append-le, nil_from_length}
 use Rattle.std.proofs.lemmas.List.Elements.{All-from_recursion, recursion_from_All}
 use Rattle.std.proofs.lemmas.List.Sums.{sum_by-append, sum_by-cons}
 use Rattle.std.proofs.lemmas.List.Filters.{sum_by-filter_both}
@@ -20,9 +20,9 @@ use Rattle.ball_walk.proofs.SumLemmas.{sum_filter}
 use Rattle.search_model.specs.Reading.{HasSame}
 use Rattle.search_model.proofs.SameLemmas.{same_length, all_front, all_back}
 use Rattle.search_model.proofs.HitLemmas.{order_size}
-use Rattle.ring_model.specs.Rings.{hits_nearer, hits_from}
-use Rattle.ring_model.proofs.SplitLemmas.{all_in_order, all_kept, ascends_joined, all_nearer}
-use Rattle.hit_source.specs.Windows.{Window, IsWindow, left_of, waiting_of, first_distance, with_moved, with_given, window_of}
+use Rattle.ring_model.specs.Rings.{hits_nearer}
+use Rattle.ring_model.proofs.SplitLemmas.{all_in_order, all_kept, ascends_joined}
+use Rattle.hit_source.specs.Windows.{Window, left_of, waiting_of, with_moved, with_given, window_of}
 use Rattle.hit_source.specs.Settled.{Settles}
 use Rattle.knn_task.specs.Rings.{Search, Ring, IsRing, Begins, all_hits, bound_of}
 use Rattle.knn_task.specs.Near.{KeepsHits, IsOpen, IsNear, SettlesRing, with_new, units_to_settle}
@@ -56,7 +56,8 @@ settles_same from units settled old new settles = record { sums = sums }
         let cut : sum_by f new.found ≡ sum_by f (take settled new.found) + sum_by f (drop settled new.found) =
         ap (sum_by f) (sym (take-append-drop settled new.found))
         ∙ sum_by-append f (take settled new.found) (drop settled new.found) in
-        let own : sum_by f old.found ≡ sum_by f (take from old.found) + sum_by f (drop from old.found) = ap (sum_by f) (sym (take-append-drop from old.found))
+        let own : sum_by f old.found ≡ sum_by f (take from old.found) + sum_by f (drop from old.found) = ap (sum_by f) (sym
+        (take-append-drop from old.found))
         ∙ sum_by-append f (take from old.found) (drop from old.found) in
         let front = ap (sum_by f) settles.front ∙ sum_by-append f (take from old.found) (in_order (hits_nearer (drop from old.found) units)) in
         let order = sum_of_in_order f (hits_nearer (drop from old.found) units) in
@@ -174,7 +175,8 @@ module _ (p : Search) (old new : Ring) (radii : ℕ) (hits : Window) (mark : Mar
       all_both P [] ys a b = b
       all_both P (x ∷ xs) ys a b = (a.0, all_both P xs ys a.1 b)
 
-module _ (p : Search) (w : Ring) (radii : ℕ) (hits : Window) (mark : Mark) (reads : ℕ) (is : KeepsHits p w radii hits mark reads) (ring : IsRing p radii w) where
+module _ (p : Search) (w : Ring) (radii : ℕ) (hits : Window) (mark : Mark) (reads : ℕ) (is : KeepsHits p w radii hits mark reads)
+    (ring : IsRing p radii w) where
   none_new : w.reads ≡ 0 → w.hits ≡ []
   none_new none = nil_from_length w.hits (omega (arith, ring.few_new))
 
@@ -272,7 +274,8 @@ module _ (p : Search) (w : Ring) (radii : ℕ) (hits : Window) (mark : Mark) (re
       (record { kept = is; search = λ _. opened; rest = λ none. absurd (omega arith) }))))
       (λ (end : w.reads ≤ 0). (let done = settles.done (omega arith) in
       let below : mark.settled ≤ radii = omega (arith, opened.settled) in
-      subst (λ n. IsNear p w radii new (record { ready = to.ready; settled = n }) reads) (sym done.1) (near_settled (omega arith) below new to.ready done.0)))
+      subst (λ n. IsNear p w radii new (record { ready = to.ready; settled = n }) reads) (sym done.1) (near_settled
+      (omega arith) below new to.ready done.0)))
       (cases_lt 0 w.reads)
 
 pub sum_more : (xs : List ℕ) (i : ℕ) → i < length xs → sum (take (i + 1) xs) ≡ sum (take i xs) + get_or xs i 0

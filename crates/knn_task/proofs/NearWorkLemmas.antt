@@ -1,15 +1,14 @@
 -- What units of work and a pop do to where a near query stands, and what a poll made of them does.
 use Rattle.std.proofs.Common.{◌≡◌, ◌≢◌, ℕ, zero, suc, ◌+◌, ◌-◌, ◌*◌, ◌<◌, ◌≤◌, ◌==◌, nat_lt, Bool, true, false, cond, List, []}
-use Rattle.std.proofs.Common.{◌∷◌, ◌++◌, length, take, drop, sum, refl, sym, ap, ◌∙◌, subst, ⊎_elim, arith, inl, inr, Option}
+use Rattle.std.proofs.Common.{◌∷◌, length, take, drop, sum, refl, sym, ap, ◌∙◌, subst, ⊎_elim, arith, inl, Option}
 use Rattle.std.proofs.Common.{Some, None}
-use Rattle.std.specs.Prelude.{All, IfSome, ◌⊎◌}
+use Rattle.std.specs.Prelude.{◌⊎◌}
 use Rattle.std.specs.List.{AllByRecursion}
 use Rattle.std.proofs.lemmas.Bool.{cases_lt, eqb-true, eq-eqb, ne_eqb, ltb-true}
 use Rattle.std.proofs.lemmas.List.Elements.{All-from_recursion}
-use Rattle.std.proofs.lemmas.List.{length-take, length-drop, drop-drop, length-take-le}
+use Rattle.std.proofs.lemmas.List.{length-take, drop-drop, length-take-le}
 use Rattle.std.proofs.lemmas.List.Sums.{sum_by-take-le}
 use Rattle.hamming_model.specs.declared.hit.Hit.{Hit}
-use Rattle.hamming_model.specs.Scan.{in_order}
 use Rattle.ring_model.specs.Rings.{hits_nearer}
 use Rattle.ring_model.proofs.SplitLemmas.{all_in_order, all_kept}
 use Rattle.hit_source.specs.declared.polled.Polled.{Polled}
@@ -22,11 +21,10 @@ use Rattle.hit_source.specs.WindowLaws.{waits, rest_waits, floor_rises, ascends_
 use Rattle.hit_source.proofs.WorkLemmas.{polls_by_work}
 use Rattle.knn_task.specs.Rings.{Search, Ring, IsRing, all_hits, bound_of}
 use Rattle.knn_task.specs.Asking.{search_asked, near_answer}
-use Rattle.knn_task.specs.Near.{KeepsHits, IsOpen, IsNear, IsUnder, IsHeld, floor_of, search_standing, search_units, last_of}
+use Rattle.knn_task.specs.Near.{IsNear, IsUnder, IsHeld, floor_of, search_standing, last_of}
 use Rattle.knn_task.specs.NearLists.{last_radii, first_of_take, take_inside}
-use Rattle.knn_task.specs.ReadyLaw.{floor_low, floor_own, floor_high, floor_none, floor_some, ready_few}
-use Rattle.knn_task.specs.ReadyLaw.{ready_size, later_far, prefix, inside, ascending}
-use Rattle.knn_task.specs.NearLaw.{near_lawful}
+use Rattle.knn_task.specs.ReadyLaw.{floor_low, floor_own, floor_high, floor_some, ready_few}
+use Rattle.knn_task.specs.ReadyLaw.{later_far, inside, ascending}
 use Rattle.knn_task.proofs.NearLemmas.{after_pop}
 use Rattle.knn_task.specs.declared.near_task.Mark.{Mark}
 

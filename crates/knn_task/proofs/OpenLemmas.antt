@@ -1,21 +1,18 @@
 -- A near query on a version asks what it should, and begins with nothing.
-use Rattle.std.proofs.Common.{◌≡◌, ℕ, zero, suc, ◌+◌, ◌-◌, ◌*◌, ◌<◌, ◌≤◌, List, [], length, take, get_or, sum, refl, sym, ap, ◌∙◌, subst, arith}
+use Rattle.std.proofs.Common.{◌≡◌, ℕ, zero, suc, ◌+◌, ◌-◌, ◌*◌, ◌≤◌, List, [], length, take, get_or, sum, refl, ap, ◌∙◌, subst, arith}
 use Rattle.std.proofs.lemmas.Bool.{eq-eqb}
 use Rattle.std.specs.Prelude.{IfSome, Option, Some, None}
 use Rattle.std.proofs.lemmas.List.{take_all}
 use Rattle.hamming_model.specs.Scan.{Near}
-use Rattle.threshold_model.specs.Bounds.{IsLeastUpTo, IsBoundOf, IsPlanOf, IsUnitsUpTo, IsUnitsOf, values_of_parts}
-use Rattle.threshold_model.specs.Vectors.{IsLeast}
+use Rattle.threshold_model.specs.Bounds.{IsLeastUpTo, IsBoundOf, IsPlanOf, IsUnitsUpTo, values_of_parts}
 use Rattle.shard_version.specs.Tables.{Tabled}
 use Rattle.ring_walk.specs.NearPlanned.{NearPlanned, PlansNear, near_rows, near_bits, near_parts, near_query, near_counts}
 use Rattle.ring_walk.specs.RingWalks.{RingPlace, StartsRings}
 use Rattle.ring_walk.proofs.NearPlanLemmas.{sum_more}
-use Rattle.hit_source.specs.Sources.{IsAsked, radii_begun}
+use Rattle.hit_source.specs.Sources.{IsAsked}
 use Rattle.hit_source.specs.Windows.{window_of}
-use Rattle.knn_task.specs.Asking.{plan_radius}
 use Rattle.knn_task.specs.Near.{last_of}
-use Rattle.knn_task.specs.Rings.{bound_of}
-use Rattle.knn_task.specs.Walked.{search_of, ring_at, IsNearQuery, near_asked, near_standing}
+use Rattle.knn_task.specs.Walked.{IsNearQuery, near_asked, near_standing}
 use Rattle.knn_task.specs.Opening.{AsksNear, BeginsNear, near_code}
 
 module _ (p : NearPlanned) (query : IsNearQuery p) where

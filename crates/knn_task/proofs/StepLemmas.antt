@@ -1,6 +1,6 @@
 -- The steps of a near query: reading a posting, going on to a value, and beginning a radius.
-use Rattle.std.proofs.Common.{◌≡◌, ℕ, zero, suc, ◌+◌, ◌-◌, ◌*◌, ◌<◌, ◌≤◌, ◌==◌, Bool, true, false, cond, List, [], ◌∷◌, ◌++◌}
-use Rattle.std.proofs.Common.{length, sum, refl, sym, ap, ◌∙◌, subst, ⊎_elim, arith, inl, inr, Option, Some, None}
+use Rattle.std.proofs.Common.{◌≡◌, ℕ, ◌+◌, ◌-◌, ◌*◌, ◌<◌, ◌≤◌, ◌==◌, Bool, true, false, cond, ◌++◌}
+use Rattle.std.proofs.Common.{length, refl, sym, ap, ◌∙◌, subst, ⊎_elim, arith, inl, inr, Option, Some, None}
 use Rattle.std.specs.Option.{option_to_list}
 use Rattle.std.specs.Prelude.{sum_by, All}
 use Rattle.std.proofs.lemmas.Bool.{cases_lt, ne_eqb, eq-eqb}
@@ -9,13 +9,12 @@ use Rattle.std.proofs.lemmas.List.{length-map}
 use Rattle.hamming_model.specs.Scan.{hit_of}
 use Rattle.search_model.proofs.HitLemmas.{order_size}
 use Rattle.ring_model.specs.Rings.{hits_nearer}
-use Rattle.ring_model.proofs.SplitLemmas.{all_nearer}
 use Rattle.knn_task.specs.ReadyLaw.{ready_size}
 use Rattle.hit_source.specs.Moves.{BeginsWithin}
 use Rattle.hit_source.specs.Windows.{Window}
-use Rattle.knn_task.specs.Rings.{Search, Ring, IsRing, Begins, all_hits, bound_of}
+use Rattle.knn_task.specs.Rings.{Search, Ring, IsRing, Begins, all_hits}
 use Rattle.hit_source.specs.Work.{Works}
-use Rattle.knn_task.specs.Near.{KeepsHits, IsOpen, IsNear, IsUnder, SettlesRing, search_standing, with_new, units_to_settle, last_of}
+use Rattle.knn_task.specs.Near.{IsOpen, IsNear, IsUnder, SettlesRing, search_standing, with_new, units_to_settle, last_of}
 use Rattle.knn_task.specs.declared.near_task.Mark.{Mark}
 use Rattle.knn_task.proofs.NearLemmas.{after_read, after_ring, after_begin, units_least}
 use Rattle.knn_task.proofs.NearWorkLemmas.{ring_works, bound_most}

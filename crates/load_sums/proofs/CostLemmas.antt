@@ -1,10 +1,11 @@
 -- The words of a reply to `cost`.
-use Rattle.std.proofs.Common.{◌≡◌, ℕ, ◌<◌, ◌≤◌, ◌^◌, ◌==◌, ◌&&◌, not, nat_le, Bool, true, false, cond, List, [], ◌∷◌, ◌++◌, length, codes, decimal, Some, None, IfSome, ◌-◌, refl, sym, ap, ◌∙◌, subst, arith, append_assoc}
-use Rattle.std.proofs.lemmas.Bool.{and_parts, leb-true}
+use Rattle.std.proofs.Common.{◌≡◌, ℕ, ◌<◌, ◌≤◌, ◌^◌, ◌==◌, ◌&&◌, not, nat_le, nat_lt, Bool, true, false, cond, List, [], ◌∷◌, ◌++◌, length, codes, decimal, Some, None, ◌-◌, refl, sym, ap, ◌∙◌, subst, arith, append_assoc}
+use Rattle.std.proofs.lemmas.Bool.{and_parts, leb-true, le-leb, lt-ltb}
 use Rattle.std.proofs.lemmas.Bool.Decides.{nat_tests}
-use Rattle.std.proofs.lemmas.Fmt.{decimal_is_IsNumeral}
+use Rattle.std.proofs.lemmas.Fmt.{decimal_is_IsNumeral, length-decimal-le}
 use Rattle.std.proofs.lemmas.List.{append-nil}
 use Rattle.std.proofs.lemmas.Str.Parse.{digit_from_value}
+use Rattle.std.specs.Char.{digit_value}
 use Rattle.std.specs.Int.{IsInRange}
 use Rattle.std.specs.List.{list_all}
 use Rattle.std.specs.Str.Parse.{AllDigits, digits_value}
@@ -15,7 +16,7 @@ use Rattle.query_protocol.specs.Replies as reply
 use Rattle.line_forms.specs.declared.tag.TheConstants.{TAG_MOST}
 
 -- no byte of a word is a space
-abbrev is_plain : List ℕ → Bool
+abbrev pub is_plain : List ℕ → Bool
 is_plain word = list_all (λ byte. not (byte == 32)) word
 
 not_true : (test : Bool) → not test ≡ true → test ≡ false
@@ -68,7 +69,7 @@ letter_step byte true passed letter =
     let IsLetter : ℕ → Type 0 = λ (n : ℕ). is_letter_or_digit n ≡ true in subst IsLetter (space_is byte passed) letter
 letter_step byte false passed letter = refl
 
-letters_plain : (bytes : List ℕ) → list_all is_letter_or_digit bytes ≡ true → is_plain bytes ≡ true
+pub letters_plain : (bytes : List ℕ) → list_all is_letter_or_digit bytes ≡ true → is_plain bytes ≡ true
 letters_plain [] all = refl
 letters_plain (byte ∷ bytes) all =
     let split = and_parts (is_letter_or_digit byte) (list_all is_letter_or_digit bytes) all in
@@ -87,11 +88,11 @@ begun_some [] some = absurd (omega (arith, some))
 begun_some (byte ∷ word) some = refl
 
 -- a plain word before a space, and after the others
-first_word : (word rest : List ℕ) → is_plain word ≡ true → 1 ≤ length word → words (word ++ 32 ∷ rest) ≡ word ∷ words rest
+pub first_word : (word rest : List ℕ) → is_plain word ≡ true → 1 ≤ length word → words (word ++ 32 ∷ rest) ≡ word ∷ words rest
 first_word word rest plain some =
     word_ends [] word rest plain ∙ ap (λ (front : List (List ℕ)). front ++ words rest) (begun_some word some)
 
-last_word : (word : List ℕ) → is_plain word ≡ true → 1 ≤ length word → words word ≡ word ∷ []
+pub last_word : (word : List ℕ) → is_plain word ≡ true → 1 ≤ length word → words word ≡ word ∷ []
 last_word word plain some = word_last [] word plain ∙ begun_some word some
 
 -- six texts one after another
@@ -101,7 +102,7 @@ regrouped a b c d e f =
     ∙ append_assoc a b (c ++ (d ++ (e ++ f)))
 
 -- a number is plain, and not empty
-number_some : (number : ℕ) → number < 2 ^ 64 → 1 ≤ length (decimal number)
+pub number_some : (number : ℕ) → number < 2 ^ 64 → 1 ≤ length (decimal number)
 number_some number small = omega (arith, (decimal_is_IsNumeral number small).0.0)
 
 -- the words of a reply to `cost`
@@ -122,14 +123,35 @@ cost_words tag reads bound is small few =
     ap words (regrouped (codes "cost ") tag (codes " reads ") (decimal reads) (codes " bound ") (decimal bound))
     ∙ ap (λ (texts : List (List ℕ)). codes "cost" ∷ texts) first
 
--- a number that may be chosen
-chosen : (test : Bool) (value number : ℕ) → value ≡ number → IfSome (cond test (Some value) None) (λ found. found ≡ number)
-chosen true value number is = is
-chosen false value number is = tt
+-- the digits of a number are read as digits
+digits_pass : (digits : List ℕ) → AllDigits 10 digits → list_all (λ byte. nat_lt (digit_value byte) 10) digits ≡ true
+digits_pass [] all = refl
+digits_pass (byte ∷ bytes) all =
+    both (nat_lt (digit_value byte) 10) (list_all (λ byte. nat_lt (digit_value byte) 10) bytes) (lt-ltb (digit_value byte) 10 all.0)
+    (digits_pass bytes all.1)
+
+-- a number of 64 bits in decimal is a word of at most twenty digits
+decimal_is : (number : ℕ) → number < 2 ^ 64 → is_decimal 20 (decimal number) ≡ true
+decimal_is number small =
+    let size : length (decimal number) ≤ 20 = length-decimal-le 20 number (omega arith) (omega (arith, small)) small in
+    both (nat_le 1 (length (decimal number)) && nat_le (length (decimal number)) 20)
+    (list_all (λ byte. nat_lt (digit_value byte) 10) (decimal number))
+    (both (nat_le 1 (length (decimal number))) (nat_le (length (decimal number)) 20)
+    (le-leb 1 (length (decimal number)) (number_some number small)) (le-leb (length (decimal number)) 20 size))
+    (digits_pass (decimal number) (decimal_is_IsNumeral number small).0.1)
+
+-- a number within its range is the one that was tested
+chosen : (test below within : Bool) (value number : ℕ) → test ≡ true → below ≡ true → within ≡ true → value ≡ number
+    → cond (test && below && within) (Some value) None ≡ Some number
+chosen true true true value number passed low high is = ap Some is
+chosen true true false value number passed low high is = cc
+chosen true false within value number passed low high is = cc
+chosen false below within value number passed low high is = cc
 
 -- the number that a word in decimal stands for
-pub number_read : (number : ℕ) (word : List ℕ) → number < 2 ^ 64 → word ≡ decimal number
-    → IfSome (number_of 20 0 (2 ^ 64 - 1) word) (λ value. value ≡ number)
+pub number_read : (number : ℕ) (word : List ℕ) → number < 2 ^ 64 → word ≡ decimal number → number_of 20 0 (2 ^ 64 - 1) word ≡ Some number
 number_read number word small is =
     let value : digits_value 10 word ≡ number = ap (digits_value 10) is ∙ (decimal_is_IsNumeral number small).1 in
-    chosen (is_decimal 20 word && nat_le 0 (digits_value 10 word) && nat_le (digits_value 10 word) (2 ^ 64 - 1)) (digits_value 10 word) number value
+    chosen (is_decimal 20 word) (nat_le 0 (digits_value 10 word)) (nat_le (digits_value 10 word) (2 ^ 64 - 1)) (digits_value 10 word) number
+    (ap (is_decimal 20) is ∙ decimal_is number small) (le-leb 0 (digits_value 10 word) (omega arith))
+    (le-leb (digits_value 10 word) (2 ^ 64 - 1) (omega (arith, value, small))) value

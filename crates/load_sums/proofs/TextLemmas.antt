@@ -7,7 +7,7 @@ use Rattle.std.proofs.lemmas.Bool.{and_parts, lt-ltb, eqb-true}
 use Rattle.query_protocol.specs.Replies.{LineReply, reply_text, text}
 use Rattle.query_protocol.specs.Written.{has_no_feed, IsWritten}
 use Rattle.load_sums.specs.Lines.{IsFirstLine}
-use Rattle.load_sums.specs.Sums.{hits_of, told_bound, reads_of, lacks_of, IsSumOf, AddsReply, IsSumBefore}
+use Rattle.load_sums.specs.Sums.{hits_of, told_bound, reads_of, lacks_of, IsSumOf, AddsReply, IsSumBefore, CanAdd, HaveSums}
 use Rattle.load_sums.specs.declared.sums.Sums.{Sums}
 
 -- a line ends at the first feed
@@ -81,6 +81,49 @@ one_added said rest line after old new plain some cut adds (this ∷ others) hel
         },
       ),
     )
+
+-- replies that are left have a feed
+feed_is_there : (said : List LineReply) (rest : List ℕ) (sums : Sums) → ((this : LineReply) → IsWritten this → has_no_feed (reply_text this) ≡ true)
+    → 0 < length rest → (left : List LineReply) → IsLeft said rest sums left → position (λ byte. byte == 10) rest ≡ None → ⊥
+feed_is_there said rest sums plain some [] held none = absurd (omega (arith, some, ap length held.0))
+feed_is_there said rest sums plain some (this ∷ others) held none =
+    let whole : rest ≡ reply_text this ++ 10 ∷ text others = held.0 ∙ append_assoc (reply_text this) (10 ∷ []) (text others) in
+    let found : position (λ byte. byte == 10) rest ≡ Some (length (reply_text this)) =
+    ap (λ (bytes : List ℕ). position (λ byte. byte == 10) bytes) whole ∙ feed_at (reply_text this) (text others) (plain this held.1.0) in
+    let both : Some (length (reply_text this)) ≡ None = sym found ∙ none in
+    cc
+
+pub has_feed : (said : List LineReply) (rest : List ℕ) (sums : Sums) → ((this : LineReply) → IsWritten this → has_no_feed (reply_text this) ≡ true)
+    → 0 < length rest → Left said rest sums → position (λ byte. byte == 10) rest ≡ None → ⊥
+has_feed said rest sums plain some held none = feed_is_there said rest sums plain some held.0 held.1 none
+
+-- replies of which one can't be added have no sums
+never_added : (said : List LineReply) (rest line after : List ℕ) (sums : Sums)
+    → ((this : LineReply) → IsWritten this → has_no_feed (reply_text this) ≡ true) → 0 < length rest → IsFirstLine rest line after
+    → ((this : LineReply) → IsWritten this → line ≡ reply_text this → ¬ CanAdd this sums)
+    → (left : List LineReply) → IsLeft said rest sums left → ¬ HaveSums said
+never_added said rest line after sums plain some cut never [] held = λ have. absurd (omega (arith, some, ap length held.0))
+never_added said rest line after sums plain some cut never (this ∷ others) held = λ have.
+    let written : IsWritten this = held.1.0 in
+    let whole : rest ≡ reply_text this ++ 10 ∷ text others = held.0 ∙ append_assoc (reply_text this) (10 ∷ []) (text others) in
+    let at = first_cut (reply_text this) (text others) line after (plain this written)
+    (subst (λ bytes. IsFirstLine bytes line after) whole cut) in
+    let before : IsSumBefore said (this ∷ others) sums = held.2 in
+    let of_hits : sum_by hits_of (this ∷ others) ≡ hits_of this + sum_by hits_of others = sum_by-cons hits_of this others in
+    let of_bound : sum_by told_bound (this ∷ others) ≡ told_bound this + sum_by told_bound others = sum_by-cons told_bound this others in
+    let of_reads : sum_by reads_of (this ∷ others) ≡ reads_of this + sum_by reads_of others = sum_by-cons reads_of this others in
+    let of_lacks : sum_by lacks_of (this ∷ others) ≡ lacks_of this + sum_by lacks_of others = sum_by-cons lacks_of this others in
+    never this written at.0 (record {
+      not_lacks = omega (arith, before.none_lacks, of_lacks, have.none_lacks);
+      few_hits = omega (arith, before.hits, of_hits, have.few_hits);
+      few_bounds = omega (arith, before.bound, of_bound, have.few_bounds);
+      few_reads = omega (arith, before.reads, of_reads, have.few_reads);
+    })
+
+pub none_added_more : (said : List LineReply) (rest line after : List ℕ) (sums : Sums)
+    → ((this : LineReply) → IsWritten this → has_no_feed (reply_text this) ≡ true) → 0 < length rest → IsFirstLine rest line after
+    → ((this : LineReply) → IsWritten this → line ≡ reply_text this → ¬ CanAdd this sums) → Left said rest sums → ¬ HaveSums said
+none_added_more said rest line after sums plain some cut never held = never_added said rest line after sums plain some cut never held.0 held.1
 
 -- a reply has a line, which has a feed
 no_reply : (line rest : List ℕ) → ◌≡◌ {A = List ℕ} [] (line ++ 10 ∷ [] ++ rest) → ⊥

@@ -1,10 +1,10 @@
-ghost use Rattle.std.specs.Prelude.{◌≡◌, ◌==◌, ◌+◌, ℕ, List, ◌∷◌, ◌<◌, ◌^◌, [], length, position, codes, decimal, IfSome, true};
+ghost use Rattle.std.specs.Prelude.{◌≡◌, ◌==◌, ◌+◌, ℕ, List, ◌∷◌, ◌<◌, ◌^◌, [], length, position, codes, decimal, Some, None, IfNone, IfSome, MatchOption, true};
 ghost use Rattle.std.specs.List.{AllByRecursion};
 ghost use Rattle.line_forms.specs.Forms.{is_tag};
 ghost use Rattle.line_forms.specs.Words.{words};
 ghost use Rattle.query_protocol.specs.Replies.{LineReply, reply_text, text};
 ghost use Rattle.query_protocol.specs.Written.{has_no_feed, IsWritten};
-ghost use Rattle.load_sums.specs.Sums.{IsSumOf, AddsReply};
+ghost use Rattle.load_sums.specs.Sums.{IsSumOf, AddsReply, CanAdd, HaveSums};
 ghost use Rattle.load_sums.specs.Lines.{IsFirstLine};
 
 use line_forms::{next_word, number_of};
@@ -21,11 +21,13 @@ pub struct Sums {
 }
 
 impl Sums {
-    /// The sums of the replies that a text is, or None where one of them is that there was no memory, or where a sum is above the
-    /// greatest u64.
+    /// The sums of the replies that a text is, or None exactly where one of them is that there was no memory, or where a sum is above
+    /// the greatest u64.
     pub fn of(replies: &[u8]) -> Option<Sums>
-        ensures { (said : List LineReply) → replies.now ≡ text said →
+        ensures sums { (said : List LineReply) → replies.now ≡ text said →
             AllByRecursion IsWritten said → IfSome result (IsSumOf said) }
+        ensures none { (said : List LineReply) → replies.now ≡ text said →
+            AllByRecursion IsWritten said → IfNone result (¬ HaveSums said) }
     {
         query_protocol::lines_of_replies();
         let mut sums = Sums {
@@ -42,10 +44,13 @@ impl Sums {
         Some(sums)
     }
 
-    // The sums with one reply more, or None where it is that there was no memory.
+    // The sums with one reply more, or None exactly where it is that there was no memory, or where a sum would be above the greatest
+    // u64.
     fn with(self, line: &[u8]) -> Option<Sums>
-        ensures { (reply : LineReply) → IsWritten reply → line.now ≡ reply_text reply →
+        ensures sums { (reply : LineReply) → IsWritten reply → line.now ≡ reply_text reply →
             IfSome result (AddsReply reply self) }
+        ensures none { (reply : LineReply) → IsWritten reply → line.now ≡ reply_text reply →
+            IfNone result (¬ CanAdd reply self) }
     {
         let (word, after) = next_word(line)?;
         if word == b"hit".as_slice() {
@@ -73,7 +78,7 @@ impl Sums {
 fn cost_in(after: &[u8]) -> Option<(u64, u64)>
     ensures { (tag : List ℕ) (reads bound : ℕ) → reads < 2 ^ 64 → bound < 2 ^ 64 →
         words after.now ≡ tag ∷ codes "reads" ∷ decimal reads ∷ codes "bound" ∷ decimal bound ∷ [] →
-        IfSome result (λ both. both ≡ (reads, bound)) }
+        result ≡ Some (reads, bound) }
 {
     let (_tag, after) = next_word(after)?;
     let (_reads, after) = next_word(after)?;
@@ -85,15 +90,15 @@ fn cost_in(after: &[u8]) -> Option<(u64, u64)>
 
 // The number that a word is.
 fn number_in(word: &[u8]) -> Option<u64>
-    ensures { (number : ℕ) → number < 2 ^ 64 → word.now ≡ decimal number →
-        IfSome result (λ value. value ≡ number) }
+    ensures { (number : ℕ) → number < 2 ^ 64 → word.now ≡ decimal number → result ≡ Some number }
 {
     number_of(20, 0, u64::MAX, word)
 }
 
-// The first line of a text, without its line feed, and what follows it.
+// The first line of a text, without its line feed, and what follows it, or None exactly where it has no line feed.
 fn first_line(text: &[u8]) -> Option<(&[u8], &[u8])>
-    ensures { IfSome result (λ parts. IsFirstLine text.now parts.0.now parts.1.now) }
+    ensures { MatchOption result (position (λ byte. byte == 10) text.now ≡ None)
+        (λ parts. IsFirstLine text.now parts.0.now parts.1.now) }
 {
     let feed = feed_in(text)?;
     Some((&text[..feed], &text[feed + 1..]))

@@ -58,10 +58,10 @@ fn add_all<R: Abort, D: Desk<1>>(rt: &R, desk: &mut D, rows: &[(u64, u8)])
     requires bits { (D.desk desk.old).config.bits ≡ 8 }
     ensures config { (D.desk desk.new).config ≡ (D.desk desk.old).config }
 {
-    for i in 0..rows.len() {
-        let code = spelled(rt, &[digit(rows[i].1 / 16), digit(rows[i].1)]);
+    for row in 0..rows.len() {
+        let code = spelled(rt, &[digit(rows[row].1 / 16), digit(rows[row].1)]);
         let added = Op::Add {
-            key: rows[i].0,
+            key: rows[row].0,
             code,
         };
         desk.commit(added).expect(rt, "memory for an entry");

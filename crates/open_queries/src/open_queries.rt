@@ -3,7 +3,7 @@
 ghost use Rattle.std.specs.Prelude.{◌≡◌, ◌++◌, ◌<◌, [], ◌∷◌, true, false, nat_le, length, IfOk};
 ghost use Rattle.std.specs.Thread.{IsSync};
 ghost use Rattle.query_protocol.specs.Replies.{line_of};
-ghost use Rattle.session_model.specs.QuerySteps.{most_open};
+ghost use Rattle.session_model.specs.Openings.{most_open};
 ghost use Rattle.open_queries.specs.Queries.{IsFree, IsUsed, HaveShard, opened_query};
 ghost use Rattle.open_queries.specs.Kept.{IsUntouched};
 ghost use Rattle.open_queries.specs.Writing.{IsCaused};
@@ -31,7 +31,7 @@ pub struct OpenQueries<H: HitSource> {
 
 impl<H: HitSource> Model for OpenQueries<H> {
     ghost use Rattle.std.specs.Prelude.{List, ◌≤◌, vec_capacity};
-    ghost use Rattle.session_model.specs.QuerySteps.{most_open};
+    ghost use Rattle.session_model.specs.Openings.{most_open};
     ghost use Rattle.open_queries.specs.declared.open_query.OpenQuery.{OpenQuery};
     ghost use Rattle.open_queries.specs.Kept.{AreKept};
 

@@ -60,9 +60,7 @@ fn push_runs(
 {
     for done in 0..number {
         let part = run(alloc, first + done * width, width)?;
-        let Ok(()) = parts.push(part) else {
-            return Err(NoMemory);
-        };
+        parts.push(part)?;
     }
     Ok(())
 }
@@ -74,9 +72,7 @@ fn run(alloc: Global, first: u32, width: u32) -> Result<Vec<u16>, NoMemory>
 {
     let mut part = Vec::new(alloc);
     for offset in 0..width {
-        let Ok(()) = part.push((first + offset) as u16) else {
-            return Err(NoMemory);
-        };
+        part.push((first + offset) as u16)?;
     }
     Ok(part)
 }

@@ -17,9 +17,7 @@ pub fn parts_of(alloc: Global, text: &[u8]) -> Result<Vec<Vec<u16>>, NoMemory>
     let mut rest = text;
     while !rest.is_empty() {
         let (part, after) = first_part(alloc, rest)?;
-        let Ok(()) = parts.push(part) else {
-            return Err(NoMemory);
-        };
+        parts.push(part)?;
         rest = after;
     }
     Ok(parts)
@@ -36,9 +34,7 @@ fn first_part(alloc: Global, text: &[u8]) -> Result<(Vec<u16>, &[u8]), NoMemory>
     let mut part = Vec::new(alloc);
     let mut rest = text;
     while let Some((listed, after)) = next_position(rest) {
-        let Ok(()) = part.push(listed.position as u16) else {
-            return Err(NoMemory);
-        };
+        part.push(listed.position as u16)?;
         if listed.ends_part {
             return Ok((part, after));
         }

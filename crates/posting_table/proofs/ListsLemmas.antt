@@ -1,5 +1,6 @@
 -- Lists with room: an entry placed, and the lists of all values dealt out to buckets.
-use Rattle.std.proofs.Common.{◌≡◌, ℕ, ◌+◌, ◌-◌, ◌*◌, ◌/◌, ◌%◌, ◌^◌, ◌<◌, ◌≤◌, inl, inr, min, List, [], ◌∷◌, ◌++◌, length, take, set, get_or, sum, replicate, sym, ap, subst, ◌∙◌, arith, All, Vec, Global, length-append}
+use Rattle.std.proofs.Common.{◌≡◌, ℕ, ◌+◌, ◌-◌, ◌*◌, ◌/◌, ◌%◌, ◌^◌, ◌<◌, ◌≤◌, inl, inr, min, List, [], ◌∷◌, ◌++◌, length, take, set}
+use Rattle.std.proofs.Common.{get_or, sum, replicate, sym, ap, subst, ◌∙◌, arith, All, Vec, Global, length-append}
 use Rattle.std.specs.Arc.{arc_value}
 use Rattle.std.specs.declared.sync.Arc.{Arc}
 use Rattle.std.specs.Vec.{vec_capacity}
@@ -13,7 +14,7 @@ use Rattle.std.proofs.lemmas.List.Sums.{get_or-le-sum_by}
 use Rattle.std.proofs.Math.Seq.{map-set_same}
 use Rattle.posting_table.specs.Kept.{AreBuckets, all_lists, buckets_of, kept_table, list_in}
 use Rattle.posting_table.specs.KeptLists.{AreKeptLists, dealt_out, held_by, lists_of_rest, reserved_of, rooms_of}
-use Rattle.posting_table.specs.Reserved.{HasRoom, Reserved, placed}
+use Rattle.posting_table.specs.Reserved.{HasSpace, Reserved, entry_placed}
 use Rattle.posting_table.specs.Tables.{Table, posting_list, with_posting}
 use Rattle.posting_table.proofs.BucketLemmas.{items_of, map_changed, map_kept, seen_at}
 
@@ -37,7 +38,8 @@ list_dealt all done rest round at own copied place below is same before =
 
 -- the bucket of one rest more
 pub bucket_dealt : (lists : List (List (ℕ × List ℕ))) (done : List (Arc (List (List (ℕ × List ℕ))) Global)) (rest number : ℕ)
-    (bucket : List (List (ℕ × List ℕ))) (shared : Arc (List (List (ℕ × List ℕ))) Global) → arc_value shared ≡ bucket → bucket ≡ lists_of_rest lists rest number
+    (bucket : List (List (ℕ × List ℕ))) (shared : Arc (List (List (ℕ × List ℕ))) Global) → arc_value shared ≡ bucket
+    → bucket ≡ lists_of_rest lists rest number
     → buckets_of done ≡ dealt_out lists rest number → buckets_of (done ++ shared ∷ []) ≡ dealt_out lists (rest + 1) number
 bucket_dealt lists done rest number bucket shared holds is before =
     map-append (λ one. arc_value one) done (shared ∷ [])
@@ -73,7 +75,8 @@ module _ (width : ℕ) (all : List (Vec (ℕ × List ℕ) Global)) (kept : AreKe
       let whole : value / 256 * 256 + value % 256 ≡ value = omega arith in
       ap (λ (bucket : List (List (ℕ × List ℕ))). get_or bucket (value / 256) [])
       (get_or-map-range_with_len (λ rest. lists_of_rest (held_by all) rest in_each) 0 rests (value % 256) (value % 256) [] (omega arith) (omega arith))
-      ∙ get_or-map-range_with_len (λ round. get_or (held_by all) (round * 256 + value % 256) []) 0 in_each (value / 256) (value / 256) [] (omega arith) (omega arith)
+      ∙ get_or-map-range_with_len (λ round. get_or (held_by all) (round * 256 + value % 256) []) 0 in_each (value / 256) (value / 256) []
+      (omega arith) (omega arith)
       ∙ ap (λ (at : ℕ). get_or (held_by all) at []) whole
 
   -- the buckets have the lists of all values
@@ -115,7 +118,7 @@ module _ (width : ℕ) (all : List (Vec (ℕ × List ℕ) Global)) (kept : AreKe
 -- ---- an entry placed
 
 module _ (width : ℕ) (lists : List (Vec (ℕ × List ℕ) Global)) (reserved : Reserved) (value key : ℕ) (kept : AreKeptLists width lists)
-    (seen : reserved_of width lists ≡ reserved) (has : HasRoom reserved value key) (own new : Vec (ℕ × List ℕ) Global) (is : own ≡ get_or lists value own)
+    (seen : reserved_of width lists ≡ reserved) (has : HasSpace reserved value key) (own new : Vec (ℕ × List ℕ) Global) (is : own ≡ get_or lists value own)
     (entry : ℕ × List ℕ) (pushed : new.items ≡ own.items ++ entry ∷ []) (same_room : vec_capacity new ≡ vec_capacity own) where
   held_seen : held_by lists ≡ reserved.table.lists
   held_seen = ap (λ (r : Reserved). r.table.lists) seen
@@ -170,13 +173,21 @@ module _ (width : ℕ) (lists : List (Vec (ℕ × List ℕ) Global)) (reserved :
         (sym (map-set_same room_of lists value new own (same_room ∙ ap room_of is))) kept.few;
   }
 
-  pub placed_seen : reserved_of width (set lists value new) ≡ placed reserved value entry
+  pub placed_seen : reserved_of width (set lists value new) ≡ entry_placed reserved value entry
   placed_seen =
       let held : held_by (set lists value new) ≡ (with_posting reserved.table value entry).lists =
       map_changed items_of lists reserved.table.lists value own held_seen is new [] (λ list. list ++ entry ∷ []) in_table pushed in
       let rooms : rooms_of (set lists value new) ≡ reserved.room = map_kept room_of lists reserved.room value own rooms_seen is new same_room in
-      ap (λ (number : ℕ). let r : Reserved = record { table = record { width = number; lists = held_by (set lists value new) }; room = rooms_of (set lists value new) } in r) width_seen
-      ∙ ap (λ (one : List (List (ℕ × List ℕ))). let r : Reserved = record { table = record { width = reserved.table.width; lists = one }; room = rooms_of (set lists value new) } in r) held
+      ap (λ (number : ℕ). let r : Reserved = record {
+        table = record { width = number; lists = held_by (set lists value new) };
+        room = rooms_of
+            (set lists value new);
+      } in r) width_seen
+      ∙ ap (λ (one : List (List (ℕ × List ℕ))). let r : Reserved = record {
+        table = record { width = reserved.table.width; lists = one };
+        room =
+            rooms_of (set lists value new);
+      } in r) held
       ∙ ap (λ (one : List ℕ). let r : Reserved = record { table = with_posting reserved.table value entry; room = one } in r) rooms
 
 -- ---- lists with room, and no entry

@@ -20,11 +20,11 @@ abbrev pub with_room : ℕ → List ℕ → Reserved
 with_room width sizes = record { table = no_postings width; room = sizes }
 
 -- the lists with one entry more, at the end of that of a value, in the same room
-abbrev pub placed : Reserved → ℕ → ℕ × List ℕ → Reserved
-placed lists value entry = record lists { table = with_posting lists.table value entry }
+abbrev pub entry_placed : Reserved → ℕ → ℕ × List ℕ → Reserved
+entry_placed lists value entry = record lists { table = with_posting lists.table value entry }
 
 -- the list of a value has room for one entry more, and none of the key
-pub record HasRoom (lists : Reserved) (value key : ℕ) : Type 0 where
+pub record HasSpace (lists : Reserved) (value key : ℕ) : Type 0 where
   pub in_width : value < 2 ^ lists.table.width
   pub space : length (posting_list lists.table value) < slice_index lists.room value
   pub absent : has_key (posting_list lists.table value) key ≡ false

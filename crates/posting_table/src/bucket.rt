@@ -31,13 +31,9 @@ impl<const W: usize> Bucket<W> {
     pub(crate) fn new(alloc: Global, number: usize) -> Result<Bucket<W>, NoMemory>
         ensures { IfOk result (λ bucket. bucket ≡ replicate number []) }
     {
-        let Ok(mut lists) = Vec::with_capacity(alloc, number) else {
-            return Err(NoMemory);
-        };
+        let mut lists = Vec::with_capacity(alloc, number)?;
         for _i in 0..number {
-            let Ok(()) = lists.push(Vec::new(alloc)) else {
-                return Err(NoMemory);
-            };
+            lists.push(Vec::new(alloc))?;
         }
         Ok(Bucket { alloc, lists })
     }
@@ -46,16 +42,10 @@ impl<const W: usize> Bucket<W> {
     fn copy(&self) -> Result<Bucket<W>, NoMemory>
         ensures { IfOk result (λ copy. copy ≡ self.now) }
     {
-        let Ok(mut copies) = Vec::with_capacity(self.alloc, self.lists.len()) else {
-            return Err(NoMemory);
-        };
+        let mut copies = Vec::with_capacity(self.alloc, self.lists.len())?;
         for list in &self.lists {
-            let Ok(copied) = Vec::from_slice(self.alloc, list.as_slice()) else {
-                return Err(NoMemory);
-            };
-            let Ok(()) = copies.push(copied) else {
-                return Err(NoMemory);
-            };
+            let copied = Vec::from_slice(self.alloc, list.as_slice())?;
+            copies.push(copied)?;
         }
         Ok(Bucket {
             alloc: self.alloc,
@@ -73,17 +63,11 @@ impl<const W: usize> Bucket<W> {
         requires { (round : ℕ) → round < number → round * BUCKETS + rest < length all.now }
         ensures { IfOk result (λ bucket. bucket ≡ lists_of_rest (held_by all.now) rest number) }
     {
-        let Ok(mut lists) = Vec::with_capacity(alloc, number) else {
-            return Err(NoMemory);
-        };
+        let mut lists = Vec::with_capacity(alloc, number)?;
         for round in 0..number {
             let own = &all[round * BUCKETS + rest];
-            let Ok(copied) = Vec::from_slice(alloc, own.as_slice()) else {
-                return Err(NoMemory);
-            };
-            let Ok(()) = lists.push(copied) else {
-                return Err(NoMemory);
-            };
+            let copied = Vec::from_slice(alloc, own.as_slice())?;
+            lists.push(copied)?;
         }
         Ok(Bucket { alloc, lists })
     }

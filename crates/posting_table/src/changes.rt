@@ -21,9 +21,7 @@ pub(crate) fn push_in<const W: usize>(
         ≡ with_last (arc_value bucket.old) at (key, code.entry)) }
     ensures unchanged { OnErr result (arc_value bucket.new ≡ arc_value bucket.old) }
 {
-    let Ok(own) = Arc::make_mut(bucket) else {
-        return Err(NoMemory);
-    };
+    let own = Arc::make_mut(bucket)?;
     own.push(at, key, code)
 }
 
@@ -41,9 +39,7 @@ pub(crate) fn remove_from<const W: usize>(
         ≡ slice_set (arc_value bucket.old) at (list_at (arc_value bucket.new) at) }
     ensures unchanged { OnErr result (arc_value bucket.new ≡ arc_value bucket.old) }
 {
-    let Ok(own) = Arc::make_mut(bucket) else {
-        return Err(NoMemory);
-    };
+    let own = Arc::make_mut(bucket)?;
     own.remove(at, place);
     Ok(())
 }

@@ -2,7 +2,7 @@
 
 ghost use Rattle.std.specs.Prelude.{◌≡◌, ◌^◌, ◌<◌, ◌≤◌, length, sum, IfErr, IfOk};
 ghost use Rattle.hamming_model.specs.declared.limits.TheConstants.{ENTRIES_MOST, PART_WIDTH_MOST, WORDS_MOST};
-ghost use Rattle.posting_table.specs.Reserved.{HasRoom, placed, with_room};
+ghost use Rattle.posting_table.specs.Reserved.{HasSpace, entry_placed, with_room};
 
 use crate::no_memory_for::NoMemoryFor;
 use crate::postings::Postings;
@@ -47,16 +47,10 @@ impl<const W: usize> Lists<W> {
         requires few { sum sizes.now ≤ ENTRIES_MOST }
         ensures { IfOk result (λ lists. lists ≡ with_room width sizes.now) }
     {
-        let Ok(mut lists) = Vec::with_capacity(alloc, sizes.len()) else {
-            return Err(NoMemory);
-        };
+        let mut lists = Vec::with_capacity(alloc, sizes.len())?;
         for size in sizes {
-            let Ok(list) = Vec::with_capacity(alloc, *size as usize) else {
-                return Err(NoMemory);
-            };
-            let Ok(()) = lists.push(list) else {
-                return Err(NoMemory);
-            };
+            let list = Vec::with_capacity(alloc, *size as usize)?;
+            lists.push(list)?;
         }
         Ok(Lists {
             alloc,
@@ -67,8 +61,8 @@ impl<const W: usize> Lists<W> {
 
     /// Adds an entry at the end of the list of a value, in its room. Takes no memory.
     pub fn place(&mut self, value: u16, key: u64, code: Code<W>)
-        requires { HasRoom self.old value key }
-        ensures { self.new ≡ placed self.old value (key, code.entry) }
+        requires { HasSpace self.old value key }
+        ensures { self.new ≡ entry_placed self.old value (key, code.entry) }
     {
         self.lists[value as usize].push_reserved((key, code));
     }

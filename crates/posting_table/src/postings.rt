@@ -54,17 +54,11 @@ impl<const W: usize> Postings<W> {
     {
         let values = 1usize << width;
         let number = values.min(BUCKETS);
-        let Ok(mut buckets) = Vec::with_capacity(alloc, number) else {
-            return Err(NoMemory);
-        };
+        let mut buckets = Vec::with_capacity(alloc, number)?;
         for _i in 0..number {
             let bucket = Bucket::new(alloc, (values + BUCKETS - 1) / BUCKETS)?;
-            let Ok(shared) = Arc::new(alloc, bucket) else {
-                return Err(NoMemory);
-            };
-            let Ok(()) = buckets.push(shared) else {
-                return Err(NoMemory);
-            };
+            let shared = Arc::new(alloc, bucket)?;
+            buckets.push(shared)?;
         }
         Ok(Postings {
             alloc,
@@ -83,9 +77,7 @@ impl<const W: usize> Postings<W> {
         ensures { IfOk result (λ table. table ≡ (reserved_of width lists.now).table) }
     {
         let number = lists.len().min(BUCKETS);
-        let Ok(mut buckets) = Vec::with_capacity(alloc, number) else {
-            return Err(NoMemory);
-        };
+        let mut buckets = Vec::with_capacity(alloc, number)?;
         for rest in 0..number {
             let bucket = Bucket::of_rest(
                 alloc,
@@ -93,12 +85,8 @@ impl<const W: usize> Postings<W> {
                 rest,
                 (lists.len() + BUCKETS - 1) / BUCKETS,
             )?;
-            let Ok(shared) = Arc::new(alloc, bucket) else {
-                return Err(NoMemory);
-            };
-            let Ok(()) = buckets.push(shared) else {
-                return Err(NoMemory);
-            };
+            let shared = Arc::new(alloc, bucket)?;
+            buckets.push(shared)?;
         }
         Ok(Postings {
             alloc,
@@ -116,16 +104,10 @@ impl<const W: usize> Postings<W> {
     pub fn copy(&self) -> Result<Postings<W>, NoMemory>
         ensures { IfOk result (λ copy. copy ≡ self.now) }
     {
-        let Ok(mut copies) = Vec::with_capacity(self.alloc, self.buckets.len()) else {
-            return Err(NoMemory);
-        };
+        let mut copies = Vec::with_capacity(self.alloc, self.buckets.len())?;
         for bucket in &self.buckets {
-            let Ok(shared) = bucket.clone() else {
-                return Err(NoMemory);
-            };
-            let Ok(()) = copies.push(shared) else {
-                return Err(NoMemory);
-            };
+            let shared = bucket.clone()?;
+            copies.push(shared)?;
         }
         Ok(Postings {
             alloc: self.alloc,

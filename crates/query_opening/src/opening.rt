@@ -13,7 +13,7 @@ ghost use Rattle.session_desk.specs.Calls.{KeepsKnown};
 ghost use Rattle.session_desk.specs.Desks.{IsDesk};
 ghost use Rattle.query_opening.specs.Opening.{AreSourcesOn, IsSourceOn, MayBeAsked, OpensSources};
 ghost use Rattle.query_opening.specs.Opening.{is_nearest, wanted_radius};
-ghost use Rattle.query_opening.specs.Pinning.{ComesOn, behind, contents_of_all};
+ghost use Rattle.query_opening.specs.Pinning.{ComesOn, PinsAll, behind, contents_of_all};
 
 use crate::pinning::pin_all;
 use crate::wanted::Wanted;
@@ -32,10 +32,12 @@ use std::sync::Arc;
 /// A query on one shard.
 pub type Source<const W: usize> = Either<RangeTask<W>, NearTask<W>>;
 
-/// A source for each shard, in the order of their numbers, at one position, and how many rows there are at it.
+/// A source for each shard, in the order of their numbers, at one position, the versions that they stand on, and how many rows there
+/// are at it.
 #[derive(Drop)]
 pub struct Opened<const W: usize> {
     pub sources: Vec<Source<W>>,
+    pub versions: Vec<Arc<Version<W>>>,
     pub position: u64,
     pub rows: u64,
 }
@@ -63,6 +65,8 @@ pub fn open_query<const W: usize, D: Desk<W>, M>(
         ⟦<Source<W> as HitSource>⟧.asked ⟦<Source<W> as HitSource>⟧.standing
         (D.desk desk.old) (D.desk desk.new) opened.position opened.rows
         wanted (take (D.desk desk.old).config.bits query.entry) room opened.sources.items) }
+    ensures versions { IfOk result (λ opened. PinsAll (D.desk desk.old) (D.desk desk.new)
+        opened.position (contents_of_all opened.versions.items)) }
     ensures fresh { IfOk result (λ opened.
         AllByRecursion (λ source. IsFresh (⟦<Source<W> as HitSource>⟧.standing source))
         opened.sources.items) }
@@ -87,6 +91,7 @@ pub fn open_query<const W: usize, D: Desk<W>, M>(
     let sources = open_each(alloc, &pinned.versions, wanted, query, room)?;
     Ok(Opened {
         sources,
+        versions: pinned.versions,
         position: pinned.position,
         rows,
     })
@@ -111,14 +116,10 @@ fn open_each<const W: usize>(
         sources.items (length versions.now)) }
 {
     let mut sources = Vec::new(alloc);
-    for i in 0..versions.len() {
-        let Ok(version) = versions[i].clone() else {
-            return Err(NoMemory);
-        };
+    for shard in 0..versions.len() {
+        let version = versions[shard].clone()?;
         let source = open_source(alloc, version, wanted, query, room)?;
-        let Ok(()) = sources.push(source) else {
-            return Err(NoMemory);
-        };
+        sources.push(source)?;
     }
     Ok(sources)
 }
@@ -157,8 +158,8 @@ fn row_count<const W: usize>(versions: &[Arc<Version<W>>]) -> u64
     ensures { result ≡ sum (map (λ version. length version.rows) (contents_of_all versions.now)) }
 {
     let mut rows = 0;
-    for i in 0..versions.len() {
-        rows += versions[i].rows();
+    for shard in 0..versions.len() {
+        rows += versions[shard].rows();
     }
     rows
 }

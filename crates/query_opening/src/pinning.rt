@@ -37,7 +37,8 @@ pub fn pin_all<const W: usize, D: Desk<W>, M>(
     ensures comes { ComesOn (D.desk desk.old) (D.desk desk.new) }
     ensures known { KeepsKnown (D.desk desk.new) (D.knows desk.old) (D.knows desk.new) }
     ensures upkeep { steps.new ≤ steps.old
-        + behind (D.desk desk.old).pins (length (D.desk desk.new).seen) (D.desk desk.old).config.shards }
+        + behind (D.desk desk.old).pins (length (D.desk desk.new).seen)
+        (D.desk desk.old).config.shards }
     ensures desk { IsDesk W (D.desk desk.new) }
 {
     let _shards = desk.shards();
@@ -76,9 +77,7 @@ fn pin_each<const W: usize, D: Desk<W>, M>(
     let mut versions = Vec::new(alloc);
     for shard in 0..desk.shards() {
         let version = desk.pin(front, shard, steps)?;
-        let Ok(()) = versions.push(version) else {
-            return Err(NoMemory);
-        };
+        versions.push(version)?;
     }
     Ok(versions)
 }

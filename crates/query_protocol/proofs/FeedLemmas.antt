@@ -95,6 +95,10 @@ AllHaveLayoutBytes = (layout : Laid) → IsLaid layout → HasLayoutBytes (layou
 layout_no_feed : AllHaveLayoutBytes → (text : List ℕ) → IsTextOfLayout text → has_no_feed text ≡ true
 layout_no_feed each text is = rw is.2 (marks_no_feed (layout_text is.0.parts) (each is.0 is.1))
 
+-- two texts after one
+and_two : (a b c : List ℕ) → has_no_feed a ≡ true → has_no_feed b ≡ true → has_no_feed c ≡ true → has_no_feed (a ++ b ++ c) ≡ true
+and_two a b c first second third = no_feed_joined (a ++ b) c (no_feed_joined a b first second) third
+
 -- a text with three parts of its own, in the order word, text, word, text
 four : (a b c d : List ℕ) → has_no_feed a ≡ true → has_no_feed b ≡ true → has_no_feed c ≡ true → has_no_feed d ≡ true
     → has_no_feed (a ++ b ++ c ++ d) ≡ true
@@ -194,5 +198,34 @@ reply_no_feed each (reply.Plan tag shard cost thresholds) is =
     (number_no_feed cost is.2)) (thresholds_no_feed thresholds is.3)
 reply_no_feed each (reply.Layout shard text) is =
     four (codes "layout ") (decimal shard) (codes " ") text refl (number_no_feed shard is.0) refl (layout_no_feed each text is.1)
+reply_no_feed each (reply.Building shard left at) is =
+    no_feed_joined (codes "building " ++ decimal shard ++ codes " left " ++ decimal left ++ codes " at ") (decimal at)
+    (no_feed_joined (codes "building " ++ decimal shard ++ codes " left " ++ decimal left) (codes " at ")
+    (four (codes "building ") (decimal shard) (codes " left ") (decimal left) refl (number_no_feed shard is.0) refl
+    (number_no_feed left is.1)) refl) (number_no_feed at is.2)
+reply_no_feed each (reply.Built shard left) is =
+    four (codes "built ") (decimal shard) (codes " left ") (decimal left) refl (number_no_feed shard is.0) refl
+    (number_no_feed left is.1)
+reply_no_feed each (reply.Swapped shard at) is =
+    four (codes "swapped ") (decimal shard) (codes " at ") (decimal at) refl (number_no_feed shard is.0) refl
+    (number_no_feed at is.1)
+reply_no_feed each (reply.Moved shard front at) is =
+    no_feed_joined (codes "moved " ++ decimal shard ++ codes " front " ++ decimal front ++ codes " shard ") (decimal at)
+    (no_feed_joined (codes "moved " ++ decimal shard ++ codes " front " ++ decimal front) (codes " shard ")
+    (four (codes "moved ") (decimal shard) (codes " front ") (decimal front) refl (number_no_feed shard is.0) refl
+    (number_no_feed front is.1)) refl) (number_no_feed at is.2)
+reply_no_feed each (reply.Searched shard before after swaps at text) is =
+    let to_before = codes "searched " ++ decimal shard ++ codes " before " ++ decimal before in
+    let to_after = to_before ++ codes " after " ++ decimal after in
+    let to_swaps = to_after ++ codes " swaps " ++ decimal swaps in
+    let to_at = to_swaps ++ codes " at " ++ decimal at in
+    and_two to_at (codes " ") text
+    (and_two to_swaps (codes " at ") (decimal at)
+    (and_two to_after (codes " swaps ") (decimal swaps)
+    (and_two to_before (codes " after ") (decimal after)
+    (four (codes "searched ") (decimal shard) (codes " before ") (decimal before) refl (number_no_feed shard is.0) refl
+    (number_no_feed before is.1))
+    refl (number_no_feed after is.2)) refl (number_no_feed swaps is.3)) refl (number_no_feed at is.4)) refl
+    (layout_no_feed each text is.5)
 reply_no_feed each (reply.Bad fault) is = fault_no_feed fault is.0 is.1
 reply_no_feed each reply.NoMemory is = refl

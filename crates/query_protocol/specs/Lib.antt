@@ -1,4 +1,6 @@
 pub mod Requests
+pub mod Asked
+pub mod ShardsAsked
 pub mod Lines
 pub mod Stored
 pub mod Replies

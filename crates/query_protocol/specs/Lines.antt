@@ -5,16 +5,18 @@ use Rattle.std.specs.Str.{bytes_eq}
 use Rattle.part_layout.specs.declared.config.Config.{Config}
 use Rattle.line_forms.specs.Words.{words, is_printable}
 use Rattle.byte_lines.specs.declared.cutter.TheConstants.{LINE_MOST}
-use Rattle.query_protocol.specs.Requests.{LineReading, Del, Get, Cost, Cancel, bad}
-use Rattle.query_protocol.specs.Requests.{add_asked, range_asked, nearest_asked, next_asked}
-use Rattle.query_protocol.specs.Requests.{plan_asked, layout_asked, quit_asked}
-use Rattle.query_protocol.specs.Requests.{key_alone, tag_alone, request_naming}
+use Rattle.query_protocol.specs.Requests.{LineReading, Del, Get, Cost, Cancel, Swap, Quit}
+use Rattle.query_protocol.specs.Requests.{bad, request_naming}
+use Rattle.query_protocol.specs.Asked.{add_asked, range_asked, nearest_asked, next_asked}
+use Rattle.query_protocol.specs.Asked.{plan_asked, nothing_more, key_alone, tag_alone}
+use Rattle.query_protocol.specs.ShardsAsked.{layout_asked, repart_asked, build_asked, searching_asked}
 use Rattle.query_protocol.specs.declared.request.RequestWord.{RequestWord}
 use Rattle.query_protocol.specs.declared.request.RequestWord.TheVariants.{AddWord, DelWord, GetWord}
 use Rattle.query_protocol.specs.declared.request.RequestWord.TheVariants.{RangeWord, NearWord, NextWord}
 use Rattle.query_protocol.specs.declared.request.RequestWord.TheVariants.{CostWord, PlanWord}
 use Rattle.query_protocol.specs.declared.request.RequestWord.TheVariants.{CancelWord, LayoutWord}
-use Rattle.query_protocol.specs.declared.request.RequestWord.TheVariants.{QuitWord}
+use Rattle.query_protocol.specs.declared.request.RequestWord.TheVariants.{RepartWord, BuildWord}
+use Rattle.query_protocol.specs.declared.request.RequestWord.TheVariants.{SwapWord, SearchWord, QuitWord}
 
 -- the request word that a word is
 abbrev pub request_word : List ℕ → Option RequestWord
@@ -29,6 +31,10 @@ request_word word =
     if bytes_eq word (codes "plan") then Some PlanWord else
     if bytes_eq word (codes "cancel") then Some CancelWord else
     if bytes_eq word (codes "layout") then Some LayoutWord else
+    if bytes_eq word (codes "repart") then Some RepartWord else
+    if bytes_eq word (codes "build") then Some BuildWord else
+    if bytes_eq word (codes "swap") then Some SwapWord else
+    if bytes_eq word (codes "search") then Some SearchWord else
     if bytes_eq word (codes "quit") then Some QuitWord else None
 
 -- a request word with the words after it
@@ -44,7 +50,11 @@ with_words config (Some CostWord) after = request_naming (λ tag. Cost tag) (tag
 with_words config (Some PlanWord) after = plan_asked config.shards after
 with_words config (Some CancelWord) after = request_naming (λ tag. Cancel tag) (tag_alone after)
 with_words config (Some LayoutWord) after = layout_asked config.shards after
-with_words config (Some QuitWord) after = quit_asked after
+with_words config (Some RepartWord) after = repart_asked config.bits config.shards after
+with_words config (Some BuildWord) after = build_asked after
+with_words config (Some SwapWord) after = nothing_more Swap after
+with_words config (Some SearchWord) after = searching_asked config.shards after
+with_words config (Some QuitWord) after = nothing_more Quit after
 
 -- the words of a line: a line with no word asks nothing
 abbrev pub of_words : Config → List (List ℕ) → LineReading

@@ -25,6 +25,11 @@ pub data LineReply : Type 0 where
   Cancelled : List ℕ → ℕ → LineReply
   Closed : List ℕ → ℕ → LineReply
   Layout : ℕ → List ℕ → LineReply
+  Building : ℕ → ℕ → ℕ → LineReply
+  Built : ℕ → ℕ → LineReply
+  Swapped : ℕ → ℕ → LineReply
+  Moved : ℕ → ℕ → ℕ → LineReply
+  Searched : ℕ → ℕ → ℕ → ℕ → ℕ → List ℕ → LineReply
   Bad : fault.Bad → LineReply
   NoMemory : LineReply
 
@@ -41,6 +46,10 @@ line_of (reply.Done tag count) = Done tag count
 line_of (reply.Cost tag reads bound) = Cost tag reads bound
 line_of (reply.Cancelled tag count) = Cancelled tag count
 line_of (reply.Closed tag count) = Closed tag count
+line_of (reply.Building shard left at) = Building shard left at
+line_of (reply.Built shard left) = Built shard left
+line_of (reply.Swapped shard at) = Swapped shard at
+line_of (reply.Moved shard front at) = Moved shard front at
 line_of (reply.Bad fault) = Bad fault
 line_of reply.NoMemory = NoMemory
 
@@ -85,6 +94,18 @@ reply_text (Plan tag shard cost thresholds) =
 reply_text (Cancelled tag count) = codes "cancelled " ++ tag ++ codes " " ++ decimal count
 reply_text (Closed tag count) = codes "closed " ++ tag ++ codes " " ++ decimal count
 reply_text (Layout shard text) = codes "layout " ++ decimal shard ++ codes " " ++ text
+reply_text (Building shard left at) =
+    codes "building " ++ decimal shard ++ codes " left " ++ decimal left
+    ++ codes " at " ++ decimal at
+reply_text (Built shard left) = codes "built " ++ decimal shard ++ codes " left " ++ decimal left
+reply_text (Swapped shard at) = codes "swapped " ++ decimal shard ++ codes " at " ++ decimal at
+reply_text (Moved shard front at) =
+    codes "moved " ++ decimal shard ++ codes " front " ++ decimal front
+    ++ codes " shard " ++ decimal at
+reply_text (Searched shard before after swaps at text) =
+    codes "searched " ++ decimal shard ++ codes " before " ++ decimal before
+    ++ codes " after " ++ decimal after ++ codes " swaps " ++ decimal swaps
+    ++ codes " at " ++ decimal at ++ codes " " ++ text
 reply_text (Bad fault) = fault_text fault
 reply_text NoMemory = codes "nomem"
 

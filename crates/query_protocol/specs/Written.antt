@@ -4,8 +4,8 @@ use Rattle.std.specs.List.{list_all}
 use Rattle.line_forms.specs.Forms.{is_tag}
 use Rattle.part_layout.specs.Text.{IsTextOfLayout}
 use Rattle.query_protocol.specs.Replies.{LineReply, Added, Deleted, Taken, Absent, Full, Code, Open}
-use Rattle.query_protocol.specs.Replies.{Hit, More, Done, Cost, Plan, Cancelled, Closed, Layout, Bad}
-use Rattle.query_protocol.specs.Replies.{NoMemory}
+use Rattle.query_protocol.specs.Replies.{Hit, More, Done, Cost, Plan, Cancelled, Closed, Layout}
+use Rattle.query_protocol.specs.Replies.{Building, Built, Swapped, Moved, Searched, Bad, NoMemory}
 
 -- no byte is a line feed
 abbrev pub has_no_feed : List ℕ → Bool
@@ -38,5 +38,12 @@ IsWritten (Plan tag shard cost thresholds) =
 IsWritten (Cancelled tag count) = (is_tag tag ≡ true) × IsWord64 count
 IsWritten (Closed tag count) = (is_tag tag ≡ true) × IsWord64 count
 IsWritten (Layout shard text) = IsWord64 shard × IsTextOfLayout text
+IsWritten (Building shard left at) = IsWord64 shard × IsWord64 left × IsWord64 at
+IsWritten (Built shard left) = IsWord64 shard × IsWord64 left
+IsWritten (Swapped shard at) = IsWord64 shard × IsWord64 at
+IsWritten (Moved shard front at) = IsWord64 shard × IsWord64 front × IsWord64 at
+IsWritten (Searched shard before after swaps at text) =
+    IsWord64 shard × IsWord64 before × IsWord64 after × IsWord64 swaps × IsWord64 at
+    × IsTextOfLayout text
 IsWritten (Bad fault) = IsWord64 fault.number × IsWord64 fault.word
 IsWritten NoMemory = Unit {0}

@@ -7,7 +7,7 @@ ghost use Rattle.query_protocol.specs.Requests.{bad, bad_word};
 /// Why a line is no request, or why a request can't be met, as its reply `bad N` or `bad 5 W` prints it.
 #[derive(Clone, Copy, Debug, PartialEq, Eq)]
 pub struct Bad {
-    /// 1 to 9, in the order in which faults are judged.
+    /// 1 to 11, in the order in which faults are judged.
     pub number: u8,
     /// The word at fault, counted from 1 with the request word, where the number is 5; else 0.
     pub word: u8,
@@ -81,10 +81,33 @@ impl Bad {
         Bad::numbered(9)
     }
 
+    /// There is no build to go on with, or one goes on already.
+    pub fn other_build() -> Bad
+        ensures { result ≡ bad 10 }
+    {
+        Bad::numbered(10)
+    }
+
+    /// The build has rows left to place.
+    pub fn rows_left() -> Bad
+        ensures { result ≡ bad 11 }
+    {
+        Bad::numbered(11)
+    }
+
     // A fault that names no word.
     fn numbered(number: u8) -> Bad
         ensures { result ≡ bad number }
     {
         Bad { number, word: 0 }
     }
+}
+
+/// Why a line gives no request.
+#[derive(Clone, Copy, Debug, PartialEq, Eq)]
+pub enum LineFault {
+    /// The line is refused.
+    Bad(Bad),
+    /// There was no memory for the layout of a build that the line asks for.
+    NoMemory,
 }

@@ -3,14 +3,15 @@
 #![tactic(auto)]
 
 mod bad;
+mod builds_reading;
 mod laws;
 mod reading;
 mod reply;
 mod request;
 
-pub use bad::Bad;
+pub use bad::{Bad, LineFault};
 pub use laws::lines_of_replies;
 pub use line_forms::Tag;
 pub use reading::read_line;
-pub use reply::{Reply, write_code, write_hit, write_layout, write_plan};
+pub use reply::{Reply, write_code, write_hit, write_layout, write_plan, write_searched};
 pub use request::{Request, RequestWord};

@@ -1,62 +1,105 @@
 //! A line as a request.
 
-ghost use Rattle.std.specs.Prelude.{◌≡◌, ℕ, ◌≤◌, List, [], ◌∷◌, length, Err, MatchResult};
+ghost use Rattle.std.specs.Prelude.{◌≡◌, ◌≢◌, ℕ, ◌≤◌, List, [], ◌∷◌, length, Some, Err, MatchResult};
 ghost use Rattle.gph_codes.specs.Allowed.{IsAllowed};
 ghost use Rattle.hamming_model.specs.declared.limits.TheConstants.{WORDS_MOST};
 ghost use Rattle.byte_lines.specs.declared.cutter.TheConstants.{LINE_MOST};
 ghost use Rattle.line_forms.specs.Words.{words};
 ghost use Rattle.query_protocol.specs.Lines.{reading, of_words, request_word, with_words};
-ghost use Rattle.query_protocol.specs.Requests.{add_asked, range_asked, nearest_asked, next_asked, plan_asked, layout_asked, quit_asked, key_alone, tag_alone, opening_words, nearest_of};
-ghost use Rattle.query_protocol.specs.Stored.{ReadsAs, NamesShard};
+ghost use Rattle.part_layout.specs.Laid.{IsCodeSize};
+ghost use Rattle.query_protocol.specs.Requests.{Quit};
+ghost use Rattle.query_protocol.specs.Asked.{add_asked, range_asked, nearest_asked, next_asked};
+ghost use Rattle.query_protocol.specs.Asked.{plan_asked, nothing_more, key_alone, tag_alone};
+ghost use Rattle.query_protocol.specs.Asked.{opening_words, nearest_of};
+ghost use Rattle.query_protocol.specs.ShardsAsked.{layout_asked};
+ghost use Rattle.query_protocol.specs.Stored.{ReadsAs, ReadsLine, NamesShard};
+ghost use Rattle.query_protocol.specs.declared.request.RequestWord.TheVariants.{RepartWord};
 
-use crate::{Bad, Request, RequestWord};
+use crate::builds_reading::{read_build, read_repart, read_search, read_swap};
+use crate::{Bad, LineFault, Request, RequestWord};
 use hamming_model::ENTRIES_MOST;
 use line_forms::{
     Tag, code_of, count_of, is_printable, key_of, next_word, number_of, radius_of, shard_of,
 };
 use part_layout::Config;
+use std::alloc::Global;
 
 /// What a line asks of a server that was asked for so: None where the line has no word, else a request or the
 /// line's first fault. The line comes without its end; for a longer one see `Bad::line_too_long`.
 ///
 /// The faults, each judged where none before it was found: 2, a byte is no printable ASCII; 3, the first
 /// word is no request word; 4, the request has another number of words; 5, a word is not of its form;
-/// 6, there is no shard of this number.
-pub fn read_line<const W: usize>(config: &Config, line: &[u8]) -> Result<Option<Request<W>>, Bad>
+/// 6, there is no shard of this number; and last, for a `repart` alone, there is no memory for its layout.
+pub fn read_line<const W: usize>(
+    alloc: Global,
+    config: &Config,
+    line: &[u8],
+) -> Result<Option<Request<W>>, LineFault>
     requires few_words { W ≤ WORDS_MOST }
     requires allowed { IsAllowed W config.now.bits }
+    requires size { IsCodeSize config.now.bits }
     requires short { length line.now ≤ LINE_MOST }
-    ensures reads { ReadsAs W config.now.bits result (reading config.now line.now) }
+    ensures reads { ReadsLine W config.now.bits result (reading config.now line.now) }
     ensures shard { NamesShard config.now.shards result }
 {
     if !is_printable(line) {
-        return Err(Bad::no_text());
+        return Err(LineFault::Bad(Bad::no_text()));
     }
-    read_words(config, line)
+    read_words(alloc, config, line)
 }
 
 // The words of a line.
-fn read_words<const W: usize>(config: &Config, line: &[u8]) -> Result<Option<Request<W>>, Bad>
+fn read_words<const W: usize>(
+    alloc: Global,
+    config: &Config,
+    line: &[u8],
+) -> Result<Option<Request<W>>, LineFault>
     requires few_words { W ≤ WORDS_MOST }
     requires allowed { IsAllowed W config.now.bits }
-    ensures reads { ReadsAs W config.now.bits result (of_words config.now (words line.now)) }
+    requires size { IsCodeSize config.now.bits }
+    ensures reads { ReadsLine W config.now.bits result (of_words config.now (words line.now)) }
     ensures shard { NamesShard config.now.shards result }
 {
     match next_word(line) {
         None => Ok(None),
-        Some((word, after)) => read_after(config, request_word(word), after),
+        Some((word, after)) => read_after(alloc, config, request_word(word), after),
     }
 }
 
 // A request word and the words after it.
 fn read_after<const W: usize>(
+    alloc: Global,
+    config: &Config,
+    word: Option<RequestWord>,
+    after: &[u8],
+) -> Result<Option<Request<W>>, LineFault>
+    requires few_words { W ≤ WORDS_MOST }
+    requires allowed { IsAllowed W config.now.bits }
+    requires size { IsCodeSize config.now.bits }
+    ensures reads { ReadsLine W config.now.bits result
+        (with_words config.now word (words after.now)) }
+    ensures shard { NamesShard config.now.shards result }
+{
+    if let Some(RequestWord::RepartWord) = word {
+        return read_repart(alloc, config, after);
+    }
+    match read_without_memory(config, word, after) {
+        Ok(asked) => Ok(asked),
+        Err(fault) => Err(LineFault::Bad(fault)),
+    }
+}
+
+// A request word whose request takes no memory, and the words after it.
+fn read_without_memory<const W: usize>(
     config: &Config,
     word: Option<RequestWord>,
     after: &[u8],
 ) -> Result<Option<Request<W>>, Bad>
     requires few_words { W ≤ WORDS_MOST }
     requires allowed { IsAllowed W config.now.bits }
-    ensures reads { ReadsAs W config.now.bits result (with_words config.now word (words after.now)) }
+    requires other { word ≢ Some RepartWord }
+    ensures reads { ReadsAs W config.now.bits result
+        (with_words config.now word (words after.now)) }
     ensures shard { NamesShard config.now.shards result }
 {
     match word {
@@ -79,7 +122,12 @@ fn read_after<const W: usize>(
             tag: tag_alone(after)?,
         })),
         Some(RequestWord::LayoutWord) => read_layout(config.shards, after),
+        Some(RequestWord::BuildWord) => read_build(after),
+        Some(RequestWord::SwapWord) => read_swap(after),
+        Some(RequestWord::SearchWord) => read_search(config.shards, after),
         Some(RequestWord::QuitWord) => read_quit(after),
+        // The caller reads it.
+        Some(RequestWord::RepartWord) => unreachable!(),
     }
 }
 
@@ -107,6 +155,14 @@ fn request_word(word: &[u8]) -> Option<RequestWord>
         Some(RequestWord::CancelWord)
     } else if word == b"layout".as_slice() {
         Some(RequestWord::LayoutWord)
+    } else if word == b"repart".as_slice() {
+        Some(RequestWord::RepartWord)
+    } else if word == b"build".as_slice() {
+        Some(RequestWord::BuildWord)
+    } else if word == b"swap".as_slice() {
+        Some(RequestWord::SwapWord)
+    } else if word == b"search".as_slice() {
+        Some(RequestWord::SearchWord)
     } else if word == b"quit".as_slice() {
         Some(RequestWord::QuitWord)
     } else {
@@ -308,7 +364,7 @@ fn read_layout<const W: usize>(shards: u32, after: &[u8]) -> Result<Option<Reque
 
 // The words after `quit`.
 fn read_quit<const W: usize>(after: &[u8]) -> Result<Option<Request<W>>, Bad>
-    ensures reads { (bits : ℕ) → ReadsAs W bits result (quit_asked (words after.now)) }
+    ensures reads { (bits : ℕ) → ReadsAs W bits result (nothing_more Quit (words after.now)) }
     ensures shard { (shards : ℕ) → NamesShard shards result }
 {
     if next_word(after).is_some() {

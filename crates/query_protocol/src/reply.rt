@@ -15,8 +15,8 @@ use part_layout::LayoutText;
 // The greatest number of hexadecimal digits of a code.
 const DIGITS_MOST: usize = 128;
 
-/// A line of output. A hit, a code, a plan and a layout are lines too, and have calls of their own in place of a variant: a hit
-/// comes often, and the other three are long, so that no other reply has to have room for them.
+/// A line of output. A hit, a code, a plan, a layout and what a search found are lines too, and have calls of their own in place of a
+/// variant: a hit comes often, and the others are long, so that no other reply has to have room for them.
 #[derive(Debug, Drop)]
 pub enum Reply {
     /// The entry that adds the key was accepted, as the entry of this number.
@@ -41,6 +41,14 @@ pub enum Reply {
     Cancelled { tag: Tag, count: u64 },
     /// The query ended after its answer was given whole; `count` is the number of its hits.
     Closed { tag: Tag, count: u64 },
+    /// A layout is being built for the shard, from its rows in the first `at` entries, of which `left` are to be placed.
+    Building { shard: u32, left: u64, at: u64 },
+    /// Rows of the shard were placed, and `left` are to be placed still.
+    Built { shard: u32, left: u64 },
+    /// The shard has the layout that was built, with its rows in the first `at` entries.
+    Swapped { shard: u32, at: u64 },
+    /// The build stands at `front` entries and stays, since the shard stands beyond, at `at`.
+    Moved { shard: u32, front: u64, at: u64 },
     /// The line is no request, or the request can't be met.
     Bad(Bad),
     /// There was no memory for the request, and it changed nothing.
@@ -65,6 +73,10 @@ impl Reply {
             Reply::Cost { tag, reads, bound } => write_cost(tag, *reads, *bound, out),
             Reply::Cancelled { tag, count } => write_count(b"cancelled ", tag, *count, out),
             Reply::Closed { tag, count } => write_count(b"closed ", tag, *count, out),
+            Reply::Building { shard, left, at } => write_building(*shard, *left, *at, out),
+            Reply::Built { shard, left } => write_built(*shard, *left, out),
+            Reply::Swapped { shard, at } => write_swapped(*shard, *at, out),
+            Reply::Moved { shard, front, at } => write_moved(*shard, *front, *at, out),
             Reply::Bad(fault) => write_fault(fault, out),
             Reply::NoMemory => out.put(b"nomem\n"),
         }
@@ -220,6 +232,83 @@ pub fn write_layout(shard: u32, text: &LayoutText, out: &mut LineBuf)
     out.put_number(u64::from(shard));
     out.put(b" ");
     out.put(text.bytes());
+    out.put(b"\n");
+}
+
+/// Writes the line of a layout that a search for a shard found, by its text: what the layouts before the search and after it cost, the
+/// number of exchanges between them, and in the rows of how many entries they were judged.
+pub fn write_searched(
+    shard: u32,
+    before: u64,
+    after: u64,
+    swaps: u32,
+    at: u64,
+    text: &LayoutText,
+    out: &mut LineBuf,
+)
+    requires { out.old ≡ [] }
+    ensures { out.new ≡ reply_line (reply.Searched shard before after swaps at text.now) }
+{
+    out.put(b"searched ");
+    out.put_number(u64::from(shard));
+    out.put(b" before ");
+    out.put_number(before);
+    out.put(b" after ");
+    out.put_number(after);
+    out.put(b" swaps ");
+    out.put_number(u64::from(swaps));
+    out.put(b" at ");
+    out.put_number(at);
+    out.put(b" ");
+    out.put(text.bytes());
+    out.put(b"\n");
+}
+
+fn write_building(shard: u32, left: u64, at: u64, out: &mut LineBuf)
+    requires { out.old ≡ [] }
+    ensures { out.new ≡ reply_line (reply.Building shard left at) }
+{
+    out.put(b"building ");
+    out.put_number(u64::from(shard));
+    out.put(b" left ");
+    out.put_number(left);
+    out.put(b" at ");
+    out.put_number(at);
+    out.put(b"\n");
+}
+
+fn write_built(shard: u32, left: u64, out: &mut LineBuf)
+    requires { out.old ≡ [] }
+    ensures { out.new ≡ reply_line (reply.Built shard left) }
+{
+    out.put(b"built ");
+    out.put_number(u64::from(shard));
+    out.put(b" left ");
+    out.put_number(left);
+    out.put(b"\n");
+}
+
+fn write_swapped(shard: u32, at: u64, out: &mut LineBuf)
+    requires { out.old ≡ [] }
+    ensures { out.new ≡ reply_line (reply.Swapped shard at) }
+{
+    out.put(b"swapped ");
+    out.put_number(u64::from(shard));
+    out.put(b" at ");
+    out.put_number(at);
+    out.put(b"\n");
+}
+
+fn write_moved(shard: u32, front: u64, at: u64, out: &mut LineBuf)
+    requires { out.old ≡ [] }
+    ensures { out.new ≡ reply_line (reply.Moved shard front at) }
+{
+    out.put(b"moved ");
+    out.put_number(u64::from(shard));
+    out.put(b" front ");
+    out.put_number(front);
+    out.put(b" shard ");
+    out.put_number(at);
     out.put(b"\n");
 }
 

@@ -1,5 +1,6 @@
 use gph_codes::Code;
 use line_forms::Tag;
+use part_layout::Layout;
 
 /// The first word of a request.
 #[derive(Clone, Copy, Debug, PartialEq, Eq)]
@@ -14,11 +15,15 @@ pub enum RequestWord {
     PlanWord,
     CancelWord,
     LayoutWord,
+    RepartWord,
+    BuildWord,
+    SwapWord,
+    SearchWord,
     QuitWord,
 }
 
 /// What a line asks.
-#[derive(Clone, Copy, Debug)]
+#[derive(Drop)]
 pub enum Request<const W: usize> {
     /// Commits an entry that adds a row.
     Add { key: u64, code: Code<W> },
@@ -40,6 +45,14 @@ pub enum Request<const W: usize> {
     Cancel { tag: Tag },
     /// Asks for the present layout of a shard.
     Layout { shard: u32 },
+    /// Starts to build another layout for a shard.
+    Repart { shard: u32, layout: Layout },
+    /// Places the build's next rows, at most `n`.
+    Build { n: u32 },
+    /// Puts the build in the place of its shard's layout.
+    Swap,
+    /// Searches a cheaper layout for a shard, by at most so many rounds.
+    Search { shard: u32, rounds: u32 },
     /// Ends the session.
     Quit,
 }

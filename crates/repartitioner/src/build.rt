@@ -68,7 +68,8 @@ impl<const W: usize> Build<W> {
         requires bits { (arc_value layout).bits ≡ (contents_at version.now).layout.bits }
         ensures build { IfOk result (λ build.
             build ≡ begun (contents_at version.now) (arc_value layout)) }
-        ensures steps { OnOk result (steps.new ≡ steps.old + length (contents_at version.now).rows) }
+        ensures steps { OnOk result
+            (steps.new ≡ steps.old + length (contents_at version.now).rows) }
         ensures bound { steps.new ≤ steps.old + length (contents_at version.now).rows }
     {
         let draft = Draft::begin(alloc, version, layout, steps)?;

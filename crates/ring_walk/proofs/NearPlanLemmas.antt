@@ -5,7 +5,6 @@ use Rattle.std.specs.Prelude.{◌⊎◌}
 use Rattle.std.proofs.lemmas.Bool.{cases_lt}
 use Rattle.std.proofs.lemmas.List.Sums.{sum_by-cons}
 use Rattle.ring_model.specs.Rings.{ring_cost}
-use Rattle.threshold_model.specs.Bounds.{IsPlanAt}
 use Rattle.threshold_dp.specs.Radii.{RadiusPlans, PlansRadii}
 use Rattle.shard_probe.specs.Counted.{count_in, HasCounts}
 use Rattle.shard_probe.specs.Probed.{Probed, IsProbed}

@@ -6,8 +6,8 @@ use Rattle.std.specs.Option.{option_to_list}
 use Rattle.std.specs.Prelude.{All, ◌^◌}
 use Rattle.std.proofs.lemmas.List.Elements.{All-head, All-tail}
 use Rattle.std.specs.List.{flat_map}
-use Rattle.std.proofs.lemmas.List.{drop_more, drop_all, take_all, get_or-take, get_or-map, length-map, length-set, length-take-le}
-use Rattle.std.proofs.lemmas.List.{length-drop, length-append, length-replicate}
+use Rattle.std.proofs.lemmas.List.{drop_more, drop_all, get_or-take, get_or-map, length-map, length-set, length-take-le}
+use Rattle.std.proofs.lemmas.List.{length-replicate}
 use Rattle.std.proofs.lemmas.List.Sums.{sum_by-cons}
 use Rattle.std.proofs.lemmas.Bool.{ne_eqb}
 use Rattle.std.proofs.lemmas.Nat.{pow_pos}

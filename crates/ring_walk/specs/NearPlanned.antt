@@ -1,6 +1,6 @@
 -- What a near query on a version was planned to be: for each radius the first of the cheapest
 -- vectors, and its cost.
-use Rattle.std.specs.Prelude.{◌≡◌, ℕ, ◌≤◌, ℤ, List, length, map, refl}
+use Rattle.std.specs.Prelude.{◌≡◌, ℕ, ℤ, List, length, map, refl}
 use Rattle.std.specs.Coded.{Coded, code_by, coded×, coded_list, coded_ℕ, coded_ℤ}
 use Rattle.hamming_model.specs.declared.hit.Hit.{Hit}
 use Rattle.hamming_model.specs.Layouts.{part_value}

@@ -54,9 +54,7 @@ impl RingWalk {
         ensures plan { IsNearPlanned W plan.now }
     {
         let parts = plan.parts();
-        let Ok(units) = vec![in alloc; 0u32; parts] else {
-            return Err(NoMemory);
-        };
+        let units = vec![in alloc; 0u32; parts]?;
         Ok(RingWalk {
             units,
             part: 0,

@@ -6,7 +6,7 @@ use Rattle.std.specs.declared.result.Result.TheVariants.{Ok, Err}
 use Rattle.std.specs.List.{AllByRecursion, IsAmong}
 use Rattle.std.proofs.lemmas.Bool.{cases_eq, ltb-true, ltb-false}
 use Rattle.std.proofs.lemmas.List.{length-map, length-take}
-use Rattle.hamming_model.specs.History.{JournalEntry, rows_of, shard_rows}
+use Rattle.hamming_model.specs.History.{rows_of, shard_rows}
 use Rattle.hamming_model.proofs.RecodedLemmas.{stored_first}
 use Rattle.hamming_model.specs.Recoded.{AreStoredEntries, cut_entry, cut_history}
 use Rattle.shard_version.specs.Contents.{Contents, IsVersion}

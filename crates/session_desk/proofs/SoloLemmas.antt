@@ -1,5 +1,6 @@
 -- A desk that is alone after its calls.
-use Rattle.std.proofs.Common.{◌≡◌, ◌≢◌, ◌⊎◌, inl, inr, ℕ, ◌<◌, ◌≤◌, max, List, [], length, map, take, get_or, set, Option, Some, None, refl, sym, ap, subst, ◌∙◌, arith}
+use Rattle.std.proofs.Common.{◌≡◌, ◌≢◌, ◌⊎◌, inl, inr, ℕ, ◌<◌, ◌≤◌, max, List, [], length, map, take, get_or, set, Option, Some, None}
+use Rattle.std.proofs.Common.{refl, sym, ap, subst, ◌∙◌, arith}
 use Rattle.std.proofs.Math.ListN.{get_or-map}
 use Rattle.std.proofs.lemmas.Bool.{cases_eq}
 use Rattle.std.proofs.lemmas.List.{append-nil, get_or_default, get_or-set_other, get_or-set_same, length-map, length-set, map-set, set-get_or}
@@ -175,9 +176,16 @@ module _ (words : ℕ) (s : SoloState) (solo : IsSoloDesk words s) where
             (changed_lefts pins s.last s.done s.late);
         places = λ alone. changed_places ∙ ap (set (map place_of s.shards) number)
             (ap (λ (at : ℕ). (at, new.current.layout)) (sym (changed_left pins s.last s.done s.late))
-            ∙ ap (λ (laid : Laid). (left_at (desk_of (solo_of s.config s.journal s.last (set s.shards number new) pins s.done s.late)) number, laid))
+            ∙ ap (λ (laid : Laid).
+            (left_at (desk_of (solo_of s.config s.journal s.last (set s.shards number new) pins s.done s.late)) number, laid))
             (comes.layout_is ∙ sym (ap (λ (place : ShardPlace). place.1) (placed_there s number))));
-        never_back = λ alone. omega (arith, comes.never_back, changed_left pins s.last s.done s.late, ap (λ (place : ShardPlace). place.0) (placed_there s number));
+        never_back = λ alone. omega (
+          arith,
+          comes.never_back,
+          changed_left pins s.last s.done s.late,
+          ap (λ (place : ShardPlace). place.0)
+              (placed_there s number),
+        );
       }
 
       -- the rows of a version that it gives

@@ -34,9 +34,7 @@ pub fn first_layout(alloc: Global, config: &Config) -> Result<Arc<Layout>, NoMem
         return Err(NoMemory);
     };
     let _parts = layout.parts();
-    let Ok(shared) = Arc::new(alloc, layout) else {
-        return Err(NoMemory);
-    };
+    let shared = Arc::new(alloc, layout)?;
     Ok(shared)
 }
 
@@ -54,9 +52,7 @@ pub fn first_shard<const W: usize>(
     ensures { IfOk result (λ first. first ≡ shard_with
         (empty_of shard config.now.shards (arc_value layout.now)) []) }
 {
-    let Ok(own) = layout.clone() else {
-        return Err(NoMemory);
-    };
+    let own = layout.clone()?;
     let version = Version::empty(alloc, shard, config.shards, own)?;
     Shard::new(alloc, version)
 }

@@ -69,12 +69,8 @@ impl<const W: usize> SoloDesk<W> {
         let mut pins = Vec::new(alloc);
         for number in 0..config.shards {
             let shard = first_shard(alloc, config, number, &layout)?;
-            let Ok(()) = shards.push(shard) else {
-                return Err(NoMemory);
-            };
-            let Ok(()) = pins.push(None) else {
-                return Err(NoMemory);
-            };
+            shards.push(shard)?;
+            pins.push(None)?;
         }
         Ok(SoloDesk {
             config: *config,

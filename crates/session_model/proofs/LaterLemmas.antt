@@ -8,13 +8,16 @@ use Rattle.hamming_model.specs.Scan as ask
 use Rattle.hamming_model.specs.declared.hit.Hit.{Hit}
 use Rattle.part_layout.specs.declared.config.Config.{Config}
 use Rattle.query_protocol.specs.Requests.{LineRequest, Add, Del, Get, Range, Near, Next, Cost}
-use Rattle.query_protocol.specs.Requests.{Plan, Cancel, Layout, Quit}
+use Rattle.query_protocol.specs.Requests.{Plan, Cancel, Layout, Repart, Swap, Search, Quit}
+use Rattle.query_protocol.specs.Requests as request
 use Rattle.query_protocol.specs.declared.bad.Bad.{Bad}
-use Rattle.session_model.specs.State.{Query, State, has_tag, query_of, replaced, open_queries}
+use Rattle.session_model.specs.State.{Build, Query, State, has_tag, query_of, replaced, open_queries}
 use Rattle.session_model.specs.Entries.{Exchange}
-use Rattle.session_model.specs.QuerySteps.{ReadsOn, given_more, new_query, most_open}
+use Rattle.session_model.specs.Builds.{StartsUnlessBuilding, IfBuilding, PlacesMoreRows}
+use Rattle.session_model.specs.Builds.{SwapsUnlessLeft, SwapsIfPlaced}
+use Rattle.session_model.specs.Openings.{OpensUnlessMany, OpensUnlessUsed, new_query, most_open}
+use Rattle.session_model.specs.QuerySteps.{ReadsOn, given_more}
 use Rattle.session_model.specs.QuerySteps.{IfOpen, Gives, Costs, TellsPlan, Cancels, closed_query}
-use Rattle.session_model.specs.QuerySteps.{OpensUnlessMany, OpensUnlessUsed}
 use Rattle.session_model.specs.Step.{Answers, asked_by}
 use Rattle.session_model.specs.Run.{Run}
 use Rattle.session_model.specs.Later.{IsLater, AreLater}
@@ -130,6 +133,37 @@ opens_unused_later (Some query) history tag asked s e t h = same_later s t h.sam
 opens_unused_later None history tag asked s e t h =
     opens_later (nat_le most_open (length (open_queries s.queries))) history tag asked s e t h
 
+-- ---- steps on builds leave the queries as they are
+
+starts_later : (goes_on : Option Build) (config : Config) (history : List JournalEntry) (shard : ℕ)
+    (layout : List (List ℕ)) (s : State) (e : Exchange) (t : State)
+    → StartsUnlessBuilding goes_on config history shard layout s e t → AreLater s.queries t.queries
+starts_later (Some build) config history shard layout s e t h = same_later s t h.same
+starts_later None config history shard layout s e t (inl h) = same_later s t h.same
+starts_later None config history shard layout s e t (inr h) =
+    subst (λ (u : State). AreLater s.queries u.queries) (sym h.started) (are_same s.queries)
+
+places_later : (goes_on : Option Build) (number : ℕ) (s : State) (e : Exchange) (t : State)
+    → IfBuilding goes_on (PlacesMoreRows number) s e t → AreLater s.queries t.queries
+places_later None number s e t h = same_later s t h.same
+places_later (Some build) number s e t h =
+    subst (λ (u : State). AreLater s.queries u.queries) (sym h.placed) (are_same s.queries)
+
+swaps_placed_later : (left : Bool) (history : List JournalEntry) (build : Build) (s : State)
+    (e : Exchange) (t : State) → SwapsUnlessLeft left history build s e t
+    → AreLater s.queries t.queries
+swaps_placed_later true history build s e t h = same_later s t h.same
+swaps_placed_later false history build s e t (inl h) = same_later s t h.same
+swaps_placed_later false history build s e t (inr (inl h)) =
+    subst (λ (u : State). AreLater s.queries u.queries) (sym h.swapped) (are_same s.queries)
+swaps_placed_later false history build s e t (inr (inr h)) = moved_later s t e.position h.stays
+
+swaps_later : (goes_on : Option Build) (history : List JournalEntry) (s : State) (e : Exchange)
+    (t : State) → IfBuilding goes_on (SwapsIfPlaced history) s e t → AreLater s.queries t.queries
+swaps_later None history s e t h = same_later s t h.same
+swaps_later (Some build) history s e t h =
+    swaps_placed_later (nat_lt 0 build.left) history build s e t h
+
 module _ (config : Config) (history : List JournalEntry) (s : State) (e : Exchange) (t : State) where
   gives_later : (tag : List ℕ) (count : ℕ) (found : Option Query) → query_of tag s.queries ≡ found
       → IfOpen found (Gives config history tag count) s e t → AreLater s.queries t.queries
@@ -178,6 +212,12 @@ module _ (config : Config) (history : List JournalEntry) (s : State) (e : Exchan
   answers_later (Ok (Some (Plan tag shard))) h = plans_later tag shard (query_of tag s.queries) h
   answers_later (Ok (Some (Cancel tag))) h = cancels_later tag (query_of tag s.queries) refl h
   answers_later (Ok (Some (Layout shard))) h = same_later s t h.same
+  answers_later (Ok (Some (Repart shard layout))) h =
+      starts_later s.build config history shard layout s e t h
+  answers_later (Ok (Some (request.Build number))) h = places_later s.build number s e t h
+  answers_later (Ok (Some Swap)) h = swaps_later s.build history s e t h
+  answers_later (Ok (Some (Search shard rounds))) (inl h) = same_later s t h.same
+  answers_later (Ok (Some (Search shard rounds))) (inr h) = moved_later s t e.position h.position
   answers_later (Ok (Some Quit)) h = absurd h
 
 -- ---- each run

@@ -1,2 +1,4 @@
 pub mod RunLemmas
 pub mod LaterLemmas
+pub mod ToldLemmas
+pub mod SampleLemmas

@@ -8,13 +8,14 @@ use Rattle.std.proofs.lemmas.List.Elements.{filter-append}
 use Rattle.hamming_model.specs.History.{JournalEntry, Operation}
 use Rattle.part_layout.specs.declared.config.Config.{Config}
 use Rattle.query_protocol.specs.Requests.{LineRequest, Add, Del, Get, Range, Near, Next, Cost}
-use Rattle.query_protocol.specs.Requests.{Plan, Cancel, Layout, Quit}
+use Rattle.query_protocol.specs.Requests.{Plan, Cancel, Layout, Repart, Build, Swap, Search, Quit}
 use Rattle.query_protocol.specs.Replies.{text}
 use Rattle.query_protocol.specs.declared.bad.Bad.{Bad}
 use Rattle.session_model.specs.State.{State}
 use Rattle.session_model.specs.Entries.{Exchange}
 use Rattle.session_model.specs.Step.{Step, Answers, asked_by}
-use Rattle.session_model.specs.Run.{Run, accepted, commit_of, commits, entries_by, written_text, lines_of}
+use Rattle.session_model.specs.Commits.{accepted, commit_of, commits, entries_by}
+use Rattle.session_model.specs.Run.{Run, written_text, lines_of}
 use Rattle.session_model.specs.Run.{asks_quit, before_quit, has_quit}
 
 -- ---- one more exchange
@@ -80,6 +81,10 @@ not_quit (Ok (Some (Cost tag))) config history s e t h = refl
 not_quit (Ok (Some (Plan tag shard))) config history s e t h = refl
 not_quit (Ok (Some (Cancel tag))) config history s e t h = refl
 not_quit (Ok (Some (Layout shard))) config history s e t h = refl
+not_quit (Ok (Some (Repart shard layout))) config history s e t h = refl
+not_quit (Ok (Some (Build number))) config history s e t h = refl
+not_quit (Ok (Some Swap)) config history s e t h = refl
+not_quit (Ok (Some (Search shard rounds))) config history s e t h = refl
 not_quit (Ok (Some Quit)) config history s e t h = absurd h
 
 module _ (At : State → Exchange → Type 0) (config : Config) (history : List JournalEntry) where

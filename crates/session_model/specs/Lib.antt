@@ -1,9 +1,14 @@
 pub mod State
 pub mod Ledger
+pub mod Told
 pub mod Entries
 pub mod Upkeep
+pub mod Openings
 pub mod QuerySteps
+pub mod Builds
+pub mod Searches
 pub mod Step
+pub mod Commits
 pub mod Run
 pub mod Outside
 pub mod Outcomes

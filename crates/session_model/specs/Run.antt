@@ -1,17 +1,16 @@
 -- A whole session: its steps in one history, and what is written.
-use Rattle.std.specs.Prelude.{◌≡◌, ℕ, ◌+◌, ◌<◌, ◌≤◌, ◌==◌, Bool, true, false, if◌then◌else◌}
-use Rattle.std.specs.Prelude.{List, [], ◌∷◌, ◌++◌, length, map, take, drop, filter, replicate}
-use Rattle.std.specs.Prelude.{Option, Some, None, Result, Ok, count_by}
-use Rattle.std.specs.List.{flat_map}
-use Rattle.hamming_model.specs.History.{JournalEntry, Operation}
-use Rattle.hamming_model.specs.History as journal
+use Rattle.std.specs.Prelude.{◌≡◌, ℕ, ◌+◌, ◌<◌, ◌≤◌, Bool, true, false, if◌then◌else◌}
+use Rattle.std.specs.Prelude.{List, [], ◌∷◌, ◌++◌, length, map, take, drop, replicate}
+use Rattle.std.specs.Prelude.{Option, Some, Result, Ok}
+use Rattle.std.specs.List.{AllByRecursion, flat_map}
+use Rattle.hamming_model.specs.History.{JournalEntry}
 use Rattle.part_layout.specs.Contiguous.{contiguous}
 use Rattle.part_layout.specs.declared.config.Config.{Config}
-use Rattle.query_protocol.specs.Requests.{LineRequest, Add, Del, Quit}
+use Rattle.query_protocol.specs.Requests.{LineRequest, Quit}
 use Rattle.query_protocol.specs.Replies.{text}
 use Rattle.query_protocol.specs.declared.bad.Bad.{Bad}
-use Rattle.query_protocol.specs.Replies.{LineReply}
-use Rattle.query_protocol.specs.Replies as reply
+use Rattle.session_model.specs.Builds.{was_moved}
+use Rattle.session_model.specs.Commits.{commit_of, commits, entries_by}
 use Rattle.session_model.specs.Entries.{Exchange}
 use Rattle.session_model.specs.Ledger.{Rise, IsRise}
 use Rattle.session_model.specs.State.{State, new_session}
@@ -24,39 +23,6 @@ abbrev pub Run : (State → Exchange → Type 0) → Config → List JournalEntr
 Run At config history s [] t = t ≡ s
 Run At config history s (e ∷ exchanges) t =
     (mid : State) × At s e × Step config history s e mid × Run At config history mid exchanges t
-
--- the operations that were accepted, by what a line asked and what it was told
-abbrev pub accepted : Result (Option LineRequest) Bad → List LineReply → List Operation
-accepted (Ok (Some (Add key code))) (reply.Added added at ∷ []) = journal.Add key code ∷ []
-accepted (Ok (Some (Del key))) (reply.Deleted deleted at ∷ []) = journal.Delete key ∷ []
-accepted asked replies = []
-
--- what the session with this number committed, by what a line asked and what it was told
-abbrev pub committed : ℕ → Result (Option LineRequest) Bad → List LineReply → List JournalEntry
-committed who asked replies =
-    map (λ operation. record { who = who; operation = operation }) (accepted asked replies)
-
--- the entry that an exchange of a session committed, if it did
-abbrev pub commit_of : ℕ → Config → Exchange → List JournalEntry
-commit_of who config e = committed who (asked_by config e.line) e.replies
-
--- all that the exchanges of a session committed
-abbrev pub commits : ℕ → Config → List Exchange → List JournalEntry
-commits who config exchanges = flat_map (commit_of who config) exchanges
-
--- a line is answered unless it asks nothing: one with no word is skipped
-abbrev pub is_answered : Result (Option LineRequest) Bad → Bool
-is_answered (Ok None) = false
-is_answered asked = true
-
--- how many of the exchanges answer a line
-abbrev pub requests_of : Config → List Exchange → ℕ
-requests_of config exchanges =
-    count_by (λ e. is_answered (asked_by config e.line)) exchanges
-
--- the entries of a session
-abbrev pub entries_by : ℕ → List JournalEntry → List JournalEntry
-entries_by who history = filter (λ entry. entry.who == who) history
 
 -- the exchanges are a session's in a history: its entries beyond the start are just what it commits
 pub record IsSession (At : State → Exchange → Type 0) (config : Config)
@@ -78,12 +44,13 @@ abbrev pub IsAmongOthers : State → Exchange → Type 0
 IsAmongOthers s e = Unit {0}
 
 -- the exchanges are those of a session that is alone: the history is what stood before it, all of
--- which it has seen, and then what it commits
+-- which it has seen, and then what it commits, and nobody else brings a shard beyond a build
 pub record IsSolo (config : Config) (before : List JournalEntry) (start : State)
     (exchanges : List Exchange) (last : State) : Type 0 where
   pub begins : start.position ≡ length before
   pub session : IsSession (IsAlone config) config
       (before ++ commits start.who config exchanges) start exchanges last
+  pub unmoved : AllByRecursion (λ e. was_moved e.replies ≡ false) exchanges
 
 -- the first session of a server, which has the contiguous layout on each shard
 abbrev pub first_session : Config → State

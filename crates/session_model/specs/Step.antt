@@ -9,7 +9,7 @@ use Rattle.hamming_model.specs.Scan as ask
 use Rattle.part_layout.specs.declared.config.Config.{Config}
 use Rattle.part_layout.specs.Text.{layout_text}
 use Rattle.query_protocol.specs.Requests.{LineRequest, Add, Del, Get, Range, Near, Next, Cost}
-use Rattle.query_protocol.specs.Requests.{Plan, Cancel, Layout, Quit}
+use Rattle.query_protocol.specs.Requests.{Plan, Cancel, Layout, Repart, Build, Swap, Search, Quit}
 use Rattle.query_protocol.specs.Lines.{reading}
 use Rattle.query_protocol.specs.declared.bad.Bad.{Bad}
 use Rattle.query_protocol.specs.Replies as reply
@@ -17,7 +17,10 @@ use Rattle.session_model.specs.State.{State, query_of}
 use Rattle.session_model.specs.Ledger.{layout_at}
 use Rattle.session_model.specs.Entries.{Exchange, Stays, Refuses, Adds, RefusesTaken, Fills}
 use Rattle.session_model.specs.Entries.{Deletes, RefusesAbsent, Gets}
-use Rattle.session_model.specs.QuerySteps.{OpensUnlessUsed, Gives, Costs, TellsPlan, Cancels, IfOpen}
+use Rattle.session_model.specs.Openings.{OpensUnlessUsed}
+use Rattle.session_model.specs.QuerySteps.{Gives, Costs, TellsPlan, Cancels, IfOpen}
+use Rattle.session_model.specs.Builds.{StartsUnlessBuilding, IfBuilding, PlacesMoreRows, SwapsIfPlaced}
+use Rattle.session_model.specs.Searches.{SearchesLayout}
 
 -- what a line asks of a session
 abbrev pub asked_by : Config → List ℕ → Result (Option LineRequest) Bad
@@ -53,6 +56,13 @@ Answers (Ok (Some (Cancel tag))) config history s e t =
     IfOpen (query_of tag s.queries) (Cancels tag) s e t
 Answers (Ok (Some (Layout shard))) config history s e t =
     Stays (reply.Layout shard (layout_text (layout_at e.layouts shard)) ∷ []) s e t
+Answers (Ok (Some (Repart shard layout))) config history s e t =
+    StartsUnlessBuilding s.build config history shard layout s e t
+Answers (Ok (Some (Build number))) config history s e t =
+    IfBuilding s.build (PlacesMoreRows number) s e t
+Answers (Ok (Some Swap)) config history s e t = IfBuilding s.build (SwapsIfPlaced history) s e t
+Answers (Ok (Some (Search shard rounds))) config history s e t =
+    Refuses s e t ⊎ SearchesLayout config history shard rounds s e t
 Answers (Ok (Some Quit)) config history s e t = ⊥
 
 -- a layout of the session's bits for each shard

@@ -12,11 +12,11 @@ use Rattle.query_protocol.specs.Replies.{text, reply_line}
 use Rattle.query_protocol.specs.Replies.{LineReply}
 use Rattle.query_protocol.specs.Replies as reply
 use Rattle.session_model.specs.State.{State, query_of, open_queries, replaced}
-use Rattle.session_model.specs.Upkeep.{vain_steps}
+use Rattle.session_model.specs.Upkeep.{other_steps}
 use Rattle.session_model.specs.Ledger.{sum_of, last_given, IsPlanOfQuery}
 use Rattle.session_model.specs.QuerySteps.{IfOpen, Costs, TellsPlan, Cancels, closed_query, end_reply}
 use Rattle.session_model.specs.Step.{Answers}
-use Rattle.session_model.specs.Run.{accepted}
+use Rattle.session_model.specs.Commits.{accepted}
 use Rattle.open_queries.specs.Queries.{Changes, Removes, IsSame, last_in}
 use Rattle.open_queries.specs.Answers.{CostsAs, IsCost, IsPlan, TellsOfQuery, CancelsAs, reply_to_cancel}
 use Rattle.open_queries.specs.Writing.{Writes}
@@ -27,17 +27,18 @@ use Rattle.session_step.specs.KeptDesk.{KeepsDesk}
 use Rattle.session_step.proofs.MomentLemmas.{spends_still}
 use Rattle.session_step.proofs.QueryLemmas.{IsFound, found_changed, found_removed, found_holds, of_open}
 use Rattle.session_step.proofs.QueryLemmas.{replaced_same, replaced_closed, keeps_same, keeps_later, all_replaced}
-use Rattle.session_step.proofs.QueryLemmas.{read_replaced}
+use Rattle.session_step.proofs.QueryLemmas.{pinned_replaced, read_replaced}
 use Rattle.session_step.proofs.BoundLemmas.{last_is, given_near, is_bound, all_bounds_are, plan_at, reads_few, sum_is_of}
 use Rattle.session_step.proofs.NextLemmas.{unknown_step}
-use Rattle.session_step.proofs.Here.{Here, StepTo, asked_here, exchange_here, quiet, quiet_by}
+use Rattle.session_model.proofs.SampleLemmas.{samples_stay}
+use Rattle.session_step.proofs.Here.{Here, StepTo, asked_here, exchange_here, pinned_still, quiet, quiet_by, samples_here}
 use Rattle.session_step.proofs.Here.{on_ok, means_to, writes_one}
 use Rattle.session_step.proofs.MomentLemmas.{desk_keeps}
 
 module _ {A : Type 0} {W : ℕ} (p : Here W) (after : Option (List ℕ)) (result : Result A Failed)
     (new : Moment W) (ranges : IsConfig p.config)
-    (desk : new.desk ≡ p.old.desk) (position : new.position ≡ p.old.position)
-    (ledgers : new.ledgers ≡ p.old.ledgers) where
+    (desk : new.desk ≡ p.old.desk) (pinned : new.pinned ≡ p.old.pinned) (position : new.position ≡ p.old.position)
+    (ledgers : new.ledgers ≡ p.old.ledgers) (samples : new.samples ≡ p.old.samples) where
   -- ---- a cursor that was only asked
 
   module _ (tag : List ℕ) (was is : Cursor W) (changes : Changes p.old.cursors new.cursors tag was is)
@@ -63,7 +64,7 @@ module _ {A : Type 0} {W : ℕ} (p : Here W) (after : Option (List ℕ)) (result
         (exchange_here p (this ∷ []) p.s.position) p.s)
         → Writes p.before after result (reply_line this) → StepTo p after result new
     asked_step asked this reads none answers wrote =
-        quiet p after result new (Ok (Some asked)) (this ∷ []) reads none desk ledgers position keep_still answers
+        quiet p after result new (Ok (Some asked)) (this ∷ []) reads none desk ledgers pinned position samples keep_still answers
         (writes_one p.before after result this wrote)
 
     costed : (later : List JournalEntry) (this : LineReply) → IsCost (asks {W = W}) (stands {W = W}) tag was this
@@ -127,7 +128,7 @@ module _ {A : Type 0} {W : ℕ} (p : Here W) (after : Option (List ℕ)) (result
       → Writes p.before after result (reply_line this) → StepTo p after result new
   cost_step tag this reads (inl unknown) wrote =
       unknown_step p after result new (Cost tag) tag (λ h. Costs p.config h tag) reads refl
-      (λ h e t answers. answers) unknown.0 unknown.1 desk ledgers position
+      (λ h e t answers. answers) unknown.0 unknown.1 desk ledgers pinned position samples
       (subst (λ r. Writes p.before after result (reply_line r)) unknown.2 wrote)
   cost_step tag this reads (inr told) wrote =
       asked_step tag told.0 told.1 told.2 told.3 (Cost tag) this reads refl
@@ -142,7 +143,7 @@ module _ {A : Type 0} {W : ℕ} (p : Here W) (after : Option (List ℕ)) (result
       → Writes p.before after result (reply_line this) → StepTo p after result new
   plan_step tag shard this reads (inl unknown) wrote =
       unknown_step p after result new (Plan tag shard) tag (λ h. TellsPlan p.config h tag shard) reads refl
-      (λ h e t answers. answers) unknown.0 unknown.1 desk ledgers position
+      (λ h e t answers. answers) unknown.0 unknown.1 desk ledgers pinned position samples
       (subst (λ r. Writes p.before after result (reply_line r)) unknown.2 wrote)
   plan_step tag shard this reads (inr told) wrote =
       asked_step tag told.0 told.1 told.2 told.3 (Plan tag shard) this reads refl
@@ -163,7 +164,7 @@ module _ {A : Type 0} {W : ℕ} (p : Here W) (after : Option (List ℕ)) (result
         let found : query_of tag p.s.queries ≡ Some query = of_open tag p.s.queries ∙ it.found in
         let s = p.s in
         let t : State = record s { queries = replaced tag closed s.queries } in
-        let vain = vain_steps p.config.shards (this ∷ []) s.position in
+        let beside = other_steps p.config.shards (this ∷ []) s.position in
         let said : this ≡ end_reply query.done tag query.given =
         told ∙ ap (λ b. cond b (reply.Closed tag was.gather.given) (reply.Cancelled tag was.gather.given)) it.keeps.done
         ∙ ap (end_reply query.done tag) it.keeps.given in
@@ -175,9 +176,9 @@ module _ {A : Type 0} {W : ℕ} (p : Here W) (after : Option (List ℕ)) (result
         (writes_one p.before after result this wrote)
         (subst (λ l. ReadsTo p.old.ledgers.reads l.reads s.queries t.queries) (sym ledgers)
         (record { number = refl; each = λ ledger lt. omega (arith, read_replaced ledger tag query closed s.queries found) }))
-        (subst (λ l. Spends p.old.desk new.desk p.old.ledgers.upkeep l.upkeep vain) (sym ledgers)
-        (subst (λ d. Spends p.old.desk d p.old.ledgers.upkeep p.old.ledgers.upkeep vain) (sym desk)
-        (spends_still p.old.desk p.old.ledgers.upkeep vain)))
+        (subst (λ l. Spends p.old.desk new.desk p.old.ledgers.upkeep l.upkeep beside) (sym ledgers)
+        (subst (λ d. Spends p.old.desk d p.old.ledgers.upkeep p.old.ledgers.upkeep beside) (sym desk)
+        (spends_still p.old.desk p.old.ledgers.upkeep beside)))
         (all_replaced (IsSettled p.config p.history) tag closed s.queries p.stands.settled
         (record {
           within = settled.within;
@@ -190,20 +191,22 @@ module _ {A : Type 0} {W : ℕ} (p : Here W) (after : Option (List ℕ)) (result
             };
           };
         }))
+        (samples_here p new t.queries samples (samples_stay tag s.queries query closed found refl))
         (subst (λ d. Means p.config d p.history t) (sym desk)
         (means_to p.config p.old.desk p.old.desk p.history s t p.stands.means (desk_keeps p.old.desk)
-        refl refl refl refl refl))
+        refl refl refl refl))
         (subst (KeepsDesk p.old.desk) (sym desk) (desk_keeps p.old.desk))
         (on_ok result (AllKeep p.config p.history new.cursors (open_queries t.queries))
         (subst (λ l. AllKeep p.config p.history l (open_queries t.queries)) (sym removes.new_is)
         (subst (AllKeep p.config p.history (removes.front ++ removes.back))
         (sym (replaced_closed tag closed s.queries refl)) it.gone)))
+        (pinned_still p new t pinned (pinned_replaced tag query closed s.queries found refl))
         (position ∙ p.stands.position)
 
     pub cancel_step : CancelsAs p.old.cursors tag this new.cursors
         → Writes p.before after result (reply_line this) → StepTo p after result new
     cancel_step (inl unknown) wrote =
         unknown_step p after result new (Cancel tag) tag (λ h. Cancels tag) reads refl
-        (λ h e t answers. answers) unknown.0 unknown.1 desk ledgers position
+        (λ h e t answers. answers) unknown.0 unknown.1 desk ledgers pinned position samples
         (subst (λ r. Writes p.before after result (reply_line r)) unknown.2 wrote)
     cancel_step (inr told) wrote = cancelled told.0 told.1 told.2 wrote

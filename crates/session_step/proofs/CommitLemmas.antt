@@ -23,8 +23,8 @@ use Rattle.session_desk.specs.Desks.{DeskState, seen_history}
 use Rattle.session_model.specs.State.{State, open_queries}
 use Rattle.session_model.specs.Entries.{Exchange, CommitsOperation, Declines}
 use Rattle.session_model.specs.Step.{Answers}
-use Rattle.session_model.specs.Upkeep.{vain_steps}
-use Rattle.session_model.specs.Run.{accepted, committed, commit_of}
+use Rattle.session_model.specs.Upkeep.{other_steps}
+use Rattle.session_model.specs.Commits.{accepted, committed, commit_of}
 use Rattle.open_queries.specs.Writing.{Writes}
 use Rattle.session_step.specs.KeptDesk.{KeepsDesk, pins_of}
 use Rattle.session_step.specs.Moments.{Moment, ReadsTo, Spends}
@@ -33,7 +33,7 @@ use Rattle.session_step.specs.Commits.{CommitsAs, IsDecided, HadNoMemory, decide
 use Rattle.session_step.proofs.MomentLemmas.{reads_still, spends_seen, as_long}
 use Rattle.session_step.proofs.BoundLemmas.{all_settled_later}
 use Rattle.session_step.proofs.QueryLemmas.{keep_later}
-use Rattle.session_step.proofs.Here.{Here, StepTo, asked_here, exchange_here, quiet, prefix_here, on_ok}
+use Rattle.session_step.proofs.Here.{Here, StepTo, asked_here, exchange_here, quiet, prefix_here, on_ok, pinned_still, samples_here}
 use Rattle.session_step.proofs.MomentLemmas.{learns_nothing}
 use Rattle.session_step.proofs.Here.{writes_one}
 
@@ -47,7 +47,8 @@ slice_get_at (first ∷ history) entry later = slice_get_at history entry later
 module _ {A : Type 0} {W : ℕ} (p : Here W) (after : Option (List ℕ)) (result : Result A Failed)
     (new : Moment W) (operation : Operation) (kind : Decision) (asked : LineRequest) (this : LineReply)
     (is : asked_here p ≡ Ok (Some asked)) (cursors : new.cursors ≡ p.old.cursors)
-    (ledgers : new.ledgers ≡ p.old.ledgers) (keeps : KeepsDesk p.old.desk new.desk)
+    (pinned : new.pinned ≡ p.old.pinned) (ledgers : new.ledgers ≡ p.old.ledgers) (samples : new.samples ≡ p.old.samples)
+    (keeps : KeepsDesk p.old.desk new.desk)
     (pins : pins_of new.desk ≡ pins_of p.old.desk) where
   -- the entry of this session
   abbrev entry : ℕ → JournalEntry
@@ -112,7 +113,7 @@ module _ {A : Type 0} {W : ℕ} (p : Here W) (after : Option (List ℕ)) (result
         → Writes p.before after result (reply_line this) → StepTo p after result new
     accepted_step answers wrote =
         let past = p.history ++ commit_of p.s.who p.config exchange in
-        let vain = vain_steps p.config.shards (this ∷ []) number in
+        let beside = other_steps p.config.shards (this ∷ []) number in
         let means : Means p.config new.desk longer moved = record {
           config_is = keeps.config ∙ p.stands.means.config_is;
           alone = keeps.alone ∙ p.stands.means.alone;
@@ -121,7 +122,6 @@ module _ {A : Type 0} {W : ℕ} (p : Here W) (after : Option (List ℕ)) (result
           who = p.stands.means.who ∙ sym keeps.who;
           layouts = p.stands.means.layouts ∙ sym keeps.layouts;
           are_layouts = p.stands.means.are_layouts;
-          no_build = p.stands.means.no_build;
         } in
         record {
           exchange = exchange;
@@ -141,10 +141,11 @@ module _ {A : Type 0} {W : ℕ} (p : Here W) (after : Option (List ℕ)) (result
           wrote = writes_one p.before after result this wrote;
           reads = subst (λ l. ReadsTo p.old.ledgers.reads l.reads p.s.queries moved.queries) (sym ledgers)
               (reads_still p.old.ledgers.reads p.s.queries);
-          spent = subst (λ l. Spends p.old.desk new.desk p.old.ledgers.upkeep l.upkeep vain) (sym ledgers)
-              (spends_seen p.old.desk new.desk p.old.ledgers.upkeep vain seen_more pins);
+          spent = subst (λ l. Spends p.old.desk new.desk p.old.ledgers.upkeep l.upkeep beside) (sym ledgers)
+              (spends_seen p.old.desk new.desk p.old.ledgers.upkeep beside seen_more pins);
           settled = subst (λ h. AllByRecursion (IsSettled p.config h) p.s.queries) (sym same_history)
               (all_settled_later p.config p.history (entry p.s.who ∷ []) p.s.queries p.stands.settled);
+          samples = samples_here p new p.s.queries samples refl;
           means = subst (λ h. Means p.config new.desk h moved) (sym same_history) means;
           keeps = keeps;
           keep = on_ok result (AllKeep p.config past new.cursors (open_queries p.s.queries))
@@ -152,6 +153,7 @@ module _ {A : Type 0} {W : ℕ} (p : Here W) (after : Option (List ℕ)) (result
               (subst (λ l. AllKeep p.config longer l (open_queries p.s.queries)) (sym cursors)
               (keep_later p.config p.history (entry p.s.who ∷ []) p.old.cursors (open_queries p.s.queries)
               p.stands.keep)));
+          pinned = pinned_still p new moved pinned refl;
           position = position;
         }
 
@@ -193,7 +195,7 @@ never_taken false full is = cc
 
 module _ {A : Type 0} {W : ℕ} (p : Here W) (after : Option (List ℕ)) (result : Result A Failed)
     (new : Moment W) (key : ℕ) (this : LineReply) (cursors : new.cursors ≡ p.old.cursors)
-    (ledgers : new.ledgers ≡ p.old.ledgers)
+    (pinned : new.pinned ≡ p.old.pinned) (ledgers : new.ledgers ≡ p.old.ledgers) (samples : new.samples ≡ p.old.samples)
     (wrote : Writes p.before after result (reply_line this)) where
   -- the cursors still stand for the queries
   keep_still : AllKeep p.config p.history new.cursors (open_queries p.s.queries)
@@ -207,8 +209,8 @@ module _ {A : Type 0} {W : ℕ} (p : Here W) (after : Option (List ℕ)) (result
       → HadNoMemory p.old.desk new.desk p.old.position new.position this → StepTo p after result new
   refused asked is none answers no_memory =
       quiet p after result new (Ok (Some asked)) (reply.NoMemory ∷ []) is none
-      (learns_nothing p.old.desk new.desk p.stands.means.alone no_memory.learns) ledgers no_memory.position_is
-      keep_still answers
+      (learns_nothing p.old.desk new.desk p.stands.means.alone no_memory.learns) ledgers pinned no_memory.position_is
+      samples keep_still answers
       (writes_one p.before after result reply.NoMemory
       (subst (λ r. Writes p.before after result (reply_line r)) no_memory.told wrote))
 
@@ -313,7 +315,7 @@ module _ {A : Type 0} {W : ℕ} (p : Here W) (after : Option (List ℕ)) (result
           let taken : is_accepted kind ≡ true = ap is_accepted added in
           let entry : Operation → JournalEntry = λ o. record { who = p.s.who; operation = o } in
           accepted_step p after result new (journal.Add key code) journal.Added (Add key code)
-          (reply.Added key (length p.history + 1)) is cursors ledgers keeps pins refl
+          (reply.Added key (length p.history + 1)) is cursors pinned ledgers samples keeps pins refl
           (ap (λ o. p.history ++ entry o ∷ []) (sym is_add) ∙ history_more taken) (position_more taken)
           (decided_add ∙ added) (λ later commits. inr (inl commits))
           (subst (λ r. Writes p.before after result (reply_line r)) told wrote)
@@ -325,7 +327,7 @@ module _ {A : Type 0} {W : ℕ} (p : Here W) (after : Option (List ℕ)) (result
           → StepTo p after result new
       add_declined this' told no_entry none answers =
           quiet p after result new (Ok (Some (Add key code))) (this' ∷ []) is none (desk_same no_entry) ledgers
-          (position_same no_entry ∙ sym p.stands.position) keep_still answers
+          pinned (position_same no_entry ∙ sym p.stands.position) samples keep_still answers
           (writes_one p.before after result this'
           (subst (λ r. Writes p.before after result (reply_line r)) told wrote))
 
@@ -365,7 +367,7 @@ module _ {A : Type 0} {W : ℕ} (p : Here W) (after : Option (List ℕ)) (result
           let taken : is_accepted kind ≡ true = ap is_accepted deleted in
           let entry : Operation → JournalEntry = λ o. record { who = p.s.who; operation = o } in
           accepted_step p after result new (journal.Delete key) journal.Deleted (Del key)
-          (reply.Deleted key (length p.history + 1)) is cursors ledgers keeps pins refl
+          (reply.Deleted key (length p.history + 1)) is cursors pinned ledgers samples keeps pins refl
           (ap (λ o. p.history ++ entry o ∷ []) (sym is_delete) ∙ history_more taken) (position_more taken)
           (decided_delete ∙ deleted) (λ later commits. inr (inl commits))
           (subst (λ r. Writes p.before after result (reply_line r)) told wrote)
@@ -377,7 +379,7 @@ module _ {A : Type 0} {W : ℕ} (p : Here W) (after : Option (List ℕ)) (result
           → StepTo p after result new
       delete_declined this' told no_entry none answers =
           quiet p after result new (Ok (Some (Del key))) (this' ∷ []) is none (desk_same no_entry) ledgers
-          (position_same no_entry ∙ sym p.stands.position) keep_still answers
+          pinned (position_same no_entry ∙ sym p.stands.position) samples keep_still answers
           (writes_one p.before after result this'
           (subst (λ r. Writes p.before after result (reply_line r)) told wrote))
 

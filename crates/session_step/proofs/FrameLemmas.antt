@@ -1,5 +1,5 @@
 -- Lemmas on what stays: a source behind each cursor for each shard, and what the desk is.
-use Rattle.std.proofs.Common.{◌≡◌, ◌<◌, ℕ, true, List, [], ◌∷◌, ◌++◌, length, map, sym, ap, ◌∙◌, subst, inl, inr}
+use Rattle.std.proofs.Common.{◌≡◌, ◌<◌, ℕ, true, List, [], ◌∷◌, ◌++◌, length, map, sym, ap, ◌∙◌, subst, inl, inr, append-nil}
 use Rattle.std.specs.List.{AllByRecursion}
 use Rattle.std.specs.declared.option.Option.{Option}
 use Rattle.std.specs.Prelude.{Result}
@@ -17,6 +17,9 @@ use Rattle.session_step.specs.Moments.{Moment}
 use Rattle.session_step.specs.Meaning.{HaveShards}
 use Rattle.session_step.specs.Commits.{CommitsAs}
 use Rattle.session_step.specs.Opening.{OpensAs}
+use Rattle.session_step.specs.KeptBuild.{KeepsBuilds}
+use Rattle.shard_rebuild.specs.ShardBuilds.{SeesMore}
+use Rattle.shard_rebuild.proofs.BuildLemmas.{build_lasts, commits_more, learns_more}
 use Rattle.session_step.proofs.QueryLemmas.{same_number_of}
 
 -- ---- the desk
@@ -58,6 +61,40 @@ module _ {W : ℕ} (config : Config) (old new : Moment W) (tag : List ℕ) (aske
       (ap (λ (m : Moment W). m.desk.alone) was.same) (ap (λ (m : Moment W). m.desk.config) was.same)
   here_opens (inr (inr (inl had))) = here_same config old.desk new.desk had.opens.keeps.alone had.opens.keeps.config
   here_opens (inr (inr (inr was))) = here_same config old.desk new.desk was.opened.opens.keeps.alone was.opened.opens.keeps.config
+
+-- ---- the builds of the desk
+
+pub builds_learn : (old new : DeskState) → OnlyLearns old new → KeepsBuilds old new
+builds_learn old new only =
+    build_lasts old new (learns_more old new only.learns (ap (λ (d : DeskState). d.config) only.after))
+
+pub builds_told : (old new : DeskState) (shard : ℕ) (told : List ℕ) → TellsLayout old new shard told
+    → KeepsBuilds old new
+builds_told old new shard told tells =
+    build_lasts old new (learns_more old new tells.learns (ap (λ (d : DeskState). d.config) tells.after))
+
+pub builds_commit : (old new : DeskState) (before position key : ℕ) (operation : Operation) (this : LineReply)
+    → CommitsAs old new before position key operation this → KeepsBuilds old new
+builds_commit old new before position key operation this (inl decides) =
+    build_lasts old new (commits_more old new operation decides.decided decides.commits)
+builds_commit old new before position key operation this (inr no_memory) = builds_learn old new no_memory.learns
+
+-- where no more is seen
+builds_seen : (old new : DeskState) → new.seen ≡ old.seen → new.config ≡ old.config → KeepsBuilds old new
+builds_seen old new seen config =
+    let more : SeesMore old new = record { more = []; longer = seen ∙ sym (append-nil old.seen); config = config } in
+    build_lasts old new more
+
+pub builds_open : {W : ℕ} (old new : Moment W) (tag : List ℕ) (asked : Ask) (room : ℕ) (this : LineReply)
+    → OpensAs old new tag asked room this → KeepsBuilds old.desk new.desk
+builds_open {W} old new tag asked room this (inl was) =
+    builds_seen old.desk new.desk (ap (λ (m : Moment W). m.desk.seen) was.same) (ap (λ (m : Moment W). m.desk.config) was.same)
+builds_open {W} old new tag asked room this (inr (inl was)) =
+    builds_seen old.desk new.desk (ap (λ (m : Moment W). m.desk.seen) was.same) (ap (λ (m : Moment W). m.desk.config) was.same)
+builds_open old new tag asked room this (inr (inr (inl had))) =
+    builds_seen old.desk new.desk had.opens.seen had.opens.keeps.config
+builds_open old new tag asked room this (inr (inr (inr was))) =
+    builds_seen old.desk new.desk was.opened.opens.seen was.opened.opens.keeps.config
 
 -- ---- the cursors
 

@@ -1,4 +1,4 @@
--- One line as a session meets it, and a step that commits nothing.
+-- One line as a session meets it, and a step that commits and builds nothing.
 use Rattle.std.proofs.Common.{◌≡◌, ℕ, List, [], ◌∷◌, ◌++◌, length, map, take, Option}
 use Rattle.std.proofs.Common.{Result, Ok, Err, OnOk, refl, sym, ap, ◌∙◌, subst, arith, append-nil}
 use Rattle.std.specs.List.{AllByRecursion}
@@ -11,16 +11,22 @@ use Rattle.query_protocol.specs.Requests.{LineReading}
 use Rattle.query_protocol.specs.Lines.{reading}
 use Rattle.query_protocol.specs.Replies.{text, reply_line, LineReply}
 use Rattle.session_desk.specs.Desks.{DeskState}
-use Rattle.session_model.specs.State.{State, open_queries}
+use Rattle.layout_search.specs.Improves.{plain_sample}
+use Rattle.session_model.specs.State.{Query, State, open_queries}
+use Rattle.session_model.specs.Searches.{samples_of}
 use Rattle.session_model.specs.Entries.{Exchange}
 use Rattle.session_model.specs.Step.{Answers, AreLayouts}
-use Rattle.session_model.specs.Upkeep.{vain_steps}
-use Rattle.session_model.specs.Run.{accepted, committed, commit_of}
+use Rattle.session_model.specs.Told.{pinned_by}
+use Rattle.session_model.specs.Upkeep.{other_steps}
+use Rattle.session_model.specs.Commits.{accepted, committed, commit_of}
 use Rattle.open_queries.specs.Writing.{Writes}
 use Rattle.session_step.specs.KeptDesk.{KeepsDesk}
+use Rattle.session_step.specs.Pinned.{TellsPinned}
 use Rattle.session_step.specs.Moments.{Moment, ReadsTo, Spends}
 use Rattle.session_step.specs.Meaning.{Means, AllKeep, IsSettled}
-use Rattle.session_step.specs.Answering.{OneStep, Stands}
+use Rattle.session_step.specs.PlainSteps.{PlainStep}
+use Rattle.session_step.specs.Samples.{MeansSamples}
+use Rattle.session_step.specs.Steps.{Stands}
 use Rattle.session_step.proofs.MomentLemmas.{reads_still, spends_still, desk_keeps}
 
 -- a line, and the session that meets it: what it was asked to be, the moment and the state that it
@@ -38,10 +44,10 @@ pub record Here (W : ℕ) : Type 0 where
 abbrev pub asked_here : {W : ℕ} → Here W → LineReading
 asked_here p = reading p.config p.line
 
--- a step that leads to this moment
+-- a step in which nothing is built and that leads to this moment
 abbrev pub StepTo : {A : Type 0} {W : ℕ} → Here W → Option (List ℕ) → Result A Failed → Moment W → Type 0
 StepTo {A} {W} p after result new =
-    OneStep {A = A} W p.config p.history p.s p.line p.before after result p.old new
+    PlainStep {A = A} W p.config p.history p.s p.line p.before after result p.old new
 
 -- ---- small facts
 
@@ -70,13 +76,18 @@ pub prefix_here : {W : ℕ} (p : Here W) (later : List JournalEntry)
     → take p.s.position (p.history ++ later) ≡ p.history
 prefix_here p later = take_at p.history later p.s.position (sym p.stands.means.position)
 
+-- the samples in memory are those of queries that have the same ones
+pub samples_here : {W : ℕ} (p : Here W) (new : Moment W) (queries : List Query) → new.samples ≡ p.old.samples
+    → samples_of queries ≡ samples_of p.s.queries → MeansSamples p.config.bits new.samples queries
+samples_here p new queries same stay =
+    ap (map (plain_sample p.config.bits)) same ∙ p.stands.samples ∙ sym stay
+
 -- ---- a desk that has seen no more
 
 pub means_to : (config : Config) (old new : DeskState) (history : List JournalEntry) (s t : State)
     → Means config old history s → KeepsDesk old new → new.seen ≡ old.seen
-    → t.position ≡ s.position → t.who ≡ s.who → t.layouts ≡ s.layouts → t.build ≡ s.build
-    → Means config new history t
-means_to config old new history s t means keeps seen position who layouts build = record {
+    → t.position ≡ s.position → t.who ≡ s.who → t.layouts ≡ s.layouts → Means config new history t
+means_to config old new history s t means keeps seen position who layouts = record {
   config_is = keeps.config ∙ means.config_is;
   alone = keeps.alone ∙ means.alone;
   history_is = means.history_is
@@ -86,8 +97,16 @@ means_to config old new history s t means keeps seen position who layouts build 
   who = who ∙ means.who ∙ sym keeps.who;
   layouts = layouts ∙ means.layouts ∙ sym keeps.layouts;
   are_layouts = subst (AreLayouts config) (sym layouts) means.are_layouts;
-  no_build = build ∙ means.no_build;
 }
+
+-- ---- queries that pinned the same
+
+-- the layouts in memory are still those of the queries
+pub pinned_still : {W : ℕ} (p : Here W) (new : Moment W) (t : State) → new.pinned ≡ p.old.pinned
+    → pinned_by t.queries ≡ pinned_by p.s.queries → TellsPinned p.config.shards new.pinned (pinned_by t.queries)
+pinned_still p new t pinned same =
+    subst (TellsPinned p.config.shards new.pinned) (sym same)
+    (subst (λ l. TellsPinned p.config.shards l (pinned_by p.s.queries)) (sym pinned) p.stands.pinned)
 
 -- ---- a step that commits nothing
 
@@ -98,12 +117,12 @@ module _ {A : Type 0} {W : ℕ} (p : Here W) (after : Option (List ℕ)) (result
   exchange = exchange_here p replies p.s.position
 
   -- the session commits nothing
-  no_commit : (who : ℕ) → commit_of who p.config exchange ≡ []
+  pub no_commit : (who : ℕ) → commit_of who p.config exchange ≡ []
   no_commit who =
       ap (λ r. committed who r replies) is
       ∙ ap (λ (l : List Operation). map {B = JournalEntry} (λ o. record { who = who; operation = o }) l) none
 
-  same_history : p.history ++ commit_of p.s.who p.config exchange ≡ p.history
+  pub same_history : p.history ++ commit_of p.s.who p.config exchange ≡ p.history
   same_history = ap (λ l. p.history ++ l) (no_commit p.s.who) ∙ append-nil p.history
 
   pub quiet_by : ((later : List JournalEntry)
@@ -111,12 +130,14 @@ module _ {A : Type 0} {W : ℕ} (p : Here W) (after : Option (List ℕ)) (result
       → Writes p.before after result (text replies)
       → ReadsTo p.old.ledgers.reads new.ledgers.reads p.s.queries t.queries
       → Spends p.old.desk new.desk p.old.ledgers.upkeep new.ledgers.upkeep
-      (vain_steps p.config.shards replies p.s.position)
+      (other_steps p.config.shards replies p.s.position)
       → AllByRecursion (IsSettled p.config p.history) t.queries
+      → MeansSamples p.config.bits new.samples t.queries
       → Means p.config new.desk p.history t → KeepsDesk p.old.desk new.desk
       → OnOk result (AllKeep p.config p.history new.cursors (open_queries t.queries))
+      → TellsPinned p.config.shards new.pinned (pinned_by t.queries)
       → new.position ≡ t.position → StepTo p after result new
-  quiet_by answers wrote reads spent settled means keeps keep position =
+  quiet_by answers wrote reads spent settled samples means keeps keep pinned position =
       let past = p.history ++ commit_of p.s.who p.config exchange in
       record {
         exchange = exchange;
@@ -137,10 +158,12 @@ module _ {A : Type 0} {W : ℕ} (p : Here W) (after : Option (List ℕ)) (result
         reads = reads;
         spent = spent;
         settled = subst (λ h. AllByRecursion (IsSettled p.config h) t.queries) (sym same_history) settled;
+        samples = samples;
         means = subst (λ h. Means p.config new.desk h t) (sym same_history) means;
         keeps = keeps;
         keep = subst (λ h. OnOk result (AllKeep p.config h new.cursors (open_queries t.queries)))
             (sym same_history) keep;
+        pinned = pinned;
         position = position;
       }
 
@@ -148,24 +171,25 @@ module _ {A : Type 0} {W : ℕ} (p : Here W) (after : Option (List ℕ)) (result
 pub quiet : {A : Type 0} {W : ℕ} (p : Here W) (after : Option (List ℕ)) (result : Result A Failed)
     (new : Moment W) (asked : LineReading) (replies : List LineReply) → asked_here p ≡ asked
     → accepted asked replies ≡ [] → new.desk ≡ p.old.desk → new.ledgers ≡ p.old.ledgers
-    → new.position ≡ p.old.position
+    → new.pinned ≡ p.old.pinned → new.position ≡ p.old.position → new.samples ≡ p.old.samples
     → AllKeep p.config p.history new.cursors (open_queries p.s.queries)
     → ((later : List JournalEntry)
     → Answers asked p.config (p.history ++ later) p.s (exchange_here p replies p.s.position) p.s)
     → Writes p.before after result (text replies) → StepTo p after result new
-quiet p after result new asked replies is none desk ledgers position keep answers wrote =
-    let vain = vain_steps p.config.shards replies p.s.position in
+quiet p after result new asked replies is none desk ledgers pinned position samples keep answers wrote =
+    let beside = other_steps p.config.shards replies p.s.position in
     let s = p.s in
     quiet_by p after result new asked replies s is none answers wrote
     (subst (λ l. ReadsTo p.old.ledgers.reads l.reads s.queries s.queries) (sym ledgers)
     (reads_still p.old.ledgers.reads s.queries))
-    (subst (λ l. Spends p.old.desk new.desk p.old.ledgers.upkeep l.upkeep vain) (sym ledgers)
-    (subst (λ d. Spends p.old.desk d p.old.ledgers.upkeep p.old.ledgers.upkeep vain) (sym desk)
-    (spends_still p.old.desk p.old.ledgers.upkeep vain)))
-    p.stands.settled
+    (subst (λ l. Spends p.old.desk new.desk p.old.ledgers.upkeep l.upkeep beside) (sym ledgers)
+    (subst (λ d. Spends p.old.desk d p.old.ledgers.upkeep p.old.ledgers.upkeep beside) (sym desk)
+    (spends_still p.old.desk p.old.ledgers.upkeep beside)))
+    p.stands.settled (samples_here p new s.queries samples refl)
     (subst (λ d. Means p.config d p.history s) (sym desk) p.stands.means)
     (subst (KeepsDesk p.old.desk) (sym desk) (desk_keeps p.old.desk))
     (on_ok result (AllKeep p.config p.history new.cursors (open_queries s.queries)) keep)
+    (pinned_still p new s pinned refl)
     (position ∙ p.stands.position)
 
 -- ---- the line as a call has it

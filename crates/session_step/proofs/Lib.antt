@@ -1,5 +1,6 @@
 pub mod MomentLemmas
 pub mod Here
+pub mod PinnedLemmas
 pub mod QueryLemmas
 pub mod QuestionLemmas
 pub mod BoundLemmas
@@ -9,5 +10,12 @@ pub mod CommitLemmas
 pub mod LookLemmas
 pub mod OpenedLemmas
 pub mod FrameLemmas
+pub mod PlainLemmas
+pub mod WholeLemmas
 pub mod TurnLemmas
 pub mod OpeningLemmas
+pub mod StartLemmas
+pub mod SwapInLemmas
+pub mod RebuildFrames
+pub mod SearchLemmas
+pub mod KeptSamples

@@ -19,14 +19,14 @@ use Rattle.session_desk.specs.Desks.{DeskState, ShardPlace, no_place, seen_histo
 use Rattle.session_model.specs.State.{open_queries}
 use Rattle.session_model.specs.Ledger.{layout_at}
 use Rattle.session_model.specs.Entries.{code_reply}
-use Rattle.session_model.specs.Upkeep.{vain_steps}
-use Rattle.session_model.specs.Run.{accepted}
+use Rattle.session_model.specs.Upkeep.{other_steps}
+use Rattle.session_model.specs.Commits.{accepted}
 use Rattle.open_queries.specs.Writing.{Writes}
 use Rattle.session_step.specs.KeptDesk.{KeepsDesk, pins_of}
 use Rattle.session_step.specs.Moments.{Moment, ReadsTo, Spends}
 use Rattle.session_step.specs.Meaning.{AllKeep}
 use Rattle.session_step.proofs.MomentLemmas.{reads_still, spends_seen, as_long}
-use Rattle.session_step.proofs.Here.{Here, StepTo, asked_here, quiet, quiet_by, prefix_here, on_ok}
+use Rattle.session_step.proofs.Here.{Here, StepTo, asked_here, pinned_still, quiet, quiet_by, samples_here, prefix_here, on_ok}
 use Rattle.session_step.proofs.MomentLemmas.{learns_nothing}
 use Rattle.session_step.proofs.Here.{means_to, writes_one}
 
@@ -41,7 +41,8 @@ code_here config desk history key is_config is_history =
     ∙ code_recoded (take config.bits) (rows_of desk.seen) key
 
 module _ {A : Type 0} {W : ℕ} (p : Here W) (after : Option (List ℕ)) (result : Result A Failed)
-    (new : Moment W) (cursors : new.cursors ≡ p.old.cursors) (ledgers : new.ledgers ≡ p.old.ledgers) where
+    (new : Moment W) (cursors : new.cursors ≡ p.old.cursors) (pinned : new.pinned ≡ p.old.pinned)
+    (ledgers : new.ledgers ≡ p.old.ledgers) (samples : new.samples ≡ p.old.samples) where
   keep_still : AllKeep p.config p.history new.cursors (open_queries p.s.queries)
   keep_still = subst (λ l. AllKeep p.config p.history l (open_queries p.s.queries)) (sym cursors) p.stands.keep
 
@@ -85,7 +86,7 @@ module _ {A : Type 0} {W : ℕ} (p : Here W) (after : Option (List ℕ)) (result
         let this = code_reply key told p.s.position in
         let s = p.s in
         quiet p after result new (Ok (Some (Get key))) (this ∷ []) is (no_entry told) desk_same ledgers
-        (position_same ∙ sym p.stands.position) keep_still
+        pinned (position_same ∙ sym p.stands.position) samples keep_still
         (λ later. record {
           not_before = omega arith;
           within = omega (arith, p.stands.means.position, length-append p.history later);
@@ -127,17 +128,17 @@ module _ {A : Type 0} {W : ℕ} (p : Here W) (after : Option (List ℕ)) (result
     layout_step wrote =
         let this : LineReply = reply.Layout shard (layout_text (layout_at p.s.layouts shard)) in
         let s = p.s in
-        let vain = vain_steps p.config.shards (this ∷ []) s.position in
+        let beside = other_steps p.config.shards (this ∷ []) s.position in
         quiet_by p after result new (Ok (Some (Layout shard))) (this ∷ []) s is refl
         (λ later. record { said_is = refl; position = refl; same = refl })
         (writes_one p.before after result this
         (subst (λ t. Writes p.before after result (reply_line (reply.Layout shard t))) told_here wrote))
         (subst (λ l. ReadsTo p.old.ledgers.reads l.reads s.queries s.queries) (sym ledgers)
         (reads_still p.old.ledgers.reads s.queries))
-        (subst (λ l. Spends p.old.desk new.desk p.old.ledgers.upkeep l.upkeep vain) (sym ledgers)
-        (spends_seen p.old.desk new.desk p.old.ledgers.upkeep vain (omega (arith, ap length seen_same))
+        (subst (λ l. Spends p.old.desk new.desk p.old.ledgers.upkeep l.upkeep beside) (sym ledgers)
+        (spends_seen p.old.desk new.desk p.old.ledgers.upkeep beside (omega (arith, ap length seen_same))
         (ap pins_of tells.after)))
-        p.stands.settled
-        (means_to p.config p.old.desk new.desk p.history s s p.stands.means keeps seen_same refl refl refl refl)
+        p.stands.settled (samples_here p new s.queries samples refl)
+        (means_to p.config p.old.desk new.desk p.history s s p.stands.means keeps seen_same refl refl refl)
         keeps (on_ok result (AllKeep p.config p.history new.cursors (open_queries s.queries)) keep_still)
-        (position ∙ p.stands.position)
+        (pinned_still p new s pinned refl) (position ∙ p.stands.position)

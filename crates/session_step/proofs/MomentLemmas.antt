@@ -8,7 +8,7 @@ use Rattle.session_desk.specs.Calls.{OnlyLearns}
 use Rattle.session_model.specs.State.{Query}
 use Rattle.session_model.specs.Entries.{Exchange}
 use Rattle.session_model.specs.Ledger.{sum_of}
-use Rattle.session_model.specs.Upkeep.{entries_beyond, vain_steps, all_vain_steps}
+use Rattle.session_model.specs.Upkeep.{entries_beyond, other_steps, all_other_steps}
 use Rattle.session_step.specs.KeptDesk.{KeepsDesk, pins_of}
 use Rattle.session_step.specs.Moments.{ReadsTo, Spends}
 
@@ -27,14 +27,14 @@ reads_then a b c one two three first second = record {
 
 -- ---- upkeep
 
-pub spends_still : (desk : DeskState) (steps vain : ℕ) → Spends desk desk steps steps vain
-spends_still desk steps vain =
+pub spends_still : (desk : DeskState) (steps beside : ℕ) → Spends desk desk steps steps beside
+spends_still desk steps beside =
     record { longer = omega arith; within = λ most le. omega arith }
 
 -- more entries were seen, and nothing was spent
-pub spends_seen : (old new : DeskState) (steps vain : ℕ) → length old.seen ≤ length new.seen
-    → pins_of new ≡ pins_of old → Spends old new steps steps vain
-spends_seen old new steps vain longer same = record {
+pub spends_seen : (old new : DeskState) (steps beside : ℕ) → length old.seen ≤ length new.seen
+    → pins_of new ≡ pins_of old → Spends old new steps steps beside
+spends_seen old new steps beside longer same = record {
   longer = longer;
   within = λ most le.
       omega (arith, ap (λ l. entries_beyond l most) same);
@@ -53,11 +53,11 @@ pub sum_append : (a b : List ℕ) → sum_of (a ++ b) ≡ sum_of a + sum_of b
 sum_append [] b = omega arith
 sum_append (n ∷ a) b = omega (arith, sum_append a b)
 
-pub vain_more : (shards : ℕ) (exchanges : List Exchange) (e : Exchange)
-    → all_vain_steps shards (exchanges ++ e ∷ [])
-    ≡ all_vain_steps shards exchanges + vain_steps shards e.replies e.seen
-vain_more shards exchanges e =
-    let Vain = λ (e : Exchange). vain_steps shards e.replies e.seen in
+pub others_more : (shards : ℕ) (exchanges : List Exchange) (e : Exchange)
+    → all_other_steps shards (exchanges ++ e ∷ [])
+    ≡ all_other_steps shards exchanges + other_steps shards e.replies e.seen
+others_more shards exchanges e =
+    let Vain = λ (e : Exchange). other_steps shards e.replies e.seen in
     let both : sum_of (map Vain (exchanges ++ e ∷ []))
     ≡ sum_of (map Vain exchanges) + sum_of (Vain e ∷ []) =
     ap sum_of (map-append Vain exchanges (e ∷ [])) ∙ sum_append (map Vain exchanges) (Vain e ∷ []) in

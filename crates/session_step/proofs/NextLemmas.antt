@@ -19,11 +19,11 @@ use Rattle.query_protocol.specs.Replies.{text, reply_line}
 use Rattle.query_protocol.specs.Replies as reply
 use Rattle.session_model.specs.State.{Query, State, query_of, replaced, open_queries}
 use Rattle.session_model.specs.Entries.{Exchange}
-use Rattle.session_model.specs.Upkeep.{vain_steps}
+use Rattle.session_model.specs.Upkeep.{other_steps}
 use Rattle.session_model.specs.Ledger.{ledgers, answer_to, IsBounded, rows_at, layout_at}
 use Rattle.session_model.specs.QuerySteps.{ReadsOn, Gives, IfOpen, given_more, next_replies}
 use Rattle.session_model.specs.Step.{Answers}
-use Rattle.session_model.specs.Run.{accepted}
+use Rattle.session_model.specs.Commits.{accepted}
 use Rattle.open_queries.specs.Queries.{IsFree, Changes, answer_in}
 use Rattle.open_queries.specs.Answers.{GivesAs, GivesQuery, IsGiven}
 use Rattle.open_queries.specs.Writing.{Writes}
@@ -33,9 +33,10 @@ use Rattle.session_step.specs.Meaning.{AllKeep, AsksOn, IsSettled, Keeps, Means}
 use Rattle.session_step.specs.KeptDesk.{KeepsDesk}
 use Rattle.session_step.proofs.MomentLemmas.{spends_still}
 use Rattle.session_step.proofs.QueryLemmas.{IsFound, found_changed, found_holds, not_open, of_open, replaced_open}
-use Rattle.session_step.proofs.QueryLemmas.{all_replaced, read_replaced, same_asks, same_number_of}
+use Rattle.session_step.proofs.QueryLemmas.{all_replaced, pinned_replaced, read_replaced, same_asks, same_number_of}
 use Rattle.session_step.proofs.BoundLemmas.{answer_is, answer_near, bound_at, first_of_some}
-use Rattle.session_step.proofs.Here.{Here, StepTo, asked_here, exchange_here, quiet, quiet_by}
+use Rattle.session_model.proofs.SampleLemmas.{samples_stay}
+use Rattle.session_step.proofs.Here.{Here, StepTo, asked_here, exchange_here, pinned_still, quiet, quiet_by, samples_here}
 use Rattle.session_step.proofs.Here.{on_ok_then, means_to, writes_one}
 use Rattle.session_step.proofs.MomentLemmas.{desk_keeps}
 
@@ -50,13 +51,13 @@ pub unknown_step : {A : Type 0} {W : ℕ} (p : Here W) (after : Option (List ℕ
     → IfOpen (query_of tag p.s.queries) (Answered h) p.s e t
     → Answers (Ok (Some request)) p.config h p.s e t)
     → IsFree p.old.cursors tag → new.cursors ≡ p.old.cursors → new.desk ≡ p.old.desk
-    → new.ledgers ≡ p.old.ledgers → new.position ≡ p.old.position
+    → new.ledgers ≡ p.old.ledgers → new.pinned ≡ p.old.pinned → new.position ≡ p.old.position → new.samples ≡ p.old.samples
     → Writes p.before after result (reply_line (reply.Bad (bad 8))) → StepTo p after result new
-unknown_step p after result new request tag Answered reads none answers free same desk ledgers position wrote =
+unknown_step p after result new request tag Answered reads none answers free same desk ledgers pinned position samples wrote =
     let missing : query_of tag p.s.queries ≡ None =
     of_open tag p.s.queries ∙ not_open p.config p.history p.old.cursors (open_queries p.s.queries) tag
     p.stands.keep free in
-    quiet p after result new (Ok (Some request)) (reply.Bad (bad 8) ∷ []) reads none desk ledgers position
+    quiet p after result new (Ok (Some request)) (reply.Bad (bad 8) ∷ []) reads none desk ledgers pinned position samples
     (subst (λ l. AllKeep p.config p.history l (open_queries p.s.queries)) (sym same) p.stands.keep)
     (λ later. answers (p.history ++ later) _ p.s
     (subst (λ o. IfOpen o (Answered (p.history ++ later)) p.s
@@ -69,7 +70,8 @@ unknown_step p after result new request tag Answered reads none answers free sam
 module _ {A : Type 0} {W : ℕ} (p : Here W) (after : Option (List ℕ)) (result : Result A Failed)
     (new : Moment W) (tag : List ℕ) (count : ℕ) (is_asked : asked_here p ≡ Ok (Some (Next tag count)))
     (ranges : IsConfig p.config)
-    (desk : new.desk ≡ p.old.desk) (position : new.position ≡ p.old.position)
+    (desk : new.desk ≡ p.old.desk) (pinned : new.pinned ≡ p.old.pinned) (position : new.position ≡ p.old.position)
+    (samples : new.samples ≡ p.old.samples)
     (upkeep : new.ledgers.upkeep ≡ p.old.ledgers.upkeep)
     (number : length new.ledgers.reads ≡ length p.old.ledgers.reads) where
   module _ (was is : Cursor W) (changes : Changes p.old.cursors new.cursors tag was is)
@@ -266,21 +268,23 @@ module _ {A : Type 0} {W : ℕ} (p : Here W) (after : Option (List ℕ)) (result
         (exchange_here p replies p.s.position) then) (sym found) (answered later))
         (subst (λ r. Writes p.before after result (text r)) replies_here gives.wrote)
         reads_to
-        (subst (λ n. Spends p.old.desk new.desk p.old.ledgers.upkeep n (vain_steps p.config.shards replies p.s.position)) (sym upkeep)
+        (subst (λ n. Spends p.old.desk new.desk p.old.ledgers.upkeep n (other_steps p.config.shards replies p.s.position)) (sym upkeep)
         (subst (λ d. Spends p.old.desk d p.old.ledgers.upkeep p.old.ledgers.upkeep
-        (vain_steps p.config.shards replies p.s.position)) (sym desk)
-        (spends_still p.old.desk p.old.ledgers.upkeep (vain_steps p.config.shards replies p.s.position))))
+        (other_steps p.config.shards replies p.s.position)) (sym desk)
+        (spends_still p.old.desk p.old.ledgers.upkeep (other_steps p.config.shards replies p.s.position))))
         (all_replaced (IsSettled p.config p.history) tag this p.s.queries p.stands.settled
         (record { within = it.keeps.within; bounded = bounded }))
+        (samples_here p new then.queries samples (samples_stay tag p.s.queries query this found refl))
         (subst (λ d. Means p.config d p.history then) (sym desk)
         (means_to p.config p.old.desk p.old.desk p.history p.s then p.stands.means (desk_keeps p.old.desk)
-        refl refl refl refl refl))
+        refl refl refl refl))
         (subst (KeepsDesk p.old.desk) (sym desk) (desk_keeps p.old.desk))
         (on_ok_then result (IsGiven (asks {W = W}) count was is) _
         (λ given. subst (λ l. AllKeep p.config p.history l (open_queries then.queries)) (sym changes.new_is)
         (subst (AllKeep p.config p.history (changes.front ++ is ∷ changes.back))
         (sym (replaced_open tag this p.s.queries it.keeps.opened)) (it.keep is this (keeps_now given))))
         gives.given)
+        (pinned_still p new then pinned (pinned_replaced tag query this p.s.queries found refl))
         (position ∙ p.stands.position)
 
   pub next_step : GivesAs (asks {W = W}) (stands {W = W}) p.old.cursors tag count p.before after
@@ -289,5 +293,5 @@ module _ {A : Type 0} {W : ℕ} (p : Here W) (after : Option (List ℕ)) (result
       let same_ledgers : new.ledgers ≡ p.old.ledgers =
       ap (λ l. ledgers l new.ledgers.upkeep) unknown.2 ∙ ap (ledgers p.old.ledgers.reads) upkeep in
       unknown_step p after result new (Next tag count) tag (λ h. Gives p.config h tag count) is_asked refl
-      (λ h e t answers. answers) unknown.0 unknown.1 desk same_ledgers position unknown.3
+      (λ h e t answers. answers) unknown.0 unknown.1 desk same_ledgers pinned position samples unknown.3
   next_step (inr given) = gives_step given.0 given.1 given.2 given.3

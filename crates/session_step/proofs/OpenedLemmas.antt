@@ -24,10 +24,11 @@ use Rattle.session_desk.specs.Desks.{ShardPlace, place_at, no_place, seen_histor
 use Rattle.session_model.specs.State.{Query, State, query_of, open_queries}
 use Rattle.session_model.specs.Entries.{Exchange}
 use Rattle.session_model.specs.Ledger.{layout_at, rows_at, answer_to}
-use Rattle.session_model.specs.QuerySteps.{OpensUnlessMany, OpensUnlessUsed, new_query, most_open}
+use Rattle.session_model.specs.Openings.{OpensUnlessMany, OpensUnlessUsed, new_query, most_open}
 use Rattle.session_model.specs.Step.{Answers}
-use Rattle.session_model.specs.Upkeep.{entries_beyond, vain_steps}
-use Rattle.session_model.specs.Run.{accepted}
+use Rattle.session_model.specs.Told.{pinned_by}
+use Rattle.session_model.specs.Upkeep.{entries_beyond, other_steps}
+use Rattle.session_model.specs.Commits.{accepted}
 use Rattle.threshold_model.specs.Bounds.{last_distance}
 use Rattle.open_queries.specs.Queries.{opened_query}
 use Rattle.open_queries.specs.Writing.{Writes}
@@ -35,6 +36,7 @@ use Rattle.query_opening.specs.Opening.{AsksWanted}
 use Rattle.session_step.specs.Questions.{opening_request, asked_code, radius_in, wanted_in, limit_in}
 use Rattle.session_step.specs.Cursors.{ShardSource, Cursor, asks, stands}
 use Rattle.session_step.specs.KeptDesk.{pins_of}
+use Rattle.session_step.specs.Pinned.{PinsMore, TellsPinned}
 use Rattle.session_step.specs.Moments.{Moment, ReadsTo}
 use Rattle.session_step.specs.Meaning.{AllKeep, AsksOn, IsSettled, Keeps, Means}
 use Rattle.session_step.specs.Opening.{OpensAs, OpensAll, IsJudged}
@@ -42,9 +44,14 @@ use Rattle.session_step.specs.Opening.{WasUsed, WasFull, HadNone, WasOpened}
 use Rattle.session_step.proofs.MomentLemmas.{reads_still, as_long}
 use Rattle.session_step.proofs.BoundLemmas.{answer_near, bound_at, first_of_some}
 use Rattle.session_step.proofs.QueryLemmas.{is_found, keep_more, more_open, not_open, of_open, same_number}
-use Rattle.session_step.proofs.QueryLemmas.{all_more, read_more}
-use Rattle.session_step.proofs.Here.{Here, StepTo, asked_here, exchange_here, quiet, quiet_by, on_ok}
-use Rattle.session_step.proofs.Here.{means_to, writes_one}
+use Rattle.session_step.proofs.QueryLemmas.{all_more, pinned_more, read_more}
+use Rattle.exchange_model.specs.Rounds.{PlainSample}
+use Rattle.exchange_model.specs.declared.limits.TheConstants.{SAMPLES_MOST}
+use Rattle.session_model.specs.Searches.{newest_of, sample_of}
+use Rattle.session_model.proofs.SampleLemmas.{opened_sample}
+use Rattle.session_step.specs.Samples.{MeansSamples, SamplesJoined}
+use Rattle.session_step.proofs.Here.{Here, StepTo, asked_here, exchange_here, quiet, quiet_by, samples_here, on_ok}
+use Rattle.session_step.proofs.Here.{means_to, pinned_still, writes_one}
 
 -- ---- upkeep
 
@@ -148,7 +155,7 @@ module _ {A : Type 0} {W : ℕ} (p : Here W) (after : Option (List ℕ)) (result
       let s = p.s in
       subst (λ m. StepTo p after result m) (sym was.same)
       (quiet p after result p.old (Ok (Some (opening_request tag asked))) (reply.Bad (bad 7) ∷ []) is
-      (opening_commits tag asked (reply.Bad (bad 7) ∷ [])) refl refl refl
+      (opening_commits tag asked (reply.Bad (bad 7) ∷ [])) refl refl refl refl refl
       p.stands.keep
       (λ later. opens_as asked tag p.config (p.history ++ later) s (exchange_here p (reply.Bad (bad 7) ∷ []) s.position) s
       (subst (λ o. Opening o (p.history ++ later) (exchange_here p (reply.Bad (bad 7) ∷ []) s.position) s)
@@ -161,7 +168,7 @@ module _ {A : Type 0} {W : ℕ} (p : Here W) (after : Option (List ℕ)) (result
       let s = p.s in
       subst (λ m. StepTo p after result m) (sym was.same)
       (quiet p after result p.old (Ok (Some (opening_request tag asked))) (reply.Bad (bad 9) ∷ []) is
-      (opening_commits tag asked (reply.Bad (bad 9) ∷ [])) refl refl refl
+      (opening_commits tag asked (reply.Bad (bad 9) ∷ [])) refl refl refl refl refl
       p.stands.keep
       (λ later. judged_here true was.judged (p.history ++ later) (exchange_here p (reply.Bad (bad 9) ∷ []) s.position) s
       (record { said_is = refl; position = refl; same = refl }))
@@ -194,12 +201,12 @@ module _ {A : Type 0} {W : ℕ} (p : Here W) (after : Option (List ℕ)) (result
             let all : (p.config.shards + 2) * s.position ≡ p.config.shards * s.position + 2 * s.position = add-mul p.config.shards 2 s.position in
             omega (arith, cost, opens.pins most le, all);
       })
-      p.stands.settled
-      (means_to p.config p.old.desk new.desk p.history s s p.stands.means opens.keeps opens.seen refl refl refl refl)
+      p.stands.settled (samples_here p new s.queries had.samples refl)
+      (means_to p.config p.old.desk new.desk p.history s s p.stands.means opens.keeps opens.seen refl refl refl)
       opens.keeps
       (on_ok result (AllKeep p.config p.history new.cursors (open_queries s.queries))
       (subst (λ l. AllKeep p.config p.history l (open_queries s.queries)) (sym had.cursors) p.stands.keep))
-      (had.position ∙ p.stands.position)
+      (pinned_still p new s had.pinned refl) (had.position ∙ p.stands.position)
 
   -- ---- a query is opened
 
@@ -237,7 +244,7 @@ module _ {A : Type 0} {W : ℕ} (p : Here W) (after : Option (List ℕ)) (result
 
     means_new : Means p.config new.desk p.history p.s
     means_new = means_to p.config p.old.desk new.desk p.history p.s p.s p.stands.means opens.keeps opens.seen refl refl
-        refl refl
+        refl
 
     -- a shard's layout, by the desk
     layout_here : (shard : ℕ) → (place_at new.desk shard).1.parts ≡ layout_at p.s.layouts shard
@@ -313,10 +320,25 @@ module _ {A : Type 0} {W : ℕ} (p : Here W) (after : Option (List ℕ)) (result
       };
     }
 
+    -- the layouts in memory are those of the queries, with the state's for the one that is opened
+    pinned_new : TellsPinned p.config.shards new.pinned (pinned_by then.queries)
+    pinned_new =
+        subst (TellsPinned p.config.shards new.pinned) (sym (pinned_more p.s.queries query))
+        (subst (λ n. TellsPinned n new.pinned (pinned_by p.s.queries ++ p.s.layouts ∷ [])) size_here
+        (subst (λ l. PinsMore p.old.pinned new.pinned l) (sym means_new.layouts) was.pinned (pinned_by p.s.queries)
+        (subst (λ n. TellsPinned n p.old.pinned (pinned_by p.s.queries)) (sym size_here) p.stands.pinned)))
+
+    -- what was asked joined the samples
+    samples_new : MeansSamples p.config.bits new.samples then.queries
+    samples_new =
+        subst (λ n. SamplesJoined n asked p.old.samples new.samples) (ap (λ (c : Config). c.bits) p.stands.means.config_is) was.samples
+        ∙ ap (λ (l : List PlainSample). newest_of SAMPLES_MOST (l ++ sample_of asked)) p.stands.samples
+        ∙ sym (opened_sample p.s.queries query)
+
     opened_step : StepTo p after result new
     opened_step =
         let s = p.s in
-        let vain = vain_steps p.config.shards replies s.position in
+        let beside = other_steps p.config.shards replies s.position in
         let told : this ≡ reply.Open tag s.position = was.told ∙ ap (reply.Open tag) position_is in
         quiet_by p after result new (Ok (Some (opening_request tag asked))) replies then is
         (opening_commits tag asked replies)
@@ -348,13 +370,14 @@ module _ {A : Type 0} {W : ℕ} (p : Here W) (after : Option (List ℕ)) (result
               omega (arith, same, all, opens.steps);
         })
         (all_more (IsSettled p.config p.history) s.queries query p.stands.settled settled_new)
-        (means_to p.config p.old.desk new.desk p.history s then p.stands.means opens.keeps opens.seen refl refl refl refl)
+        samples_new
+        (means_to p.config p.old.desk new.desk p.history s then p.stands.means opens.keeps opens.seen refl refl refl)
         opens.keeps
         (on_ok result (AllKeep p.config p.history new.cursors (open_queries then.queries))
         (subst (λ l. AllKeep p.config p.history new.cursors l) (sym (more_open s.queries query refl))
         (subst (λ l. AllKeep p.config p.history l (open_queries s.queries ++ query ∷ [])) (sym was.cursors)
         (keep_more p.config p.history p.old.cursors open_before cursor query p.stands.keep keeps_new))))
-        position_is
+        pinned_new position_is
 
   pub open_step : OpensAs p.old new tag asked room this → StepTo p after result new
   open_step (inl was) = used_step was

@@ -3,6 +3,7 @@ use Rattle.std.proofs.Common.{◌≡◌, ℕ, zero, suc, ◌+◌, ◌-◌, ◌*�
 use Rattle.std.proofs.Common.{List, [], ◌∷◌, ◌++◌, sum, take}
 use Rattle.std.proofs.Common.{length, map, replicate, slice_index_or, Option, None}
 use Rattle.std.proofs.Common.{refl, sym, ap, ◌∙◌, subst, arith, append-nil, inl, inr}
+use Rattle.std.proofs.Common.{Result, Ok, Err, OnErr}
 use Rattle.std.specs.List.{AllByRecursion, list_all, sum_by}
 use Rattle.std.proofs.lemmas.Bool.{le-leb}
 use Rattle.std.proofs.lemmas.List.{length-map, get_or-map}
@@ -10,6 +11,7 @@ use Rattle.std.proofs.lemmas.List.Sums.{sum-map}
 use Rattle.hamming_model.specs.History.{rows_of, shard_rows}
 use Rattle.hamming_model.specs.Scan.{Ask, Range, Near}
 use Rattle.hit_source.specs.Sources.{Asked, Standing, IsFresh}
+use Rattle.part_layout.specs.Laid.{Laid}
 use Rattle.part_layout.specs.declared.config.Config.{Config}
 use Rattle.shard_version.specs.Contents.{Contents}
 use Rattle.session_desk.specs.Desks.{DeskState, IsDesk, Pin, ShardPlace, no_place, pin_position, pinned_at, IsVersionOf}
@@ -17,7 +19,7 @@ use Rattle.session_desk.specs.Desks.{seen_history}
 use Rattle.session_model.specs.Upkeep.{entries_beyond}
 use Rattle.scatter_gather.specs.Gathering.{Gathered, gathered}
 use Rattle.scatter_gather.specs.Kept.{AreOneLength}
-use Rattle.query_opening.specs.Pinning.{ComesOn, behind}
+use Rattle.query_opening.specs.Pinning.{ComesOn, PinsAll, behind}
 use Rattle.query_opening.specs.Opening.{AsksWanted, OpensSources, is_nearest}
 use Rattle.query_opening.specs.declared.wanted.Wanted.{Wanted}
 use Rattle.query_opening.specs.declared.wanted.Wanted.TheVariants.{Within, Nearest}
@@ -27,15 +29,21 @@ use Rattle.open_queries.specs.Kept.{AreOfOneKind}
 use Rattle.session_step.specs.Questions.{ask_of, asked_code, limit_in, wanted_in}
 use Rattle.session_step.specs.declared.question.Question.{Question}
 use Rattle.session_step.specs.declared.question.Question.TheVariants as question
-use Rattle.session_step.specs.KeptDesk.{KeepsDesk, pins_of}
+use Rattle.session_step.specs.KeptDesk.{KeepsDesk, layouts_of, pins_of}
+use Rattle.session_step.specs.Pinned.{layouts_in}
 use Rattle.session_step.specs.Opening.{OpensAll, OpensNone, OpensGathered}
 use Rattle.session_step.specs.Cursors.{ShardSource, asks, stands}
 use Rattle.session_step.proofs.BoundLemmas.{first_of_some}
 
+-- what holds anyway holds on an error
+pub on_err : {A E : Type 0} (result : Result A E) (P : Type 0) → P → OnErr result P
+on_err (Ok value) P h = tt
+on_err (Err fault) P h = h
+
 -- ---- lists by place
 
 -- two lists with the same at each place are the same
-same_list : {S B : Type 0} (f : S → B) (xs ys : List S) (d : S) → length xs ≡ length ys
+pub same_list : {S B : Type 0} (f : S → B) (xs ys : List S) (d : S) → length xs ≡ length ys
     → ((i : ℕ) → i < length ys → f (slice_index_or xs i d) ≡ f (slice_index_or ys i d)) → map f xs ≡ map f ys
 same_list f [] [] d same each = refl
 same_list f [] (y ∷ ys) d same each = absurd (omega (arith, same))
@@ -43,6 +51,17 @@ same_list f (x ∷ xs) [] d same each = absurd (omega (arith, same))
 same_list f (x ∷ xs) (y ∷ ys) d same each =
     ap (λ h. h ∷ map f xs) (each zero (omega arith))
     ∙ ap (λ l. f y ∷ l) (same_list f xs ys d (omega (arith, same)) (λ i lt. each (suc i) (omega (arith, lt))))
+
+-- two lists of which the same is seen at each place
+pub same_seen : {S T B : Type 0} (f : S → B) (g : T → B) (xs : List S) (ys : List T) (d : S) (e : T)
+    → length xs ≡ length ys
+    → ((i : ℕ) → i < length ys → f (slice_index_or xs i d) ≡ g (slice_index_or ys i e)) → map f xs ≡ map g ys
+same_seen f g [] [] d e same each = refl
+same_seen f g [] (y ∷ ys) d e same each = absurd (omega (arith, same))
+same_seen f g (x ∷ xs) [] d e same each = absurd (omega (arith, same))
+same_seen f g (x ∷ xs) (y ∷ ys) d e same each =
+    ap (λ h. h ∷ map f xs) (each zero (omega arith))
+    ∙ ap (λ l. g y ∷ l) (same_seen f g xs ys d e (omega (arith, same)) (λ i lt. each (suc i) (omega (arith, lt))))
 
 -- a list with one thing at each place
 one_list : {S B : Type 0} (f : S → B) (xs : List S) (d : S) (b : B)
@@ -78,7 +97,7 @@ beyond_most [] position = omega arith
 beyond_most (pin ∷ pins) position = omega (arith, beyond_most pins position)
 
 -- pins that are further leave fewer entries
-beyond_less : (old new : List (Option Pin)) (most : ℕ) → length new ≡ length old
+pub beyond_less : (old new : List (Option Pin)) (most : ℕ) → length new ≡ length old
     → ((i : ℕ) → i < length old
     → pin_position (slice_index_or old i None) ≤ pin_position (slice_index_or new i None))
     → entries_beyond (map pin_position new) most ≤ entries_beyond (map pin_position old) most
@@ -96,13 +115,13 @@ beyond_less (x ∷ old) (y ∷ new) most same each =
 
 module _ (words : ℕ) (old new : DeskState) (is_old : IsDesk words old) (is_new : IsDesk words new)
     (alone : old.alone ≡ true) (comes : ComesOn old new) where
-  seen_same : new.seen ≡ old.seen
+  pub seen_same : new.seen ≡ old.seen
   seen_same = comes.learns.longer ∙ ap (λ l. old.seen ++ l) (comes.learns.all alone) ∙ append-nil old.seen
 
   shards_same : new.config.shards ≡ old.config.shards
   shards_same = ap (λ (c : Config). c.shards) comes.config
 
-  keeps : KeepsDesk old new
+  pub keeps : KeepsDesk old new
   keeps = record {
     board = comes.board;
     who = comes.who;
@@ -124,7 +143,7 @@ module _ (words : ℕ) (old new : DeskState) (is_old : IsDesk words old) (is_new
       let place = is_old.each alone i (omega (arith, lt, is_old.pins)) in
       omega (arith, is_old.pinned i (omega (arith, lt, is_old.pins)), place.left, place.within, ap length seen_same))
 
-  pin_within : (i : ℕ) → i < length old.pins → pinned_at old i ≤ length old.seen
+  pub pin_within : (i : ℕ) → i < length old.pins → pinned_at old i ≤ length old.seen
   pin_within i lt =
       let place = is_old.each alone i (omega (arith, lt, is_old.pins)) in
       omega (arith, is_old.pinned i (omega (arith, lt, is_old.pins)), place.left, place.within)
@@ -146,6 +165,17 @@ module _ (words : ℕ) (old new : DeskState) (is_old : IsDesk words old) (is_new
           (beyond_most (pins_of old) (length new.seen)),
     );
   }
+
+  -- the layouts that were pinned are those in which the shards stand
+  pub layouts_pinned : (position : ℕ) (versions : List Contents) → PinsAll old new position versions
+      → layouts_in versions ≡ layouts_of new
+  layouts_pinned position versions pins =
+      let number : length new.places ≡ old.config.shards = is_new.places (comes.alone ∙ alone) ∙ shards_same in
+      let some = first_of_some versions (omega (arith, pins.number, is_old.config.some_shards)) in
+      same_seen (λ (version : Contents). version.layout.parts) (λ (place : ShardPlace). place.1.parts) versions new.places
+      some no_place (pins.number ∙ sym number)
+      (λ i lt. ap (λ (l : Laid). l.parts)
+      ((pins.each i some (omega (arith, lt, number))).layout alone ∙ sym (comes.layouts alone i)))
 
   pub opens_all : {S : Type 0} (asks : S → Asked) (stands : S → Standing) (sources : List S)
       (position rows : ℕ) (asked : Ask) (room from to : ℕ)

@@ -12,6 +12,7 @@ use Rattle.std.proofs.lemmas.List.Elements.{filter-append}
 use Rattle.hamming_model.specs.History.{JournalEntry, rows_of, shard_rows}
 use Rattle.part_layout.specs.declared.config.Config.{Config}
 use Rattle.session_model.specs.State.{Query, is_open, has_tag, query_of, replaced, open_queries}
+use Rattle.session_model.specs.Told.{pinned_by}
 use Rattle.session_model.specs.Ledger.{column, readings_of, layout_at, rows_at}
 use Rattle.hit_source.specs.Sources.{Standing}
 use Rattle.open_queries.specs.Queries.{IsFree, IsUsed, IsSame, Changes, Removes}
@@ -163,6 +164,30 @@ pub read_more : (ledger : ℕ) (queries : List Query) (query : Query)
     ≡ column ledger (readings_of queries) + slice_index query.reads ledger
 read_more ledger [] query = omega arith
 read_more ledger (first ∷ queries) query = omega (arith, read_more ledger queries query)
+
+-- ---- what all queries pinned
+
+pinned_replaced_by : (tag : List ℕ) (query this first : Query) (queries : List Query) (here : Bool)
+    → cond here (Some first) (query_of tag queries) ≡ Some query → this.pinned ≡ query.pinned
+    → (query_of tag queries ≡ Some query → pinned_by (replaced tag this queries) ≡ pinned_by queries)
+    → pinned_by (cond here (this ∷ queries) (first ∷ replaced tag this queries)) ≡ pinned_by (first ∷ queries)
+pinned_replaced_by tag query this first queries true is same rest =
+    let found : first ≡ query = cc in
+    ap (λ l. l ∷ pinned_by queries) (same ∙ ap (λ (q : Query). q.pinned) (sym found))
+pinned_replaced_by tag query this first queries false is same rest = ap (λ l. first.pinned ∷ l) (rest is)
+
+pub pinned_replaced : (tag : List ℕ) (query this : Query) (queries : List Query)
+    → query_of tag queries ≡ Some query → this.pinned ≡ query.pinned
+    → pinned_by (replaced tag this queries) ≡ pinned_by queries
+pinned_replaced tag query this [] is same = let never : None ≡ Some query = is in cc
+pinned_replaced tag query this (first ∷ queries) is same =
+    pinned_replaced_by tag query this first queries (has_tag tag first) is same
+    (λ found. pinned_replaced tag query this queries found same)
+
+pub pinned_more : (queries : List Query) (query : Query)
+    → pinned_by (queries ++ query ∷ []) ≡ pinned_by queries ++ query.pinned ∷ []
+pinned_more [] query = refl
+pinned_more (first ∷ queries) query = ap (λ l. first.pinned ∷ l) (pinned_more queries query)
 
 -- ---- what holds of all queries
 

@@ -1,59 +1,30 @@
--- What one line makes of a session: the step that answers it, from one moment to the next.
-use Rattle.std.specs.Prelude.{◌≡◌, ℕ, ◌+◌, min, true, Option, Some, Result, Ok, Err, OnOk}
-use Rattle.std.specs.Prelude.{List, [], ◌∷◌, ◌++◌, if◌then◌else◌}
-use Rattle.std.specs.List.{AllByRecursion}
+-- What one line makes of a session: the step that answers it, with the requests counted.
+use Rattle.std.specs.Prelude.{◌≡◌, ℕ, ◌+◌, min, Bool, true, false, Option, Some, Result, Ok, Err}
+use Rattle.std.specs.Prelude.{List, [], ◌∷◌, if◌then◌else◌}
 use Rattle.std.specs.Io.KnownBytes.{Appends}
 use Rattle.byte_lines.specs.Cut.{TellsOf}
 use Rattle.byte_lines.specs.declared.cutter.Cut.{Cut}
 use Rattle.line_io.specs.declared.source.Failed.{Failed}
 use Rattle.hamming_model.specs.History.{JournalEntry}
 use Rattle.part_layout.specs.declared.config.Config.{Config}
-use Rattle.query_protocol.specs.Requests.{LineReading, LineRequest}
+use Rattle.query_protocol.specs.Requests.{LineReading, LineRequest, bad}
+use Rattle.query_protocol.specs.Replies.{LineReply}
+use Rattle.query_protocol.specs.Replies as reply
+use Rattle.query_protocol.specs.declared.bad.LineFault.{LineFault}
+use Rattle.query_protocol.specs.declared.bad.LineFault.TheVariants as line
 use Rattle.query_protocol.specs.Lines.{reading}
-use Rattle.query_protocol.specs.Replies.{text}
-use Rattle.session_model.specs.State.{State, open_queries}
-use Rattle.session_model.specs.Entries.{Exchange}
-use Rattle.session_model.specs.Step.{Step}
-use Rattle.session_model.specs.Upkeep.{vain_steps}
-use Rattle.session_model.specs.Run.{IsAlone}
-use Rattle.session_model.specs.Run.{commit_of, is_answered}
+use Rattle.session_model.specs.State.{State}
+use Rattle.session_model.specs.Commits.{is_answered}
 use Rattle.session_model.specs.Run.{asks_quit}
-use Rattle.open_queries.specs.Writing.{Writes}
 use Rattle.session_step.specs.declared.turn.Turn.{Turn}
 use Rattle.session_step.specs.declared.turn.Turn.TheVariants.{Goes, Quits}
-use Rattle.session_step.specs.Moments.{Moment, Point, ReadsTo, Spends, moment_of}
-use Rattle.session_step.specs.declared.open_session.Session.{Session}
-use Rattle.session_step.specs.Meaning.{Means, AllKeep, IsSettled}
-use Rattle.session_desk.specs.Desks.{DeskState}
-use Rattle.session_step.specs.KeptDesk.{KeepsDesk}
+use Rattle.session_step.specs.Moments.{Moment, Point}
+use Rattle.session_step.specs.Steps.{OneStep, Stands}
 
 -- one answered line more, if it is one: the count stays at the greatest number
 abbrev pub requests_with : LineReading → ℕ → ℕ
 requests_with asked requests =
     if is_answered asked then min (requests + 1) 18446744073709551615 else requests
-
--- one line was answered by one step of a session that is alone, which leads from one moment to the
--- next
-pub record OneStep {A : Type 0} (W : ℕ) (config : Config) (history : List JournalEntry) (s : State)
-    (line : List ℕ) (before after : Option (List ℕ)) (result : Result A Failed)
-    (old new : Moment W) : Type 0 where
-  pub exchange : Exchange
-  pub state : State
-  pub is_line : exchange.line ≡ line
-  pub step : (later : List JournalEntry)
-      → Step config ((history ++ commit_of s.who config exchange) ++ later) s exchange state
-  pub alone : IsAlone config s exchange
-  pub wrote : Writes before after result (text exchange.replies)
-  pub reads : ReadsTo old.ledgers.reads new.ledgers.reads s.queries state.queries
-  pub spent : Spends old.desk new.desk old.ledgers.upkeep new.ledgers.upkeep
-      (vain_steps config.shards exchange.replies exchange.seen)
-  pub settled :
-      AllByRecursion (IsSettled config (history ++ commit_of s.who config exchange)) state.queries
-  pub means : Means config new.desk (history ++ commit_of s.who config exchange) state
-  pub keeps : KeepsDesk old.desk new.desk
-  pub keep : OnOk result (AllKeep config (history ++ commit_of s.who config exchange) new.cursors
-      (open_queries state.queries))
-  pub position : new.position ≡ state.position
 
 -- and the requests were counted
 pub record OneLine {A : Type 0} (W : ℕ) (config : Config) (history : List JournalEntry) (s : State)
@@ -61,14 +32,6 @@ pub record OneLine {A : Type 0} (W : ℕ) (config : Config) (history : List Jour
     (old new : Moment W) : Type 0 where
   pub step : OneStep W config history s line before after result old new
   pub requests : new.requests ≡ requests_with (reading config line) old.requests
-
--- a moment means a state, in the history so far
-pub record Stands {W : ℕ} (config : Config) (now : Moment W) (history : List JournalEntry)
-    (s : State) : Type 0 where
-  pub means : Means config now.desk history s
-  pub settled : AllByRecursion (IsSettled config history) s.queries
-  pub keep : AllKeep config history now.cursors (open_queries s.queries)
-  pub position : now.position ≡ s.position
 
 -- an answered line ends the session without a reply, or is one step of it
 abbrev pub TurnIs : Result Turn Failed → (W : ℕ) → Config → List JournalEntry → State → List ℕ
@@ -100,6 +63,12 @@ abbrev pub turn_after : Result (Unit {0}) Failed → Result Turn Failed
 turn_after (Ok unit) = Ok Goes
 turn_after (Err failed) = Err failed
 
+-- the reply to a fault of a line, where a build goes on or none does
+abbrev pub fault_reply : LineFault → Bool → LineReply
+fault_reply (line.Bad fault) has_build = reply.Bad fault
+fault_reply line.NoMemory true = reply.Bad (bad 10)
+fault_reply line.NoMemory false = reply.NoMemory
+
 -- the line of a cut is answered so between two points of a session
 abbrev pub AnswersCut : {W : ℕ} → Cut → Result Turn Failed → Config → Point W → Point W → Type 0
 AnswersCut cut result config old new =
@@ -111,10 +80,3 @@ abbrev pub AnswersBetween : {A : Type 0} {W : ℕ} → LineRequest → Result A 
     → Point W → Point W → Type 0
 AnswersBetween asked result config old new =
     AnswersRequest asked result config old.written new.written old.moment new.moment
-
--- a request is answered so that reads no posting and has no shard follow an entry
-abbrev pub AnswersUncounted : {A : Type 0} {W : ℕ} → LineRequest → Result A Failed → Config
-    → DeskState → DeskState → Session W → Session W → Option (List ℕ) → Option (List ℕ) → Type 0
-AnswersUncounted asked result config desk desk' session session' before after =
-    (reads : List ℕ) (upkeep : ℕ) → AnswersRequest asked result config before after
-    (moment_of desk session reads upkeep) (moment_of desk' session' reads upkeep)

@@ -10,7 +10,7 @@ layouts_of desk = map (λ place. place.1.parts) desk.places
 abbrev pub pins_of : DeskState → List ℕ
 pins_of desk = map pin_position desk.pins
 
--- what a session that builds nothing leaves of a desk as it was
+-- what a line that puts no build in place leaves of a desk as it was
 pub record KeepsDesk (old new : DeskState) : Type 0 where
   pub board : new.board ≡ old.board
   pub who : new.who ≡ old.who
@@ -20,3 +20,13 @@ pub record KeepsDesk (old new : DeskState) : Type 0 where
   pub late : new.late ≡ old.late
   pub alone : new.alone ≡ old.alone
   pub layouts : layouts_of new ≡ layouts_of old
+
+-- what a session leaves as it was of a desk that is alone: all but what it has seen, how far the
+-- shards came and in which layouts they stand, and how many builds were put in place
+pub record LeavesDesk (old new : DeskState) : Type 0 where
+  pub board : new.board ≡ old.board
+  pub who : new.who ≡ old.who
+  pub config : new.config ≡ old.config
+  pub fronts : new.fronts ≡ old.fronts
+  pub late : new.late ≡ old.late
+  pub alone : new.alone ≡ old.alone

@@ -1,5 +1,5 @@
 -- How a desk and the cursors mean a state.
-use Rattle.std.specs.Prelude.{◌≡◌, ℕ, ◌<◌, ◌≤◌, true, false, None, List, [], ◌∷◌, length}
+use Rattle.std.specs.Prelude.{◌≡◌, ℕ, ◌<◌, ◌≤◌, true, false, List, [], ◌∷◌, length}
 use Rattle.std.specs.Prelude.{slice_index_or, take, Option, IfSome}
 use Rattle.std.specs.List.{AllByRecursion}
 use Rattle.hamming_model.specs.declared.limits.TheConstants.{ENTRIES_MOST, WORDS_MOST}
@@ -72,7 +72,6 @@ pub record Means (config : Config) (desk : DeskState) (history : List JournalEnt
   pub who : s.who ≡ desk.who
   pub layouts : s.layouts ≡ layouts_of desk
   pub are_layouts : AreLayouts config s.layouts
-  pub no_build : s.build ≡ None
 
 -- what a session was asked to be fits its words
 pub record IsReady (W : ℕ) (config : Config) : Type 0 where
@@ -89,3 +88,11 @@ HaveShards {W} shards cursors =
 abbrev pub IsAnswered : {W : ℕ} → Request W → Type 0
 IsAnswered request.Quit = ⊥
 IsAnswered other = Unit {0}
+
+-- a request that has an answer and isn't on builds
+abbrev pub IsPlain : {W : ℕ} → Request W → Type 0
+IsPlain request.Quit = ⊥
+IsPlain (request.Repart shard layout) = ⊥
+IsPlain (request.Build n) = ⊥
+IsPlain request.Swap = ⊥
+IsPlain other = Unit {0}

@@ -14,16 +14,17 @@ use Rattle.scatter_gather.specs.Gathering.{Gathered}
 use Rattle.open_queries.specs.Kept.{IsUntouched}
 use Rattle.session_step.specs.Questions.{asked_code, limit_in, wanted_in}
 use Rattle.session_step.specs.Cursors.{ShardSource, asks, stands}
-use Rattle.session_step.specs.KeptDesk.{KeepsDesk, pins_of}
+use Rattle.session_step.specs.KeptDesk.{KeepsDesk, layouts_of, pins_of}
+use Rattle.session_step.specs.Pinned.{PinsMore}
 use Rattle.session_step.specs.Moments.{Moment}
+use Rattle.session_step.specs.Samples.{SamplesJoined}
 use Rattle.query_protocol.specs.Requests.{bad}
 use Rattle.query_protocol.specs.Replies.{LineReply}
 use Rattle.query_protocol.specs.Replies as reply
 use Rattle.open_queries.specs.Queries.{IsFree, IsUsed, opened_query}
-use Rattle.session_model.specs.QuerySteps.{most_open}
+use Rattle.session_model.specs.Openings.{most_open}
 
--- a source stands on the version of a shard at the length of the history, in the layout of the
--- place
+-- a source stands on a shard's version at the length of the history, in the layout of the place
 pub record OpensShard (desk : DeskState) (shard : ℕ) (asked : Ask) (room : ℕ) (a : Asked)
     (s : Standing) : Type 0 where
   pub version : Contents
@@ -93,6 +94,8 @@ pub record HadNone {W : ℕ} (old new : Moment W) (tag : List ℕ) (this : LineR
   pub judged : IsJudged old tag false
   pub opens : OpensNone old.desk new.desk old.ledgers.upkeep new.ledgers.upkeep
   pub cursors : new.cursors ≡ old.cursors
+  pub pinned : new.pinned ≡ old.pinned
+  pub samples : new.samples ≡ old.samples
   pub reads : new.ledgers.reads ≡ old.ledgers.reads
   pub position : new.position ≡ old.position
   pub told : this ≡ reply.NoMemory
@@ -105,6 +108,8 @@ pub record WasOpened {W : ℕ} (old new : Moment W) (tag : List ℕ) (asked : As
   pub opened : OpensGathered old.desk new.desk gather new.position asked room old.ledgers.upkeep
       new.ledgers.upkeep
   pub cursors : new.cursors ≡ old.cursors ++ opened_query tag gather ∷ []
+  pub pinned : PinsMore old.pinned new.pinned (layouts_of new.desk)
+  pub samples : SamplesJoined old.desk.config.bits asked old.samples new.samples
   pub reads : new.ledgers.reads ≡ old.ledgers.reads
   pub told : this ≡ reply.Open tag new.position
 

@@ -8,7 +8,8 @@ ghost use Rattle.open_queries.specs.Writing.{IsCaused};
 ghost use Rattle.open_queries.specs.Queries.{HaveShard};
 ghost use Rattle.session_step.specs.Meaning.{IsReady, HaveShards};
 ghost use Rattle.session_desk.specs.Desks.{DeskState};
-ghost use Rattle.session_step.specs.Answering.{AnswersBetween, AnswersRequest, AnswersUncounted};
+ghost use Rattle.session_step.specs.KeptBuild.{KeepsBuilds};
+ghost use Rattle.session_step.specs.PlainSteps.{AnswersPlainly, AnswersPlainlyBetween, AnswersUncounted};
 ghost use Rattle.session_step.specs.Moments.{moment_of, point_of};
 
 use crate::open_session::Session;
@@ -36,11 +37,13 @@ pub(crate) fn next<const W: usize, K: Sink, R: Threads + Sync, G: Gate, L: Send>
     requires ready { IsReady W config.now }
     requires sync { IsSync R.row }
     requires shards { HaveShards config.now.shards session.old.queries }
-    ensures answers { (desk : DeskState) (upkeep : ℕ) → desk.alone ≡ true → AnswersBetween
+    ensures answers { (desk : DeskState) (upkeep : ℕ) → desk.alone ≡ true → AnswersPlainlyBetween
         (Next tag.now n) result config.now (point_of desk session.old meters.old upkeep
         (K.held sink.old)) (point_of desk session.new meters.new upkeep (K.held sink.new)) }
     ensures cutter { session.new.cutter ≡ session.old.cutter }
+    ensures samples { session.new.samples ≡ session.old.samples }
     ensures requests { session.new.requests ≡ session.old.requests }
+    ensures build { session.new.build ≡ session.old.build }
     ensures shards { HaveShards config.now.shards session.new.queries }
     ensures cause { IsCaused (K.faults sink.old) (K.faults sink.new) result }
 {
@@ -63,10 +66,12 @@ pub(crate) fn cost<const W: usize, K: Sink>(
     requires ready { IsReady W config.now }
     requires shards { HaveShards config.now.shards session.old.queries }
     ensures answers { (desk : DeskState) (reads : List ℕ) (upkeep : ℕ) → desk.alone ≡ true →
-        AnswersRequest (Cost tag.now) result config.now (K.held sink.old) (K.held sink.new)
+        AnswersPlainly (Cost tag.now) result config.now (K.held sink.old) (K.held sink.new)
         (moment_of desk session.old reads upkeep) (moment_of desk session.new reads upkeep) }
     ensures cutter { session.new.cutter ≡ session.old.cutter }
+    ensures samples { session.new.samples ≡ session.old.samples }
     ensures requests { session.new.requests ≡ session.old.requests }
+    ensures build { session.new.build ≡ session.old.build }
     ensures shards { HaveShards config.now.shards session.new.queries }
     ensures cause { IsCaused (K.faults sink.old) (K.faults sink.new) result }
 {
@@ -86,10 +91,12 @@ pub(crate) fn plan<const W: usize, K: Sink>(
     requires shard { shard < config.now.shards }
     requires shards { HaveShards config.now.shards session.old.queries }
     ensures answers { (desk : DeskState) (reads : List ℕ) (upkeep : ℕ) → desk.alone ≡ true →
-        AnswersRequest (Plan tag.now shard) result config.now (K.held sink.old) (K.held sink.new)
+        AnswersPlainly (Plan tag.now shard) result config.now (K.held sink.old) (K.held sink.new)
         (moment_of desk session.old reads upkeep) (moment_of desk session.new reads upkeep) }
     ensures cutter { session.new.cutter ≡ session.old.cutter }
+    ensures samples { session.new.samples ≡ session.old.samples }
     ensures requests { session.new.requests ≡ session.old.requests }
+    ensures build { session.new.build ≡ session.old.build }
     ensures shards { HaveShards config.now.shards session.new.queries }
     ensures cause { IsCaused (K.faults sink.old) (K.faults sink.new) result }
 {
@@ -120,10 +127,12 @@ pub(crate) fn cancel<const W: usize, K: Sink>(
     requires ready { IsReady W config.now }
     requires shards { HaveShards config.now.shards session.old.queries }
     ensures answers { (desk : DeskState) (reads : List ℕ) (upkeep : ℕ) → desk.alone ≡ true →
-        AnswersRequest (Cancel tag.now) result config.now (K.held sink.old) (K.held sink.new)
+        AnswersPlainly (Cancel tag.now) result config.now (K.held sink.old) (K.held sink.new)
         (moment_of desk session.old reads upkeep) (moment_of desk session.new reads upkeep) }
     ensures cutter { session.new.cutter ≡ session.old.cutter }
+    ensures samples { session.new.samples ≡ session.old.samples }
     ensures requests { session.new.requests ≡ session.old.requests }
+    ensures build { session.new.build ≡ session.old.build }
     ensures shards { HaveShards config.now.shards session.new.queries }
     ensures cause { IsCaused (K.faults sink.old) (K.faults sink.new) result }
 {
@@ -145,10 +154,13 @@ pub(crate) fn layout<const W: usize, D: Desk<W>, K: Sink>(
     ensures answers { AnswersUncounted (Layout shard) result config.now (D.desk desk.old)
         (D.desk desk.new) session.old session.new (K.held sink.old) (K.held sink.new) }
     ensures cutter { session.new.cutter ≡ session.old.cutter }
+    ensures samples { session.new.samples ≡ session.old.samples }
     ensures requests { session.new.requests ≡ session.old.requests }
+    ensures build { session.new.build ≡ session.old.build }
     ensures queries { session.new.queries ≡ session.old.queries }
     ensures alone { (D.desk desk.new).alone ≡ true }
     ensures config { (D.desk desk.new).config ≡ config.now }
+    ensures builds { KeepsBuilds (D.desk desk.old) (D.desk desk.new) }
     ensures cause { IsCaused (K.faults sink.old) (K.faults sink.new) result }
 {
     let text = desk.layout_of(shard);

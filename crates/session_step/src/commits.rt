@@ -12,7 +12,9 @@ ghost use Rattle.session_model.specs.Entries.{code_reply};
 ghost use Rattle.std.specs.Option.{option_map};
 ghost use Rattle.open_queries.specs.Writing.{IsCaused};
 ghost use Rattle.session_step.specs.Commits.{CommitsAs, decided_reply};
-ghost use Rattle.session_step.specs.Answering.{AnswersUncounted};
+ghost use Rattle.session_step.specs.KeptBuild.{KeepsBuilds};
+ghost use Rattle.session_step.specs.Pinned.{pinned_in};
+ghost use Rattle.session_step.specs.PlainSteps.{AnswersUncounted};
 
 use crate::open_session::Session;
 use byte_lines::LineBuf;
@@ -42,10 +44,13 @@ pub(crate) fn add<const W: usize, D: Desk<W>, K: Sink>(
         (D.desk desk.old) (D.desk desk.new) session.old session.new
         (K.held sink.old) (K.held sink.new) }
     ensures cutter { session.new.cutter ≡ session.old.cutter }
+    ensures samples { session.new.samples ≡ session.old.samples }
     ensures requests { session.new.requests ≡ session.old.requests }
+    ensures build { session.new.build ≡ session.old.build }
     ensures queries { session.new.queries ≡ session.old.queries }
     ensures alone { (D.desk desk.new).alone ≡ true }
     ensures config { (D.desk desk.new).config ≡ config.now }
+    ensures builds { KeepsBuilds (D.desk desk.old) (D.desk desk.new) }
     ensures cause { IsCaused (K.faults sink.old) (K.faults sink.new) result }
 {
     let reply = commit(session, desk, key, Op::Add { key, code });
@@ -67,10 +72,13 @@ pub(crate) fn delete<const W: usize, D: Desk<W>, K: Sink>(
         (D.desk desk.old) (D.desk desk.new) session.old session.new
         (K.held sink.old) (K.held sink.new) }
     ensures cutter { session.new.cutter ≡ session.old.cutter }
+    ensures samples { session.new.samples ≡ session.old.samples }
     ensures requests { session.new.requests ≡ session.old.requests }
+    ensures build { session.new.build ≡ session.old.build }
     ensures queries { session.new.queries ≡ session.old.queries }
     ensures alone { (D.desk desk.new).alone ≡ true }
     ensures config { (D.desk desk.new).config ≡ config.now }
+    ensures builds { KeepsBuilds (D.desk desk.old) (D.desk desk.new) }
     ensures cause { IsCaused (K.faults sink.old) (K.faults sink.new) result }
 {
     let reply = commit(session, desk, key, Op::Delete { key });
@@ -93,10 +101,13 @@ pub(crate) fn get<const W: usize, D: Desk<W>, K: Sink>(
         (D.desk desk.old) (D.desk desk.new) session.old session.new
         (K.held sink.old) (K.held sink.new) }
     ensures cutter { session.new.cutter ≡ session.old.cutter }
+    ensures samples { session.new.samples ≡ session.old.samples }
     ensures requests { session.new.requests ≡ session.old.requests }
+    ensures build { session.new.build ≡ session.old.build }
     ensures queries { session.new.queries ≡ session.old.queries }
     ensures alone { (D.desk desk.new).alone ≡ true }
     ensures config { (D.desk desk.new).config ≡ config.now }
+    ensures builds { KeepsBuilds (D.desk desk.old) (D.desk desk.new) }
     ensures cause { IsCaused (K.faults sink.old) (K.faults sink.new) result }
 {
     let (code, at) = desk.code_of(key);
@@ -136,9 +147,12 @@ fn commit<const W: usize, D: Desk<W>>(
     requires stored { IsStoredOperation W (D.desk desk.old).config.bits (kept_operation op) }
     ensures commits { CommitsAs (D.desk desk.old) (D.desk desk.new) session.old.position
         session.new.position key (kept_operation op.entry) (line_of result) }
+    ensures pinned { pinned_in session.new.pinned ≡ pinned_in session.old.pinned }
     ensures queries { session.new.queries ≡ session.old.queries }
     ensures cutter { session.new.cutter ≡ session.old.cutter }
+    ensures samples { session.new.samples ≡ session.old.samples }
     ensures requests { session.new.requests ≡ session.old.requests }
+    ensures build { session.new.build ≡ session.old.build }
 {
     match desk.commit(op) {
         Ok(decided) => {

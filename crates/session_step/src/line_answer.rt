@@ -5,10 +5,14 @@ ghost use Rattle.std.specs.Thread.{IsSync};
 ghost use Rattle.byte_lines.specs.Cut.{TellsOf};
 ghost use Rattle.gph_codes.specs.Allowed.{IsAllowed};
 ghost use Rattle.query_protocol.specs.Lines.{reading};
-ghost use Rattle.query_protocol.specs.Stored.{unstored, IsFit, IsFitReading, NamesShard, ReadsAs};
+ghost use Rattle.query_protocol.specs.Stored.{unstored, IsFit, IsFitReading, NamesOneOf, NamesShard, ReadsLine};
+ghost use Rattle.query_protocol.specs.Replies.{line_of};
+ghost use Rattle.layout_search.specs.Improves.{AreSamples};
 ghost use Rattle.open_queries.specs.Writing.{IsCaused};
-ghost use Rattle.session_step.specs.Meaning.{IsReady, HaveShards, IsAnswered};
-ghost use Rattle.session_step.specs.Answering.{AnswersBetween, AnswersCut, turn_after};
+ghost use Rattle.session_step.specs.KeptBuild.{IsBuildOfDesk, KeepsBuilds};
+ghost use Rattle.session_step.specs.Meaning.{IsReady, HaveShards, IsAnswered, IsPlain};
+ghost use Rattle.session_step.specs.PlainSteps.{AnswersPlainlyBetween};
+ghost use Rattle.session_step.specs.Answering.{AnswersBetween, AnswersCut, fault_reply, turn_after};
 ghost use Rattle.session_step.specs.Moments.{point_of};
 
 use crate::asking::{cancel, cost, layout, next, plan};
@@ -16,12 +20,14 @@ use crate::commits::{add, delete, get};
 use crate::open_session::Session;
 use crate::opening::begin_query;
 use crate::question::Question;
+use crate::rebuilding::{place, start, swap};
+use crate::searching::search;
 use crate::turn::Turn;
 use byte_lines::{Cut, Cutter};
 use line_io::{Failed, Sink};
 use open_queries::say;
 use part_layout::Config;
-use query_protocol::{Bad, Reply, Request, read_line};
+use query_protocol::{Bad, LineFault, Reply, Request, read_line};
 use read_meter::{Meters, Steps};
 use scatter_gather::Gate;
 use session_desk::Desk;
@@ -46,6 +52,8 @@ pub fn answer<const W: usize, D: Desk<W>, K: Sink, R: Threads + Sync, G: Gate, L
     requires alone { (D.desk desk.old).alone ≡ true }
     requires config { (D.desk desk.old).config ≡ config.now }
     requires shards { HaveShards config.now.shards session.old.queries }
+    requires samples { AreSamples config.now.bits session.old.samples }
+    requires build { IsBuildOfDesk (D.desk desk.old) session.old.build }
     ensures answers { AnswersCut cut result config.now
         (point_of (D.desk desk.old) session.old meters.old upkeep.old (K.held sink.old))
         (point_of (D.desk desk.new) session.new meters.new upkeep.new (K.held sink.new)) }
@@ -53,9 +61,11 @@ pub fn answer<const W: usize, D: Desk<W>, K: Sink, R: Threads + Sync, G: Gate, L
     ensures alone { (D.desk desk.new).alone ≡ true }
     ensures config { (D.desk desk.new).config ≡ config.now }
     ensures shards { HaveShards config.now.shards session.new.queries }
+    ensures samples { AreSamples config.now.bits session.new.samples }
+    ensures build { IsBuildOfDesk (D.desk desk.new) session.new.build }
     ensures cause { IsCaused (K.faults sink.old) (K.faults sink.new) result }
 {
-    match read_cut(config, &session.cutter, cut) {
+    match read_cut(alloc, config, &session.cutter, cut) {
         Ok(None) => Ok(Turn::Goes),
         Ok(Some(Request::Quit)) => Ok(Turn::Quits),
         Ok(Some(request)) => {
@@ -66,7 +76,8 @@ pub fn answer<const W: usize, D: Desk<W>, K: Sink, R: Threads + Sync, G: Gate, L
             goes_on(answered)
         }
         Err(fault) => {
-            let answered = say(&mut session.out, sink, &Reply::Bad(fault));
+            let reply = reply_to_fault(fault, session.build.is_some());
+            let answered = say(&mut session.out, sink, &reply);
             session.requests = session.requests.saturating_add(1);
             goes_on(answered)
         }
@@ -101,8 +112,10 @@ fn meet<const W: usize, D: Desk<W>, K: Sink, R: Threads + Sync, G: Gate, L: Send
     requires alone { (D.desk desk.old).alone ≡ true }
     requires config { (D.desk desk.old).config ≡ config.now }
     requires shards { HaveShards config.now.shards session.old.queries }
+    requires samples { AreSamples config.now.bits session.old.samples }
+    requires build { IsBuildOfDesk (D.desk desk.old) session.old.build }
     requires fit { IsFit W config.now.bits request }
-    requires shard { NamesShard config.now.shards (Ok (Some request)) }
+    requires shard { NamesOneOf config.now.shards request }
     requires goes { IsAnswered request }
     ensures answers { AnswersBetween (unstored config.now.bits request.entry) result config.now
         (point_of (D.desk desk.old) session.old meters.old upkeep.old (K.held sink.old))
@@ -112,6 +125,57 @@ fn meet<const W: usize, D: Desk<W>, K: Sink, R: Threads + Sync, G: Gate, L: Send
     ensures alone { (D.desk desk.new).alone ≡ true }
     ensures config { (D.desk desk.new).config ≡ config.now }
     ensures shards { HaveShards config.now.shards session.new.queries }
+    ensures samples { AreSamples config.now.bits session.new.samples }
+    ensures build { IsBuildOfDesk (D.desk desk.new) session.new.build }
+    ensures cause { IsCaused (K.faults sink.old) (K.faults sink.new) result }
+{
+    match request {
+        Request::Repart { shard, layout } => start(
+            alloc, config, session, desk, shard, layout, sink, upkeep,
+        ),
+        Request::Build { n } => place(config, session, n, sink, upkeep),
+        Request::Swap => swap(alloc, config, session, desk, sink, upkeep),
+        request => meet_plainly(
+            rt, alloc, config, session, desk, request, sink, gate, upkeep, meters,
+        ),
+    }
+}
+
+// Meets a request that isn't on builds.
+fn meet_plainly<const W: usize, D: Desk<W>, K: Sink, R: Threads + Sync, G: Gate, L: Send, M>(
+    rt: &R,
+    alloc: Global,
+    config: &Config,
+    session: &mut Session<W>,
+    desk: &mut D,
+    request: Request<W>,
+    sink: &mut K,
+    gate: &G,
+    upkeep: &mut Steps<M>,
+    meters: &mut Meters<L>,
+) -> Result<(), Failed>
+    requires sync { IsSync R.row }
+    requires ready { IsReady W config.now }
+    requires alone { (D.desk desk.old).alone ≡ true }
+    requires config { (D.desk desk.old).config ≡ config.now }
+    requires shards { HaveShards config.now.shards session.old.queries }
+    requires samples { AreSamples config.now.bits session.old.samples }
+    requires fit { IsFit W config.now.bits request }
+    requires shard { NamesOneOf config.now.shards request }
+    requires plain { IsPlain request }
+    ensures answers { AnswersPlainlyBetween (unstored config.now.bits request.entry) result
+        config.now
+        (point_of (D.desk desk.old) session.old meters.old upkeep.old (K.held sink.old))
+        (point_of (D.desk desk.new) session.new meters.new upkeep.new (K.held sink.new)) }
+    ensures cutter { session.new.cutter ≡ session.old.cutter }
+    ensures requests { session.new.requests ≡ session.old.requests }
+    ensures alone { (D.desk desk.new).alone ≡ true }
+    ensures config { (D.desk desk.new).config ≡ config.now }
+    ensures shards { HaveShards config.now.shards session.new.queries }
+    ensures samples { AreSamples config.now.bits session.new.samples }
+    ensures build { session.new.build ≡ session.old.build }
+    ensures builds { KeepsBuilds (D.desk desk.old) (D.desk desk.new) }
+    ensures plain { IsPlain request.entry }
     ensures cause { IsCaused (K.faults sink.old) (K.faults sink.new) result }
 {
     match request {
@@ -135,25 +199,46 @@ fn meet<const W: usize, D: Desk<W>, K: Sink, R: Threads + Sync, G: Gate, L: Send
         Request::Plan { tag, shard } => plan(config, session, &tag, shard, sink),
         Request::Cancel { tag } => cancel(config, session, &tag, sink),
         Request::Layout { shard } => layout(config, session, desk, shard, sink),
-        // The caller ends the session.
+        Request::Search { shard, rounds } => search(
+            alloc, config, session, desk, shard, rounds, sink, upkeep,
+        ),
+        // The caller meets those on builds, and ends the session.
+        Request::Repart {
+            shard: _,
+            layout: _,
+        } => unreachable!(),
+        Request::Build { n: _ } => unreachable!(),
+        Request::Swap => unreachable!(),
         Request::Quit => unreachable!(),
+    }
+}
+
+// The reply to a fault of a line. Where there was no memory for the layout of a build, another one may go on.
+fn reply_to_fault(fault: LineFault, has_build: bool) -> Reply
+    ensures { line_of result ≡ fault_reply fault has_build }
+{
+    match fault {
+        LineFault::Bad(fault) => Reply::Bad(fault),
+        LineFault::NoMemory if has_build => Reply::Bad(Bad::other_build()),
+        LineFault::NoMemory => Reply::NoMemory,
     }
 }
 
 // What the line that was cut last asks.
 fn read_cut<const W: usize>(
+    alloc: Global,
     config: &Config,
     cutter: &Cutter,
     cut: Cut,
-) -> Result<Option<Request<W>>, Bad>
+) -> Result<Option<Request<W>>, LineFault>
     requires ready { IsReady W config.now }
     ensures reads { (line : List ℕ) → TellsOf (Some cut) cutter.now.line (line ∷ []) →
-        ReadsAs W config.now.bits result (reading config.now line) }
+        ReadsLine W config.now.bits result (reading config.now line) }
     ensures fit { IsFitReading W config.now.bits result }
     ensures shard { NamesShard config.now.shards result }
 {
     match cut {
-        Cut::Line => read_line(config, cutter.line()),
-        Cut::Long => Err(Bad::line_too_long()),
+        Cut::Line => read_line(alloc, config, cutter.line()),
+        Cut::Long => Err(LineFault::Bad(Bad::line_too_long())),
     }
 }

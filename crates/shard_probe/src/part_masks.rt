@@ -23,13 +23,9 @@ pub(crate) fn masks_of<const W: usize>(
 {
     let layout = version.layout();
     let parts = layout.parts();
-    let Ok(mut masks) = Vec::with_capacity(alloc, parts as usize) else {
-        return Err(NoMemory);
-    };
+    let mut masks = Vec::with_capacity(alloc, parts as usize)?;
     for part in 0..parts {
-        let Ok(()) = masks.push(mask_of(layout, part)) else {
-            return Err(NoMemory);
-        };
+        masks.push(mask_of(layout, part))?;
     }
     Ok(masks)
 }

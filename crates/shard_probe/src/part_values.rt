@@ -25,13 +25,9 @@ pub(crate) fn values_of<const W: usize>(
 {
     let layout = version.layout();
     let parts = layout.parts();
-    let Ok(mut values) = Vec::with_capacity(alloc, parts as usize) else {
-        return Err(NoMemory);
-    };
+    let mut values = Vec::with_capacity(alloc, parts as usize)?;
     for part in 0..parts {
-        let Ok(()) = values.push(layout.value(code, part)) else {
-            return Err(NoMemory);
-        };
+        values.push(layout.value(code, part))?;
     }
     Ok(values)
 }

@@ -42,9 +42,7 @@ impl RadiusCounts {
         counts_of_rows_are_lawful();
         let parts = probe.parts();
         let width = tau as usize + 2;
-        let Ok(mut counts) = vec![in alloc; 0u32; parts * width] else {
-            return Err(NoMemory);
-        };
+        let mut counts = vec![in alloc; 0u32; parts * width]?;
         for part in 0..parts {
             let from = part * width;
             probe.levels(part, &mut counts[from..from + width]);

@@ -45,16 +45,10 @@ impl<const W: usize> KeyedRows<W> {
     pub(crate) fn new(alloc: Global) -> Result<KeyedRows<W>, NoMemory>
         ensures { IfOk result (λ rows. rows ≡ []) }
     {
-        let Ok(mut buckets) = Vec::with_capacity(alloc, ROW_BUCKETS) else {
-            return Err(NoMemory);
-        };
+        let mut buckets = Vec::with_capacity(alloc, ROW_BUCKETS)?;
         for _i in 0..ROW_BUCKETS {
-            let Ok(bucket) = Arc::new(alloc, RowBucket::new(alloc)) else {
-                return Err(NoMemory);
-            };
-            let Ok(()) = buckets.push(bucket) else {
-                return Err(NoMemory);
-            };
+            let bucket = Arc::new(alloc, RowBucket::new(alloc))?;
+            buckets.push(bucket)?;
         }
         Ok(KeyedRows {
             alloc,
@@ -67,16 +61,10 @@ impl<const W: usize> KeyedRows<W> {
     pub(crate) fn copy(&self) -> Result<KeyedRows<W>, NoMemory>
         ensures { IfOk result (λ copy. copy ≡ self.now) }
     {
-        let Ok(mut copies) = Vec::with_capacity(self.alloc, self.buckets.len()) else {
-            return Err(NoMemory);
-        };
+        let mut copies = Vec::with_capacity(self.alloc, self.buckets.len())?;
         for bucket in &self.buckets {
-            let Ok(shared) = bucket.clone() else {
-                return Err(NoMemory);
-            };
-            let Ok(()) = copies.push(shared) else {
-                return Err(NoMemory);
-            };
+            let shared = bucket.clone()?;
+            copies.push(shared)?;
         }
         Ok(KeyedRows {
             alloc: self.alloc,
@@ -106,9 +94,7 @@ impl<const W: usize> KeyedRows<W> {
         requires room { length self.old < ENTRIES_MOST }
         ensures added { OnOk result (self.new ≡ insert_entry nat_cmp self.old key code.entry) }
     {
-        let Ok(()) = insert_in(&mut self.buckets[key as usize % ROW_BUCKETS], key, code) else {
-            return Err(NoMemory);
-        };
+        insert_in(&mut self.buckets[key as usize % ROW_BUCKETS], key, code)?;
         self.number += 1;
         Ok(())
     }
@@ -119,9 +105,7 @@ impl<const W: usize> KeyedRows<W> {
         ensures code { IfOk result (λ code. code_at self.old key ≡ Some code) }
         ensures removed { OnOk result (self.new ≡ remove_entry (is_at (nat_cmp key)) self.old) }
     {
-        let Ok(code) = remove_from(&mut self.buckets[key as usize % ROW_BUCKETS], key) else {
-            return Err(NoMemory);
-        };
+        let code = remove_from(&mut self.buckets[key as usize % ROW_BUCKETS], key)?;
         self.number -= 1;
         Ok(code)
     }
@@ -137,9 +121,7 @@ impl<const W: usize> KeyedRows<W> {
         ensures unread { OnErr result (steps.new ≡ steps.old) }
     {
         let number = self.number.min(n as usize);
-        let Ok(mut first) = Vec::with_capacity(self.alloc, number) else {
-            return Err(NoMemory);
-        };
+        let mut first = Vec::with_capacity(self.alloc, number)?;
         let mut heads = no_heads(self.alloc)?;
         for _i in 0..number {
             let next = least_head(&self.buckets, &heads);
@@ -157,13 +139,9 @@ impl<const W: usize> KeyedRows<W> {
 fn no_heads(alloc: Global) -> Result<Vec<usize>, NoMemory>
     ensures { IfOk result (λ heads. AreNone heads.items) }
 {
-    let Ok(mut heads) = Vec::with_capacity(alloc, ROW_BUCKETS) else {
-        return Err(NoMemory);
-    };
+    let mut heads = Vec::with_capacity(alloc, ROW_BUCKETS)?;
     for _i in 0..ROW_BUCKETS {
-        let Ok(()) = heads.push(0) else {
-            return Err(NoMemory);
-        };
+        heads.push(0)?;
     }
     Ok(heads)
 }
@@ -195,9 +173,7 @@ fn insert_in<const W: usize>(
         ≡ insert_entry nat_cmp (arc_value bucket.old) key code.entry) }
     ensures unchanged { OnErr result (arc_value bucket.new ≡ arc_value bucket.old) }
 {
-    let Ok(own) = Arc::make_mut(bucket) else {
-        return Err(NoMemory);
-    };
+    let own = Arc::make_mut(bucket)?;
     own.insert(key, code)
 }
 
@@ -213,8 +189,6 @@ fn remove_from<const W: usize>(
         ≡ remove_entry (is_at (nat_cmp key)) (arc_value bucket.old)) }
     ensures unchanged { OnErr result (arc_value bucket.new ≡ arc_value bucket.old) }
 {
-    let Ok(own) = Arc::make_mut(bucket) else {
-        return Err(NoMemory);
-    };
+    let own = Arc::make_mut(bucket)?;
     Ok(own.remove(key))
 }

@@ -45,9 +45,7 @@ impl<const W: usize> RowBucket<W> {
     fn copy(&self) -> Result<RowBucket<W>, NoMemory>
         ensures { IfOk result (λ copy. copy ≡ self.now) }
     {
-        let Ok(rows) = Vec::from_slice(self.alloc, self.rows.as_slice()) else {
-            return Err(NoMemory);
-        };
+        let rows = Vec::from_slice(self.alloc, self.rows.as_slice())?;
         Ok(RowBucket {
             alloc: self.alloc,
             rows,
@@ -91,9 +89,7 @@ impl<const W: usize> RowBucket<W> {
         ensures unchanged { OnErr result (self.new ≡ self.old) }
     {
         let place = place_of(&self.rows, key);
-        let Ok(()) = self.rows.insert(place, (key, code)) else {
-            return Err(NoMemory);
-        };
+        self.rows.insert(place, (key, code))?;
         Ok(())
     }
 

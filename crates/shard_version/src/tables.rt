@@ -22,9 +22,7 @@ pub fn empty_tables<const W: usize>(
     let mut tables = Vec::new(alloc);
     for part in 0..parts {
         let table = PartTable::empty(alloc, layout.width(part))?;
-        let Ok(()) = tables.push(table) else {
-            return Err(NoMemory);
-        };
+        tables.push(table)?;
     }
     Ok(tables)
 }
@@ -39,9 +37,7 @@ pub fn copies<const W: usize>(
     let mut copies = Vec::new(alloc);
     for table in tables {
         let copied = table.copy()?;
-        let Ok(()) = copies.push(copied) else {
-            return Err(NoMemory);
-        };
+        copies.push(copied)?;
     }
     Ok(copies)
 }

@@ -99,9 +99,7 @@ impl<const W: usize> Version<W> {
     {
         let tables = copies(self.alloc, &self.tables)?;
         let rows = self.rows.copy()?;
-        let Ok(layout) = self.layout.clone() else {
-            return Err(NoMemory);
-        };
+        let layout = self.layout.clone()?;
         Ok(Version {
             shard: self.shard,
             shards: self.shards,
@@ -126,7 +124,8 @@ impl<const W: usize> Version<W> {
     ) -> Result<Version<W>, NoMemory>
         requires laid { IsLaid (arc_value layout) }
         requires bits { (arc_value layout).bits ≡ self.now.contents.layout.bits }
-        requires tables { ArePartTables (in_layout self.now.contents (arc_value layout)) tables.items }
+        requires tables { ArePartTables (in_layout self.now.contents (arc_value layout))
+            tables.items }
         ensures { IfOk result (λ version.
             version.contents ≡ in_layout self.now.contents (arc_value layout)) }
     {

@@ -37,15 +37,9 @@ impl Scratch {
         ensures room { IfOk result (λ scratch. scratch ≡ record { parts = parts; tau = tau }) }
     {
         let width = tau as usize + 2;
-        let Ok(asked) = vec![in alloc; 0u32; width] else {
-            return Err(NoMemory);
-        };
-        let Ok(costs) = vec![in alloc; 0u64; width] else {
-            return Err(NoMemory);
-        };
-        let Ok(picks) = vec![in alloc; 0u16; parts * width] else {
-            return Err(NoMemory);
-        };
+        let asked = vec![in alloc; 0u32; width]?;
+        let costs = vec![in alloc; 0u64; width]?;
+        let picks = vec![in alloc; 0u16; parts * width]?;
         Ok(Scratch {
             parts,
             tau,

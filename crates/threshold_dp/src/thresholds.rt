@@ -32,9 +32,7 @@ impl Thresholds {
         ensures empty { IfOk result (λ thresholds. thresholds.entries ≡ []) }
         ensures room { IfOk result (λ thresholds. thresholds.room ≡ parts) }
     {
-        let Ok(entries) = Vec::with_capacity(alloc, parts) else {
-            return Err(NoMemory);
-        };
+        let entries = Vec::with_capacity(alloc, parts)?;
         Ok(Thresholds {
             room: parts,
             entries,

@@ -1,10 +1,12 @@
 -- One part of a version that is made: its counts, and its lists row by row.
-use Rattle.std.proofs.Common.{◌≡◌, ℕ, zero, suc, ◌+◌, ◌^◌, ◌<◌, ◌≤◌, ◌==◌, Bool, cond, true, false, List, [], ◌∷◌, ◌++◌, All, length, map, filter, take, get_or, set, count_by, sum_by, refl, sym, ◌∙◌, ap, arith, subst, inl, inr}
+use Rattle.std.proofs.Common.{◌≡◌, ℕ, zero, suc, ◌+◌, ◌^◌, ◌<◌, ◌≤◌, ◌==◌, Bool, cond, true, false, List, [], ◌∷◌, ◌++◌, All, length}
+use Rattle.std.proofs.Common.{map, filter, take, get_or, set, count_by, sum_by, refl, sym, ◌∙◌, ap, arith, subst, inl, inr}
 use Rattle.std.specs.List.Sorted.{IsStrictlySortedBy}
 use Rattle.std.specs.Map.{keys_of}
 use Rattle.std.specs.Ordering.{nat_cmp}
 use Rattle.std.proofs.lemmas.Bool.{cases_eq, ne_eqb, eq-eqb}
-use Rattle.std.proofs.lemmas.List.{append-nil, get_or-map, get_or-set_other, get_or-set_same, get_or-take, length-set, length-map, length-take-le, map-append, take_all, take_more}
+use Rattle.std.proofs.lemmas.List.{append-nil, get_or-map, get_or-set_other, get_or-set_same, get_or-take, length-set, length-map}
+use Rattle.std.proofs.lemmas.List.{length-take-le, map-append, take_all, take_more}
 use Rattle.std.proofs.lemmas.List.Elements.{All-filter, filter-append, All-from_recursion, recursion_from_All}
 use Rattle.std.proofs.lemmas.List.FromFn.{get_or-map-range_with_len}
 use Rattle.std.proofs.lemmas.List.Folds.{list_any_none}
@@ -17,7 +19,7 @@ use Rattle.hamming_model.specs.Stored.{AreCodeRows}
 use Rattle.search_model.specs.Reading.{unpadded, rows_with}
 use Rattle.part_layout.specs.Laid.{Laid, IsValue, part_at}
 use Rattle.count_table.specs.Copies.{CopyTable, table_of, total_of, with_one}
-use Rattle.posting_table.specs.Reserved.{HasRoom, Reserved, placed}
+use Rattle.posting_table.specs.Reserved.{HasSpace, Reserved, entry_placed}
 use Rattle.posting_table.specs.Tables.{has_key, posting_list}
 use Rattle.shard_version.specs.Contents.{Contents}
 use Rattle.shard_version.specs.Relaid.{IsPartTable}
@@ -40,14 +42,16 @@ row_value W layout rows k part value other below stored valued =
 
 -- the values of one row more
 pub values_more : (bits : ℕ) (rows : List (ℕ × List ℕ)) (k : ℕ) (part : List ℕ) (other : ℕ × List ℕ) → k < length rows
-    → part_values (map (unpadded bits) (take (k + 1) rows)) part ≡ part_values (map (unpadded bits) (take k rows)) part ++ part_value (take bits (get_or rows k other).1) part ∷ []
+    → part_values (map (unpadded bits) (take (k + 1) rows)) part ≡ part_values (map (unpadded bits) (take k rows)) part ++ part_value (take bits
+    (get_or rows k other).1) part ∷ []
 values_more bits rows k part other below =
     ap (λ rs. part_values (map (unpadded bits) rs) part) (take_more rows k other below)
     ∙ ap (λ rs. part_values rs part) (map-append (unpadded bits) (take k rows) (get_or rows k other ∷ []))
     ∙ map-append (λ (row : ℕ × List ℕ). part_value row.1 part) (map (unpadded bits) (take k rows)) (unpadded bits (get_or rows k other) ∷ [])
 
 -- the counts of one row more
-pub counts_more : (adds : AddsValue) (bits : ℕ) (rows : List (ℕ × List ℕ)) (k value : ℕ) (part : List ℕ) (other : ℕ × List ℕ) (old new : CopyTable) → k < length rows → value < 2 ^ length part
+pub counts_more : (adds : AddsValue) (bits : ℕ) (rows : List (ℕ × List ℕ)) (k value : ℕ) (part : List ℕ) (other : ℕ × List ℕ) (old new : CopyTable)
+    → k < length rows → value < 2 ^ length part
     → value ≡ part_value (take bits (get_or rows k other).1) part → old ≡ table_of (length part) (part_values (map (unpadded bits) (take k rows)) part)
     → new ≡ with_one old value → new ≡ table_of (length part) (part_values (map (unpadded bits) (take (k + 1) rows)) part)
 counts_more adds bits rows k value part other old new below small is before added =
@@ -71,13 +75,15 @@ counts_total total W bits rows k part table below stored is =
 -- ---- placing a row
 
 -- a table of a list's values has as many copies of a value as the list has items with it
-pub copies_of : (width value : ℕ) (items : List ℕ) → value < 2 ^ width → get_or (table_of width items).copies value 0 ≡ count_by (λ item. item == value) items
+pub copies_of : (width value : ℕ) (items : List ℕ) → value < 2 ^ width
+    → get_or (table_of width items).copies value 0 ≡ count_by (λ item. item == value) items
 unfolding table_of values
 copies_of width value items below = get_or-map-range_with_len (λ v. count_by (λ item. item == v) items) 0 (2 ^ width) value value 0 below (omega arith)
 
 -- the values of rows counted are the rows counted
 count_values : (bits value : ℕ) (part : List ℕ) (rows : List (ℕ × List ℕ))
-    → count_by (λ item. item == value) (part_values (map (unpadded bits) rows) part) ≡ count_by (λ (row : ℕ × List ℕ). part_value (take bits row.1) part == value) rows
+    → count_by (λ item. item == value) (part_values (map (unpadded bits) rows) part) ≡ count_by (λ (row : ℕ
+    × List ℕ). part_value (take bits row.1) part == value) rows
 count_values bits value part [] = refl
 count_values bits value part (row ∷ rows) =
     let one = sum_by-cons (λ item. cond (item == value) 1 0) (part_value (take bits row.1) part) (part_values (map (unpadded bits) rows) part) in
@@ -86,7 +92,8 @@ count_values bits value part (row ∷ rows) =
     omega arith
 
 -- the rows before one have other keys
-pub keys_differ : (rows : List (ℕ × List ℕ)) (next : ℕ) (other : ℕ × List ℕ) (test : ℕ × List ℕ → Bool) → next < length rows → IsStrictlySortedBy nat_cmp (keys_of rows)
+pub keys_differ : (rows : List (ℕ × List ℕ)) (next : ℕ) (other : ℕ × List ℕ) (test : ℕ × List ℕ → Bool) → next < length rows
+    → IsStrictlySortedBy nat_cmp (keys_of rows)
     → has_key (filter test (take next rows)) (get_or rows next other).0 ≡ false
 keys_differ rows next other test below up =
     let long = length-map rows (λ (row : ℕ × List ℕ). row.0) in
@@ -102,9 +109,10 @@ keys_differ rows next other test below up =
     ne_eqb (get_or (take next rows) k d).0 (get_or rows next other).0 (λ (e : (get_or (take next rows) k d).0 ≡ (get_or rows next other).0). omega arith)))
 
 -- there is room for the next row
-pub next_fits : {W : ℕ} (bits : ℕ) (part : List ℕ) (rows : List (ℕ × List ℕ)) (next value : ℕ) (other : ℕ × List ℕ) (draft : PartDraft W) → next < length rows
+pub next_fits : {W : ℕ} (bits : ℕ) (part : List ℕ) (rows : List (ℕ × List ℕ)) (next value : ℕ) (other : ℕ × List ℕ) (draft : PartDraft W)
+    → next < length rows
     → value ≡ part_value (take bits (get_or rows next other).1) part → value < 2 ^ length part → IsStrictlySortedBy nat_cmp (keys_of rows)
-    → IsPartDraft bits part rows next draft → HasRoom draft.lists value (get_or rows next other).0
+    → IsPartDraft bits part rows next draft → HasSpace draft.lists value (get_or rows next other).0
 next_fits {W} bits part rows next value other draft below is small up are =
     let test : ℕ × List ℕ → Bool = λ row. part_value (take bits row.1) part == value in
     let placed = are.placed value in
@@ -112,7 +120,8 @@ next_fits {W} bits part rows next value other draft below is small up are =
     let more = sum_by_more_le (λ (row : ℕ × List ℕ). cond (test row) 1 0) rows next other below in
     let serves : test (get_or rows next other) ≡ true = eq-eqb (part_value (take bits (get_or rows next other).1) part) value (sym is) in
     let one : cond (test (get_or rows next other)) 1 0 ≡ suc zero = ap (λ b. cond b 1 0) serves in
-    let room = ap (λ rs. get_or rs value 0) (are.room ∙ ap (λ (t : CopyTable). t.copies) are.counts) ∙ copies_of (length part) value (part_values (map (unpadded bits) rows) part) small
+    let room = ap (λ rs. get_or rs value 0) (are.room ∙ ap (λ (t : CopyTable). t.copies) are.counts)
+    ∙ copies_of (length part) value (part_values (map (unpadded bits) rows) part) small
     ∙ count_values bits value part rows in
     record {
       in_width = subst (λ n. value < 2 ^ n) (sym are.width) small;
@@ -128,9 +137,10 @@ kept_more bits part rows next v other below =
     ∙ filter-append (λ (row : ℕ × List ℕ). part_value (take bits row.1) part == v) (take next rows) (get_or rows next other ∷ [])
 
 -- the next row is placed
-pub row_placed : {W : ℕ} (bits : ℕ) (part : List ℕ) (rows : List (ℕ × List ℕ)) (next value : ℕ) (other : ℕ × List ℕ) (draft new : PartDraft W) → next < length rows
+pub row_placed : {W : ℕ} (bits : ℕ) (part : List ℕ) (rows : List (ℕ × List ℕ)) (next value : ℕ) (other : ℕ × List ℕ) (draft new : PartDraft W)
+    → next < length rows
     → value ≡ part_value (take bits (get_or rows next other).1) part → value < 2 ^ length part
-    → IsPartDraft bits part rows next draft → new.counts ≡ draft.counts → new.lists ≡ placed draft.lists value (get_or rows next other)
+    → IsPartDraft bits part rows next draft → new.counts ≡ draft.counts → new.lists ≡ entry_placed draft.lists value (get_or rows next other)
     → IsPartDraft bits part rows (next + 1) new
 row_placed {W} bits part rows next value other draft new below is small are same_counts is_lists =
     let row = get_or rows next other in
@@ -148,11 +158,13 @@ row_placed {W} bits part rows next value other draft new below is small are same
             | inl same ↦ subst (λ n. get_or (set lists value entries) n [] ≡ stored_with bits part n (take (next + 1) rows)) (sym same)
                 (get_or-set_same lists value entries [] (omega arith)
                 ∙ ap (λ es. es ++ row ∷ []) (are.placed value)
-                ∙ ap (λ es. stored_with bits part value (take next rows) ++ es) (sym (ap (λ b. cond b (row ∷ []) []) (eq-eqb (part_value (take bits row.1) part) value (sym is))))
+                ∙ ap (λ es. stored_with bits part value (take next rows) ++ es) (sym (ap (λ b. cond b (row ∷ []) []) (eq-eqb (part_value
+                (take bits row.1) part) value (sym is))))
                 ∙ sym (kept_more bits part rows next value other below))
             | inr differs ↦ get_or-set_other lists value v entries [] differs ∙ are.placed v
                 ∙ sym (append-nil (stored_with bits part v (take next rows)))
-                ∙ ap (λ es. stored_with bits part v (take next rows) ++ es) (sym (ap (λ b. cond b (row ∷ []) []) (ne_eqb (part_value (take bits row.1) part) v (λ (e : part_value (take bits row.1) part ≡ v). differs (sym e ∙ sym is)))))
+                ∙ ap (λ es. stored_with bits part v (take next rows) ++ es) (sym (ap (λ b. cond b (row ∷ []) []) (ne_eqb (part_value
+                (take bits row.1) part) v (λ (e : part_value (take bits row.1) part ≡ v). differs (sym e ∙ sym is)))))
                 ∙ sym (kept_more bits part rows next v other below)
           ];
     }
@@ -163,13 +175,16 @@ one_kept bits row kept plain true same = ap (λ rs. unpadded bits row ∷ rs) sa
 one_kept bits row kept plain false same = same
 
 -- the rows of a value, with and without the zeros after their codes
-kept_rows : (bits v : ℕ) (part : List ℕ) (rows : List (ℕ × List ℕ)) → map (unpadded bits) (stored_with bits part v rows) ≡ rows_with (map (unpadded bits) rows) part v
+kept_rows : (bits v : ℕ) (part : List ℕ) (rows : List (ℕ × List ℕ))
+    → map (unpadded bits) (stored_with bits part v rows) ≡ rows_with (map (unpadded bits) rows) part v
 kept_rows bits v part [] = refl
 kept_rows bits v part (row ∷ rows) =
-    one_kept bits row (stored_with bits part v rows) (rows_with (map (unpadded bits) rows) part v) (part_value (take bits row.1) part == v) (kept_rows bits v part rows)
+    one_kept bits row (stored_with bits part v rows) (rows_with (map (unpadded bits) rows) part v) (part_value (take bits row.1) part == v)
+    (kept_rows bits v part rows)
 
 -- once all rows are placed, the tables are those of the rows
-pub part_done : {W : ℕ} (version : Contents) (part : ℕ) (rows : List (ℕ × List ℕ)) (draft : PartDraft W) → map (unpadded version.layout.bits) rows ≡ version.rows
+pub part_done : {W : ℕ} (version : Contents) (part : ℕ) (rows : List (ℕ × List ℕ)) (draft : PartDraft W)
+    → map (unpadded version.layout.bits) rows ≡ version.rows
     → AreStored W version.layout.bits rows → IsPartDraft version.layout.bits (part_at version.layout part) rows (length rows) draft
     → IsPartTable version part (tables_of draft)
 part_done {W} version part rows draft same stored are =
@@ -187,7 +202,8 @@ part_done {W} version part rows draft same stored are =
         };
         codes = λ v. subst (AreStored W bits) (sym (all v))
             (recursion_from_All (λ (entry : ℕ × List ℕ). StandsFor W bits entry.1 (take bits entry.1)) (stored_with bits positions v rows)
-            (All-filter (λ (row : ℕ × List ℕ). part_value (take bits row.1) positions == v) (λ (entry : ℕ × List ℕ). StandsFor W bits entry.1 (take bits entry.1)) rows
+            (All-filter (λ (row : ℕ × List ℕ). part_value (take bits row.1) positions == v) (λ (entry : ℕ
+            × List ℕ). StandsFor W bits entry.1 (take bits entry.1)) rows
             (All-from_recursion (λ (entry : ℕ × List ℕ). StandsFor W bits entry.1 (take bits entry.1)) rows stored)));
       };
       size = are.size ∙ ap (λ n. 2 ^ n) (sym are.width);

@@ -1,10 +1,12 @@
 -- All parts of a version that is made: room taken, rows placed, and the tables at the end.
-use Rattle.std.proofs.Common.{◌≡◌, ℕ, ◌+◌, ◌-◌, ◌*◌, ◌<◌, ◌≤◌, List, [], ◌∷◌, ◌++◌, length, map, take, get_or, set, refl, sym, ◌∙◌, ap, arith, subst, inl, inr}
+use Rattle.std.proofs.Common.{◌≡◌, ℕ, ◌+◌, ◌-◌, ◌*◌, ◌<◌, ◌≤◌, List, [], ◌∷◌, ◌++◌, length, map, take, get_or, set, refl, sym, ◌∙◌, ap}
+use Rattle.std.proofs.Common.{arith, subst, inl, inr}
 use Rattle.std.specs.List.Sorted.{IsStrictlySortedBy}
 use Rattle.std.specs.Map.{keys_of}
 use Rattle.std.specs.Ordering.{nat_cmp}
 use Rattle.std.proofs.lemmas.Bool.{cases_eq}
-use Rattle.std.proofs.lemmas.List.{get_or-map, get_or-set_other, get_or-set_same, get_or_append_left, get_or_push, length_push, length-set, length-map, take_all, take_more}
+use Rattle.std.proofs.lemmas.List.{get_or-map, get_or-set_other, get_or-set_same, get_or_append_left, get_or_push, length_push}
+use Rattle.std.proofs.lemmas.List.{length-set, length-map, take_all, take_more}
 use Rattle.hamming_model.specs.Stored.{AreCodeRows}
 use Rattle.search_model.specs.Reading.{unpadded}
 use Rattle.part_layout.specs.Laid.{Laid, IsLaid, part_at}
@@ -20,7 +22,8 @@ use Rattle.version_draft.proofs.PartDraftLemmas.{part_done}
 
 -- the next row is placed in one part more
 pub placed_more : {W : ℕ} (layout : Laid) (stored : List (ℕ × List ℕ)) (parts : List (PartDraft W)) (next k : ℕ) (own : PartDraft W) → k < length parts
-    → ArePlaced layout stored parts next k → IsPartDraft layout.bits (part_at layout k) stored (next + 1) own → ArePlaced layout stored (set parts k own) next (k + 1)
+    → ArePlaced layout stored parts next k → IsPartDraft layout.bits (part_at layout k) stored (next + 1) own
+    → ArePlaced layout stored (set parts k own) next (k + 1)
 placed_more {W} layout stored parts next k own below before placed =
     let long = length-set parts k own in
     record {
@@ -33,7 +36,8 @@ placed_more {W} layout stored parts next k own below before placed =
                 (before.done part other (omega (arith, less, differs)) (omega arith))
           ];
       left = λ part other beyond short.
-          subst (IsPartDraft layout.bits (part_at layout part) stored next) (sym (get_or-set_other parts k part own other (λ (same : part ≡ k). omega (arith, beyond, same))))
+          subst (IsPartDraft layout.bits (part_at layout part) stored next) (sym (get_or-set_other parts k part own other (λ (same : part ≡ k). omega
+          (arith, beyond, same))))
           (before.left part other (omega arith) (omega arith));
     }
 
@@ -48,9 +52,11 @@ begun_more {W} layout stored old new k own same before here =
       each = λ part other less.
           elim (cases_eq part k) [
             | inl at ↦ subst (λ p. IsPartDraft layout.bits (part_at layout p) stored 0 (get_or new p other)) (sym at)
-                (subst (IsPartDraft layout.bits (part_at layout k) stored 0) (sym (ap (λ ds. get_or ds k other) same ∙ get_or_push old own other k before.number)) here)
+                (subst (IsPartDraft layout.bits (part_at layout k) stored 0) (sym (ap (λ ds. get_or ds k other) same
+                ∙ get_or_push old own other k before.number)) here)
             | inr differs ↦ subst (IsPartDraft layout.bits (part_at layout part) stored 0)
-                (sym (ap (λ ds. get_or ds part other) same ∙ get_or_append_left old (own ∷ []) other part (omega (arith, less, differs)))) (before.each part other (omega (arith, less, differs)))
+                (sym (ap (λ ds. get_or ds part other) same
+                ∙ get_or_append_left old (own ∷ []) other part (omega (arith, less, differs)))) (before.each part other (omega (arith, less, differs)))
           ];
     }
 
@@ -64,14 +70,16 @@ pub tables_more : {W : ℕ} (parts : List (PartDraft W)) (done : List (PartTable
     → own ≡ get_or parts k own → table ≡ tables_of own → done ≡ take k (map tables_of parts) → done ++ table ∷ [] ≡ take (k + 1) (map tables_of parts)
 tables_more {W} parts done k own table below is made before =
     let long = length-map parts tables_of in
-    let item : get_or (map tables_of parts) k (tables_of own) ≡ table = get_or-map tables_of parts k own (tables_of own) below ∙ ap tables_of (sym is) ∙ sym made in
+    let item : get_or (map tables_of parts) k (tables_of own) ≡ table = get_or-map tables_of parts k own (tables_of own) below
+    ∙ ap tables_of (sym is) ∙ sym made in
     ap (λ (front : List (PartTable W)). front ++ table ∷ []) before
     ∙ ap (λ (one : PartTable W). take k (map tables_of parts) ++ one ∷ []) (sym item)
     ∙ sym (take_more (map tables_of parts) k (tables_of own) (omega arith))
 
 -- ---- a draft
 
-module _ {W : ℕ} (version : Contents) (layout : Laid) (stored : List (ℕ × List ℕ)) (parts : List (PartDraft W)) (next : ℕ) (is : IsDraft version layout stored parts next) where
+module _ {W : ℕ} (version : Contents) (layout : Laid) (stored : List (ℕ
+    × List ℕ)) (parts : List (PartDraft W)) (next : ℕ) (is : IsDraft version layout stored parts next) where
   -- its rows ascend
   pub draft_ascends : IsStrictlySortedBy nat_cmp (keys_of stored)
   draft_ascends =
@@ -80,7 +88,12 @@ module _ {W : ℕ} (version : Contents) (layout : Laid) (stored : List (ℕ × L
   -- no part has the next row yet, and in the end all have
   pub none_placed : ArePlaced layout stored parts next 0
   none_placed =
-      record { number = is.number; done = λ part other less short. absurd (omega (arith, less)); left = λ part other beyond short. is.each part other short }
+      record {
+        number = is.number;
+        done = λ part other less short. absurd (omega
+            (arith, less));
+        left = λ part other beyond short. is.each part other short;
+      }
 
   pub all_placed : (new : List (PartDraft W)) → next < length stored → ArePlaced layout stored new next (length layout.parts)
       → IsDraft version layout stored new (next + 1)
@@ -99,7 +112,8 @@ module _ {W : ℕ} (version : Contents) (layout : Laid) (stored : List (ℕ × L
       }
 
   -- once all rows are placed, the tables are those of the rows
-  pub tables_done : (tables : List (PartTable W)) → tables ≡ map tables_of parts → length stored - next ≡ 0 → ArePartTables (in_layout version layout) tables
+  pub tables_done : (tables : List (PartTable W)) → tables ≡ map tables_of parts → length stored - next ≡ 0
+      → ArePartTables (in_layout version layout) tables
   tables_done tables made none =
       let end : next ≡ length stored = omega (arith, is.in_rows, none) in
       let long : length tables ≡ length parts = ap length made ∙ length-map parts tables_of in

@@ -64,7 +64,8 @@ impl<const W: usize> Draft<W> {
         requires few_words { W ≤ WORDS_MOST }
         requires laid { IsLaid (arc_value layout) }
         requires bits { (arc_value layout).bits ≡ version.now.contents.layout.bits }
-        ensures draft { IfOk result (λ draft. draft ≡ begun version.now.contents (arc_value layout)) }
+        ensures draft { IfOk result (λ draft.
+            draft ≡ begun version.now.contents (arc_value layout)) }
         ensures steps { OnOk result (steps.new ≡ steps.old + length version.now.contents.rows) }
         ensures bound { steps.new ≤ steps.old + length version.now.contents.rows }
     {
@@ -133,9 +134,7 @@ impl<const W: usize> Draft<W> {
         ensures { IfOk result (λ version. version.contents ≡ self.now.contents) }
     {
         let tables = tables_of_each(self.alloc, self.parts.as_slice())?;
-        let Ok(layout) = self.layout.clone() else {
-            return Err(NoMemory);
-        };
+        let layout = self.layout.clone()?;
         self.version.in_layout(layout, tables)
     }
 

@@ -43,8 +43,8 @@ impl<const W: usize> PartDraft<W> {
         counts_are_those_of_a_list();
         let width = layout.width(part);
         let mut counts = Counts::new(alloc, width)?;
-        for k in 0..rows.len() {
-            counts.add(layout.value(&rows[k].1, part))?;
+        for row in 0..rows.len() {
+            counts.add(layout.value(&rows[row].1, part))?;
         }
         let lists = Lists::reserve(alloc, width, counts.copies())?;
         Ok(PartDraft { lists, counts })
@@ -58,8 +58,10 @@ impl<const W: usize> PartDraft<W> {
         requires few_words { W ≤ WORDS_MOST }
         requires ascending { IsStrictlySortedBy nat_cmp (keys_of rows.now) }
         requires next { next < length rows.now }
-        requires draft { IsPartDraft layout.now.bits (part_at layout.now part) rows.now next self.old }
-        ensures { IsPartDraft layout.now.bits (part_at layout.now part) rows.now (next + 1) self.new }
+        requires draft { IsPartDraft layout.now.bits (part_at layout.now part) rows.now next
+            self.old }
+        ensures { IsPartDraft layout.now.bits (part_at layout.now part) rows.now (next + 1)
+            self.new }
     {
         let value = layout.value(&rows[next].1, part);
         self.lists.place(value, rows[next].0, rows[next].1);

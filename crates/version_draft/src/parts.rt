@@ -32,9 +32,7 @@ pub fn begin_each<const W: usize>(
     let mut parts = Vec::new(alloc);
     for part in 0..layout.parts() {
         let draft = PartDraft::begin(alloc, layout, part, rows)?;
-        let Ok(()) = parts.push(draft) else {
-            return Err(NoMemory);
-        };
+        parts.push(draft)?;
     }
     Ok(parts)
 }
@@ -70,9 +68,7 @@ pub fn tables_of_each<const W: usize>(
     let mut tables = Vec::new(alloc);
     for part in parts {
         let table = part.tables()?;
-        let Ok(()) = tables.push(table) else {
-            return Err(NoMemory);
-        };
+        tables.push(table)?;
     }
     Ok(tables)
 }

@@ -40,9 +40,7 @@ pub fn reached<const W: usize, M>(
     versions_follow_the_history();
     let at = version.at();
     if at == position {
-        let Ok(same) = version.clone() else {
-            return Err(NoMemory);
-        };
+        let same = version.clone()?;
         return Ok(same);
     }
     let _few = front.position();
@@ -51,9 +49,7 @@ pub fn reached<const W: usize, M>(
         let entry = front.entry(place, steps);
         next = next.apply(entry)?;
     }
-    let Ok(shared) = Arc::new(alloc, next) else {
-        return Err(NoMemory);
-    };
+    let shared = Arc::new(alloc, next)?;
     Ok(shared)
 }
 
@@ -80,18 +76,12 @@ pub fn follow<const W: usize, M>(
 {
     let at = current.at();
     let position = front.position();
-    let Ok(mut version) = current.clone() else {
-        return Err(NoMemory);
-    };
+    let mut version = current.clone()?;
     for older in front.older() {
         if at <= *older {
             let next = reached(alloc, &version, front, *older, steps)?;
-            let Ok(same) = next.clone() else {
-                return Err(NoMemory);
-            };
-            let Ok(()) = kept.push(same) else {
-                return Err(NoMemory);
-            };
+            let same = next.clone()?;
+            kept.push(same)?;
             version = next;
         }
     }
@@ -111,12 +101,8 @@ pub fn staying<const W: usize>(
     let mut stay = Vec::new(alloc);
     for version in kept {
         if stands_in(older, version.at()) {
-            let Ok(same) = version.clone() else {
-                return Err(NoMemory);
-            };
-            let Ok(()) = stay.push(same) else {
-                return Err(NoMemory);
-            };
+            let same = version.clone()?;
+            stay.push(same)?;
         }
     }
     Ok(stay)

@@ -45,9 +45,7 @@ impl<const W: usize> Shard<W> {
         requires { W ≤ WORDS_MOST }
         ensures { IfOk result (λ shard. shard ≡ shard_with version.entry.contents []) }
     {
-        let Ok(current) = Arc::new(alloc, version) else {
-            return Err(NoMemory);
-        };
+        let current = Arc::new(alloc, version)?;
         Ok(Shard {
             alloc,
             current,
@@ -108,16 +106,12 @@ impl<const W: usize> Shard<W> {
     {
         let position = front.position();
         if self.current.at() == position {
-            let Ok(version) = self.current.clone() else {
-                return Err(NoMemory);
-            };
+            let version = self.current.clone()?;
             return Ok(version);
         }
         for kept in &self.kept {
             if kept.at() == position {
-                let Ok(version) = kept.clone() else {
-                    return Err(NoMemory);
-                };
+                let version = kept.clone()?;
                 return Ok(version);
             }
         }

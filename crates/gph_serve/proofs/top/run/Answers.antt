@@ -2,31 +2,34 @@
 use Rattle.session_model.specs.Run.{IsRunAlone}
 use Rattle.session_model.specs.Outcomes.{IsDone, IsReadFault, IsWriteFault, IsInputLimit}
 use Rattle.gph_serve.specs.declared.outcome.Outcome.TheVariants.{Done, ReadFault, WriteFault, InputLimit}
-use Rattle.gph_serve.proofs.CompleteLemmas.{for_config, nothing_unread, complete_as}
+use Rattle.gph_serve.proofs.CompleteLemmas.{for_run, for_load, unread_as, complete_as}
 use Rattle.gph_serve.proofs.top.run.Goals as goal
 
 pub returns-in-Ok-clause-unread : goal.returns-in-Ok-clause-unread
-returns-in-Ok-clause-unread g c = nothing_unread c.serve_any.result c.in-Ok.config _ c.serve_any.ensures
+returns-in-Ok-clause-unread g c = unread_as c.serve_command.result _ c.in-Ok.command _ c.in-Ok.ensures.value c.serve_command.ensures
 
 pub returns-in-Ok-clause-done : goal.returns-in-Ok-clause-done
 returns-in-Ok-clause-done g c = λ is.
-    for_config c.serve_any.result Done (IsDone IsRunAlone) _ c.in-Ok.config _ is c.in-Ok.ensures.value
-    c.serve_any.ensures (λ ended. ended)
+    for_run c.serve_command.result Done (IsDone IsRunAlone) _ c.in-Ok.command _ is c.in-Ok.ensures.value
+    c.serve_command.ensures (λ config ended. ended)
 
 pub returns-in-Ok-clause-read_fault : goal.returns-in-Ok-clause-read_fault
 returns-in-Ok-clause-read_fault g c = λ is.
-    for_config c.serve_any.result ReadFault (IsReadFault IsRunAlone) _ c.in-Ok.config _ is c.in-Ok.ensures.value
-    c.serve_any.ensures (λ ended. ended)
+    for_run c.serve_command.result ReadFault (IsReadFault IsRunAlone) _ c.in-Ok.command _ is c.in-Ok.ensures.value
+    c.serve_command.ensures (λ config ended. ended)
 
 pub returns-in-Ok-clause-write_fault : goal.returns-in-Ok-clause-write_fault
 returns-in-Ok-clause-write_fault g c = λ is.
-    for_config c.serve_any.result WriteFault (IsWriteFault IsRunAlone) _ c.in-Ok.config _ is c.in-Ok.ensures.value
-    c.serve_any.ensures (λ ended. ended)
+    for_run c.serve_command.result WriteFault (IsWriteFault IsRunAlone) _ c.in-Ok.command _ is c.in-Ok.ensures.value
+    c.serve_command.ensures (λ config ended. ended)
 
 pub returns-in-Ok-clause-input_limit : goal.returns-in-Ok-clause-input_limit
 returns-in-Ok-clause-input_limit g c = λ is.
-    for_config c.serve_any.result InputLimit (IsInputLimit IsRunAlone) _ c.in-Ok.config _ is c.in-Ok.ensures.value
-    c.serve_any.ensures (λ ended. ended)
+    for_run c.serve_command.result InputLimit (IsInputLimit IsRunAlone) _ c.in-Ok.command _ is c.in-Ok.ensures.value
+    c.serve_command.ensures (λ config ended. ended)
 
 pub returns-in-Ok-clause-complete : goal.returns-in-Ok-clause-complete
-returns-in-Ok-clause-complete g c = complete_as c.serve_any.result _ c.in-Ok.config _ c.in-Ok.ensures.value c.serve_any.ensures
+returns-in-Ok-clause-complete g c = complete_as c.serve_command.result _ c.in-Ok.command _ c.in-Ok.ensures.value c.serve_command.ensures
+
+pub returns-in-Ok-clause-load : goal.returns-in-Ok-clause-load
+returns-in-Ok-clause-load g c = for_load c.serve_command.result _ c.in-Ok.command _ c.in-Ok.ensures.value c.serve_command.ensures

@@ -13,6 +13,8 @@ loop-done-init g c = record {
   alone = c.requires.alone;
   config = c.requires.config;
   shards = c.requires.shards;
+  samples = c.requires.samples;
+  build = c.requires.build;
   goes = λ start bytes output going.
       let held = g.K.Sink.held c.args.sink.now in
       still_goes c.args.config.now start _ bytes output c.args.session.now.cutter.held going held held held;
@@ -34,6 +36,8 @@ loop-done-preserved g c =
       alone = line.ensures.alone;
       config = line.ensures.config;
       shards = line.ensures.shards;
+      samples = line.ensures.samples;
+      build = line.ensures.build;
       goes = λ start bytes output going.
           goes_then c.args.config.now start _ _ c.loop-done.done line.result.0 block bytes output
           (g.K.Sink.held c.args.sink.now) (g.K.Sink.held c.loop-done.sink) (g.K.Sink.held line.new.sink)

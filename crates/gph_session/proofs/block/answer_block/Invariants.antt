@@ -1,5 +1,7 @@
 use Rattle.std.proofs.Common.{◌≡◌, ℕ, ◌≤◌, ◌-◌, true, List, ◌++◌, length, take}
 use Rattle.std.specs.Io.KnownBytes.{Appends}
+use Rattle.layout_search.specs.Improves.{AreSamples}
+use Rattle.session_step.specs.KeptBuild.{IsBuildOfDesk}
 use Rattle.session_step.specs.Meaning.{HaveShards}
 use Rattle.session_step.specs.Moments.{moment_of}
 use Rattle.gph_session.specs.Flow.{Start, GoesOn}
@@ -12,6 +14,8 @@ invariant-loop-done g l = record {
   alone : (g.D.Desk.desk l.desk).alone ≡ true;
   config : (g.D.Desk.desk l.desk).config ≡ l.config;
   shards : HaveShards l.config.shards l.session.queries;
+  samples : AreSamples l.config.bits l.session.samples;
+  build : IsBuildOfDesk (g.D.Desk.desk l.desk) l.session.build;
   goes : (start : Start) (bytes output : List ℕ) → GoesOn l.config start
       (moment_of (g.D.Desk.desk l.fn.desk) l.fn.session l.fn.meters l.fn.upkeep) bytes output
       l.fn.session.cutter.held

@@ -58,6 +58,8 @@ loop-session-preserved g c =
       alone = c.answer_block.ensures.alone;
       config = c.answer_block.ensures.config;
       shards = c.answer_block.ensures.shards;
+      samples = c.answer_block.ensures.samples;
+      build = c.answer_block.ensures.build;
       serves = serves_more i.serves _ _ _ c.in-Ok.ensures.steady read _ c.answer_block.result
           c.answer_block.ensures.flow c.in-Ok.count
           (length_read c.in-Ok.count c.read.new.room rest c.in-Ok.ensures.bound.0) (search rules) (search rules);

@@ -1,5 +1,7 @@
 use Rattle.std.proofs.Common.{◌≡◌, ◌-◌, true}
 use Rattle.session_model.specs.Outside.{ends}
+use Rattle.layout_search.specs.Improves.{AreSamples}
+use Rattle.session_step.specs.KeptBuild.{IsBuildOfDesk}
 use Rattle.session_step.specs.Meaning.{HaveShards}
 use Rattle.session_step.specs.Moments.{moment_of}
 use Rattle.gph_session.specs.Flow.{start_at}
@@ -12,6 +14,8 @@ invariant-loop-session g l = record {
   alone : (g.D.Desk.desk l.desk).alone ≡ true;
   config : (g.D.Desk.desk l.desk).config ≡ l.config;
   shards : HaveShards l.config.shards l.session.queries;
+  samples : AreSamples l.config.bits l.session.samples;
+  build : IsBuildOfDesk (g.D.Desk.desk l.desk) l.session.build;
   serves : Serves l.config
       (start_at (moment_of (g.D.Desk.desk l.fn.desk) l.fn.session l.fn.meters l.fn.upkeep))
       (moment_of (g.D.Desk.desk l.desk) l.session l.meters l.upkeep) l.taken

@@ -2,5 +2,5 @@
 use Rattle.std.proofs.Common.{◌≡◌}
 use Rattle.near_cases.proofs.gathered.add_all.Given as goal
 
-abbrev pub invariant-loop-i : goal.invariant-loop-i
-invariant-loop-i g l = (g.D.Desk.desk l.desk).config ≡ (g.D.Desk.desk l.fn.desk).config
+abbrev pub invariant-loop-row : goal.invariant-loop-row
+invariant-loop-row g l = (g.D.Desk.desk l.desk).config ≡ (g.D.Desk.desk l.fn.desk).config

@@ -1,5 +1,5 @@
 -- Each hit that is given is the next of the answer as it was left at the call.
-use Rattle.std.proofs.Common.{◌≡◌, ◌∙◌, arith, subst, sym}
+use Rattle.std.proofs.Common.{◌≡◌, ◌∙◌, arith}
 use Rattle.query_protocol.specs.Replies.{reply_line}
 use Rattle.query_protocol.specs.Replies as reply
 use Rattle.open_queries.proofs.GivingLemmas.{gave_number, gave_last, gave_part, gave_more}

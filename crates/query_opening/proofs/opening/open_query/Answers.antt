@@ -18,18 +18,18 @@ open_each-requires g c =
 
 pub returns-clause-opened : goal.returns-clause-opened
 returns-clause-opened g c =
-    let old = g.D.Desk.desk c.args.desk.now in
-    let new = g.D.Desk.desk c.pin_all.new.desk in
-    let items = c.in_ok-pinned.pinned.versions.items in
-    let pins = c.in_ok-pinned.ensures.pinned in
-    let are = sources_of source_asked source_standing c.deref-2.result.now items c.args.wanted c.args.query c.args.room c.in_ok-sources.sources.items
+    let are = sources_of source_asked source_standing c.deref-2.result.now c.in_ok-pinned.pinned.versions.items c.args.wanted c.args.query c.args.room
+    c.in_ok-sources.sources.items
     c.deref-2.ensures.value c.in_ok-sources.ensures in
-    opens_all source_asked source_standing g.row.W old new (contents_of_all items) c.in_ok-pinned.pinned.position pins c.args.wanted c.args.query c.args.room
+    opens_all source_asked source_standing g.row.W (g.D.Desk.desk c.args.desk.now) (g.D.Desk.desk c.pin_all.new.desk)
+    (contents_of_all c.in_ok-pinned.pinned.versions.items) c.in_ok-pinned.pinned.position c.in_ok-pinned.ensures.pinned c.args.wanted c.args.query
+    c.args.room
     c.in_ok-sources.sources.items c.row_count-rows.result
-    (omega (arith, c.in_ok-pinned.ensures.desk.config.some_shards, ap (λ config. config.shards) pins.comes.config)) are
+    (omega (arith, c.in_ok-pinned.ensures.desk.config.some_shards, ap (λ config. config.shards) c.in_ok-pinned.ensures.pinned.comes.config)) are
     (subst (λ (versions : List (Arc Tabled Global)). c.row_count-rows.result
     ≡ sum (row_numbers (contents_of_all versions))) c.deref.ensures.value c.row_count-rows.ensures)
-    (c.shards_together_answer.ensures.number old.config.shards _ (row_numbers (contents_of_all items)))
+    (c.shards_together_answer.ensures.number (g.D.Desk.desk c.args.desk.now).config.shards _ (row_numbers
+    (contents_of_all c.in_ok-pinned.pinned.versions.items)))
 
 pub returns-clause-fresh : goal.returns-clause-fresh
 returns-clause-fresh g c =
@@ -38,38 +38,46 @@ returns-clause-fresh g c =
 
 pub returns-clause-one_length : goal.returns-clause-one_length
 returns-clause-one_length g c =
-    let old = g.D.Desk.desk c.args.desk.now in
-    let new = g.D.Desk.desk c.pin_all.new.desk in
-    let items = c.in_ok-pinned.pinned.versions.items in
-    let pins = c.in_ok-pinned.ensures.pinned in
-    let are = sources_of source_asked source_standing c.deref-2.result.now items c.args.wanted c.args.query c.args.room c.in_ok-sources.sources.items
+    let are = sources_of source_asked source_standing c.deref-2.result.now c.in_ok-pinned.pinned.versions.items c.args.wanted c.args.query c.args.room
+    c.in_ok-sources.sources.items
     c.deref-2.ensures.value c.in_ok-sources.ensures in
-    gathers_one_length source_asked source_standing g.row.W old new (contents_of_all items) c.in_ok-pinned.pinned.position pins
+    gathers_one_length source_asked source_standing g.row.W (g.D.Desk.desk c.args.desk.now) (g.D.Desk.desk c.pin_all.new.desk)
+    (contents_of_all c.in_ok-pinned.pinned.versions.items) c.in_ok-pinned.pinned.position c.in_ok-pinned.ensures.pinned
     c.args.wanted c.args.query c.args.room c.in_ok-sources.sources.items are
 
 pub returns-clause-one_kind : goal.returns-clause-one_kind
 returns-clause-one_kind g c =
-    let old = g.D.Desk.desk c.args.desk.now in
-    let new = g.D.Desk.desk c.pin_all.new.desk in
-    let items = c.in_ok-pinned.pinned.versions.items in
-    let pins = c.in_ok-pinned.ensures.pinned in
-    let are = sources_of source_asked source_standing c.deref-2.result.now items c.args.wanted c.args.query c.args.room c.in_ok-sources.sources.items
+    let are = sources_of source_asked source_standing c.deref-2.result.now c.in_ok-pinned.pinned.versions.items c.args.wanted c.args.query c.args.room
+    c.in_ok-sources.sources.items
     c.deref-2.ensures.value c.in_ok-sources.ensures in
-    gathers_one_kind source_asked source_standing g.row.W old new (contents_of_all items) c.in_ok-pinned.pinned.position pins
+    gathers_one_kind source_asked source_standing g.row.W (g.D.Desk.desk c.args.desk.now) (g.D.Desk.desk c.pin_all.new.desk)
+    (contents_of_all c.in_ok-pinned.pinned.versions.items) c.in_ok-pinned.pinned.position c.in_ok-pinned.ensures.pinned
     c.args.wanted c.args.query c.args.room c.in_ok-sources.sources.items are
 
 pub returns-clause-some : goal.returns-clause-some
 returns-clause-some g c =
-    let items = c.in_ok-pinned.pinned.versions.items in
-    let pins = c.in_ok-pinned.ensures.pinned in
-    let are = sources_of source_asked source_standing c.deref-2.result.now items c.args.wanted c.args.query c.args.room c.in_ok-sources.sources.items
+    let are = sources_of source_asked source_standing c.deref-2.result.now c.in_ok-pinned.pinned.versions.items c.args.wanted c.args.query c.args.room
+    c.in_ok-sources.sources.items
     c.deref-2.ensures.value c.in_ok-sources.ensures in
-    omega (arith, are.number_is, pins.number, c.in_ok-pinned.ensures.desk.config.some_shards, ap (λ config. config.shards) pins.comes.config)
+    omega (
+      arith,
+      are.number_is,
+      c.in_ok-pinned.ensures.pinned.number,
+      c.in_ok-pinned.ensures.desk.config.some_shards,
+      ap
+          (λ config. config.shards) c.in_ok-pinned.ensures.pinned.comes.config,
+    )
 
 pub returns-clause-few : goal.returns-clause-few
 returns-clause-few g c =
-    let items = c.in_ok-pinned.pinned.versions.items in
-    let pins = c.in_ok-pinned.ensures.pinned in
-    let are = sources_of source_asked source_standing c.deref-2.result.now items c.args.wanted c.args.query c.args.room c.in_ok-sources.sources.items
+    let are = sources_of source_asked source_standing c.deref-2.result.now c.in_ok-pinned.pinned.versions.items c.args.wanted c.args.query c.args.room
+    c.in_ok-sources.sources.items
     c.deref-2.ensures.value c.in_ok-sources.ensures in
-    omega (arith, are.number_is, pins.number, c.in_ok-pinned.ensures.desk.config.few_shards, ap (λ config. config.shards) pins.comes.config)
+    omega (
+      arith,
+      are.number_is,
+      c.in_ok-pinned.ensures.pinned.number,
+      c.in_ok-pinned.ensures.desk.config.few_shards,
+      ap
+          (λ config. config.shards) c.in_ok-pinned.ensures.pinned.comes.config,
+    )

@@ -20,14 +20,14 @@ returns-in_err-version-clause-upkeep g c =
     c.loop-shard.shard c.args.steps.now c.loop-shard.steps c.pin.new.steps c.loop-shard.invariant.0 c.loop-shard.invariant.1.1.1.1 c.pin.ensures.upkeep
     (g.D.Desk.desk c.args.desk.now).config.shards (omega (arith, c.loop-shard-test.true, c.shards-shard-end.ensures.shards))
 
-pub returns-in_default-clause-comes : goal.returns-in_default-clause-comes
-returns-in_default-clause-comes g c =
+pub returns-in_err-push-clause-comes : goal.returns-in_err-push-clause-comes
+returns-in_err-push-clause-comes g c =
     came (g.D.Desk.desk c.args.desk.now) (g.D.Desk.desk c.loop-shard.desk) (g.D.Desk.desk c.pin.new.self) c.args.front.now
     (contents_of_all c.loop-shard.versions.items) c.loop-shard.shard (contents_at c.in_ok-version.version)
     c.loop-shard.invariant.0 c.in_ok-version.ensures.pinned (omega (arith, c.loop-shard-test.true, c.shards-shard-end.ensures.shards))
 
-pub returns-in_default-clause-upkeep : goal.returns-in_default-clause-upkeep
-returns-in_default-clause-upkeep g c =
+pub returns-in_err-push-clause-upkeep : goal.returns-in_err-push-clause-upkeep
+returns-in_err-push-clause-upkeep g c =
     behind_all (g.D.Desk.desk c.args.desk.now) (g.D.Desk.desk c.loop-shard.desk) (position_of c.args.front.now) (contents_of_all c.loop-shard.versions.items)
     c.loop-shard.shard c.args.steps.now c.loop-shard.steps c.pin.new.steps c.loop-shard.invariant.0 c.loop-shard.invariant.1.1.1.1 c.pin.ensures.upkeep
     (g.D.Desk.desk c.args.desk.now).config.shards (omega (arith, c.loop-shard-test.true, c.shards-shard-end.ensures.shards))
@@ -42,7 +42,7 @@ loop-shard-preserved g c =
     let pins = c.in_ok-version.ensures.pinned in
     let first = c.loop-shard.invariant.0 in
     let fronts = ap (λ (d : DeskState). d.fronts) pins.comes.after in
-    let more : contents_of_all c.push.new.self.items ≡ items ++ contents_at c.in_ok-version.version ∷ [] = ap contents_of_all c.in-Ok.ensures.items
+    let more : contents_of_all c.push.new.self.items ≡ items ++ contents_at c.in_ok-version.version ∷ [] = ap contents_of_all c.in_ok-push.ensures.items
     ∙ map-append contents_at c.loop-shard.versions.items (c.in_ok-version.version ∷ []) in
     let own : IsOwnFront new front = ap (λ live. live_at live front.id) fronts ∙ c.loop-shard.invariant.1.0 in (
       subst (λ (versions : List Contents). PinsFirst old new (position_of front) versions (c.loop-shard.shard + 1)) (sym more)

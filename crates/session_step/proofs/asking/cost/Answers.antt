@@ -15,7 +15,7 @@ returns-clause-answers g c = λ desk reads upkeep alone line asked history s sta
     let held = g.K.Sink.held in
     let p = here_of c.args.config.now (moment_of desk c.args.session.now reads upkeep) (held c.args.sink.now) line
     history s stands in
-    cost_step p (held c.say.new.sink) c.say.result _ ready refl refl refl c.args.tag.now
+    cost_step p (held c.say.new.sink) c.say.result _ ready refl refl refl refl refl c.args.tag.now
     (line_of c.cost-reply.result) asked c.cost-reply.ensures c.say.ensures.written
 
 pub returns-clause-shards : goal.returns-clause-shards

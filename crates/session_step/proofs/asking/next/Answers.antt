@@ -42,7 +42,7 @@ returns-clause-answers g c = λ desk upkeep alone line asked history s stands'.
     let gives = subst (λ to. GivesAs (asks {W = g.row.W}) (stands {W = g.row.W}) c.args.session.now.queries
     c.args.tag.now c.args.n (held c.args.sink.now) (held c.next-said.new.sink) m to
     c.next-said.result c.next-said.new.self) (sym same_end) from_here in
-    next_step p (held c.next-said.new.sink) c.next-said.result _ c.args.tag.now c.args.n asked ready refl refl refl number gives
+    next_step p (held c.next-said.new.sink) c.next-said.result _ c.args.tag.now c.args.n asked ready refl refl refl refl refl number gives
 
 pub returns-clause-shards : goal.returns-clause-shards
 returns-clause-shards g c =

@@ -15,7 +15,7 @@ returns-clause-answers g c = λ desk reads upkeep alone line asked history s sta
     let held = g.K.Sink.held in
     let p = here_of c.args.config.now (moment_of desk c.args.session.now reads upkeep) (held c.args.sink.now) line
     history s stands in
-    plan_step p (held c.send.new.sink) c.send.result _ ready refl refl refl c.args.tag.now
+    plan_step p (held c.send.new.sink) c.send.result _ ready refl refl refl refl refl c.args.tag.now
     c.args.shard c.plan.ensures.this asked c.plan.ensures.tells
     (subst (Writes (held c.args.sink.now) (held c.send.new.sink) c.send.result) c.plan.ensures.is_line
     c.send.ensures.written)

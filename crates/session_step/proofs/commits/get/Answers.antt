@@ -7,6 +7,7 @@ use Rattle.std.proofs.Common.{IfSome}
 use Rattle.hamming_model.specs.Codes.{StandsFor}
 use Rattle.part_layout.specs.declared.config.Config.{Config}
 use Rattle.session_desk.specs.Desks.{DeskState}
+use Rattle.session_step.proofs.FrameLemmas.{builds_learn}
 use Rattle.session_step.proofs.LookLemmas.{get_step}
 use Rattle.session_step.proofs.commits.get.Goals as goal
 
@@ -35,7 +36,11 @@ returns-clause-answers g c = λ reads upkeep line asked history s stands.
     let found = c.code_of-code in
     let p = here_of c.args.config.now (moment_of (g.D.Desk.desk c.args.desk.now) c.args.session.now reads upkeep)
     (held c.args.sink.now) line history s stands in
-    get_step p (held c.send.new.sink) c.send.result _ refl refl c.args.key asked found.ensures.learns
+    get_step p (held c.send.new.sink) c.send.result _ refl refl refl refl c.args.key asked found.ensures.learns
     found.ensures.length found.result.0 found.ensures.code
     (subst (Writes (held c.args.sink.now) (held c.send.new.sink) c.send.result) c.write_found.ensures
     c.send.ensures.written)
+
+pub returns-clause-builds : goal.returns-clause-builds
+returns-clause-builds g c =
+    builds_learn (g.D.Desk.desk c.args.desk.now) (g.D.Desk.desk c.code_of-code.new.self) c.code_of-code.ensures.learns

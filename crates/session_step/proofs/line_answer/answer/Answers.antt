@@ -1,13 +1,14 @@
 -- A line is answered by a step of a session that is alone.
-use Rattle.std.proofs.Common.{Ok, refl, sym, ap, ◌∙◌, subst}
+use Rattle.std.proofs.Common.{◌≡◌, Ok, is_some, refl, sym, ap, ◌∙◌, subst, rules}
 use Rattle.std.proofs.KnownBytes.{Appends-nil}
 use Rattle.query_protocol.specs.Stored.{unstored_reading}
-use Rattle.session_model.specs.Run.{is_answered}
-use Rattle.open_queries.specs.Writing.{IsCaused}
+use Rattle.session_model.specs.Commits.{is_answered}
+use Rattle.query_protocol.specs.Replies.{reply_line}
+use Rattle.open_queries.specs.Writing.{IsCaused, Writes}
 use Rattle.session_step.specs.Moments.{moment_of}
-use Rattle.session_step.specs.Answering.{TurnIs}
+use Rattle.session_step.specs.Answering.{TurnIs, fault_reply}
 use Rattle.session_step.proofs.Here.{here_of}
-use Rattle.session_step.proofs.TurnLemmas.{turn_of, fault_step, nothing_turn, caused_turn}
+use Rattle.session_step.proofs.TurnLemmas.{turn_of, fault_step, fault_answered, nothing_turn, caused_turn}
 use Rattle.session_step.proofs.line_answer.answer.Goals as goal
 
 pub returns-in-Ok-None-clause-answers : goal.returns-in-Ok-None-clause-answers
@@ -37,6 +38,8 @@ returns-in-Ok-Some g c =
       alone = call.ensures.alone;
       config = call.ensures.config;
       shards = call.ensures.shards;
+      samples = call.ensures.samples;
+      build = call.ensures.build;
       cause = subst (IsCaused (g.K.Sink.faults c.args.sink.now) (g.K.Sink.faults call.new.sink)) (sym c.goes_on.ensures)
           (caused_turn _ _ call.result call.ensures.cause);
     }
@@ -48,9 +51,12 @@ returns-in-Err-clause-answers g c = λ line tells history s stands.
     let said = c.say-answered in
     let old = moment_of (g.D.Desk.desk c.args.desk.now) c.args.session.now c.args.meters.now c.args.upkeep.now in
     let p = here_of config old (held c.args.sink.now) line history s stands in
-    let asks = sym (c.in-Err.ensures.reads line tells).asked in
+    let reads = c.in-Err.ensures.reads line tells in
+    let has : c.is_some.result ≡ is_some c.args.session.now.build = search rules in
     subst (λ r. TurnIs r g.row.W config history s line (held c.args.sink.now) (held said.new.sink) old
     (record old { requests = c.saturating_add-session-in-Err.result })) (sym c.goes_on-in-Err.ensures)
     (turn_of p (held said.new.sink) said.result old c.saturating_add-session-in-Err.result
-    (fault_step p (held said.new.sink) said.result c.in-Err.fault asks said.ensures.written)
-    c.saturating_add-session-in-Err.ensures refl (ap is_answered asks))
+    (fault_step p (held said.new.sink) said.result c.in-Err.fault reads
+    (subst (λ r. Writes (held c.args.sink.now) (held said.new.sink) said.result (reply_line r))
+    (c.reply_to_fault-reply.ensures ∙ ap (fault_reply c.in-Err.fault) has) said.ensures.written))
+    c.saturating_add-session-in-Err.ensures refl (fault_answered p c.in-Err.fault reads))

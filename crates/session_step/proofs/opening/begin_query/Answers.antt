@@ -5,7 +5,7 @@ use Rattle.session_step.specs.Moments.{moment_of}
 use Rattle.session_step.proofs.Here.{here_of}
 use Rattle.session_step.proofs.OpenedLemmas.{open_step}
 use Rattle.session_step.specs.Questions.{ask_of}
-use Rattle.session_step.proofs.FrameLemmas.{here_opens, opened_shards}
+use Rattle.session_step.proofs.FrameLemmas.{here_opens, opened_shards, builds_open}
 use Rattle.session_step.proofs.opening.begin_query.Goals as goal
 
 pub returns-clause-answers : goal.returns-clause-answers
@@ -36,3 +36,8 @@ returns-clause-config g c = (here_opens c.args.config.now _ _ c.args.tag
     (ask_of c.args.question (take c.args.config.now.bits c.args.code)) c.args.config.now.room
     (line_of c.opened-reply.result) (c.opened-reply.ensures.opens []) c.requires.alone
     c.requires.config).1
+
+pub returns-clause-builds : goal.returns-clause-builds
+returns-clause-builds g c = builds_open _ _ c.args.tag
+    (ask_of c.args.question (take c.args.config.now.bits c.args.code)) c.args.config.now.room
+    (line_of c.opened-reply.result) (c.opened-reply.ensures.opens [])

@@ -1,12 +1,17 @@
 -- What opening a source for each shard leaves of the desk.
-use Rattle.std.proofs.Common.{◌≡◌, sym, ap, ◌∙◌, subst, take, map, None}
+use Rattle.std.proofs.Common.{◌≡◌, sym, ap, ◌∙◌, subst, take, map, List, None}
+use Rattle.std.specs.declared.alloc.Global.{Global}
+use Rattle.std.specs.declared.sync.Arc.{Arc}
 use Rattle.std.specs.List.{AllByRecursion}
 use Rattle.hit_source.specs.Sources.{Asked}
 use Rattle.scatter_gather.specs.Gathering.{gathered}
+use Rattle.shard_version.specs.Tables.{Tabled}
 use Rattle.query_opening.specs.Opening.{OpensSources, is_nearest}
+use Rattle.query_opening.specs.Pinning.{contents_of_all}
 use Rattle.session_step.specs.Questions.{ask_of, wanted_in}
 use Rattle.session_step.specs.Cursors.{asks, stands}
-use Rattle.session_step.proofs.OpeningLemmas.{code_of_ask, opens_none, opens_all, is_gathered}
+use Rattle.session_step.specs.Pinned.{PinsMore, layouts_in, pinned_in}
+use Rattle.session_step.proofs.OpeningLemmas.{code_of_ask, layouts_pinned, on_err, opens_none, opens_all, is_gathered}
 use Rattle.session_step.proofs.opening.open_all.Goals as goal
 
 pub returns-in_default-clause-none : goal.returns-in_default-clause-none
@@ -15,14 +20,21 @@ returns-in_default-clause-none g c =
     opens_none g.row.W (g.D.Desk.desk c.args.desk.now) (g.D.Desk.desk call.new.desk) c.who-who.ensures.desk
     call.ensures.desk c.requires.alone call.ensures.comes c.args.upkeep.now call.new.steps call.ensures.upkeep
 
-pub returns-in-Err-clause-none : goal.returns-in-Err-clause-none
-returns-in-Err-clause-none g c =
+pub returns-in_default-new-clause-none : goal.returns-in_default-new-clause-none
+returns-in_default-new-clause-none g c =
     let call = c.open_query in
     opens_none g.row.W (g.D.Desk.desk c.args.desk.now) (g.D.Desk.desk call.new.desk) c.who-who.ensures.desk
     call.ensures.desk c.requires.alone call.ensures.comes c.args.upkeep.now call.new.steps call.ensures.upkeep
 
-pub returns-in-Ok-new-clause-opened : goal.returns-in-Ok-new-clause-opened
-returns-in-Ok-new-clause-opened g c =
+pub returns-in_err-add-clause-none : goal.returns-in_err-add-clause-none
+returns-in_err-add-clause-none g c =
+    let call = c.open_query in
+    on_err c.from_residual.result _
+    (opens_none g.row.W (g.D.Desk.desk c.args.desk.now) (g.D.Desk.desk call.new.desk) c.who-who.ensures.desk
+    call.ensures.desk c.requires.alone call.ensures.comes c.args.upkeep.now call.new.steps call.ensures.upkeep)
+
+pub returns-clause-opened : goal.returns-clause-opened
+returns-clause-opened g c =
     let call = c.open_query in
     let old = g.D.Desk.desk c.args.desk.now in
     let new = g.D.Desk.desk call.new.desk in
@@ -44,3 +56,15 @@ returns-in-Ok-new-clause-opened g c =
     c.in-Ok.ensures.fresh c.in-Ok.ensures.one_length
     (subst (λ w. AllByRecursion (λ (a : Asked). a.near ≡ is_nearest w) (map (asks {W = g.row.W}) sources)) wanted
     c.in-Ok.ensures.one_kind)
+
+pub returns-clause-pinned : goal.returns-clause-pinned
+returns-clause-pinned g c =
+    let call = c.open_query in
+    let old = g.D.Desk.desk c.args.desk.now in
+    let new = g.D.Desk.desk call.new.desk in
+    let made = c.in-Ok.opened in
+    subst (PinsMore (pinned_in c.args.pinned.now) (pinned_in c.add.new.self))
+    (ap (λ (versions : List (Arc Tabled Global)). layouts_in (contents_of_all versions)) c.deref.ensures.value
+    ∙ layouts_pinned g.row.W old new c.who-who.ensures.desk call.ensures.desk c.requires.alone call.ensures.comes made.position
+    (contents_of_all made.versions.items) c.in-Ok.ensures.versions)
+    c.in_ok-add.ensures.added

@@ -1,4 +1,4 @@
-use Rattle.std.proofs.Common.{◌≡◌, ◌+◌, ◌-◌, ◌*◌, ◌≤◌, ◌++◌, length, map, drop}
+use Rattle.std.proofs.Common.{◌≡◌, ◌-◌, ◌*◌, ◌≤◌, ◌++◌, length, map, drop}
 use Rattle.threshold_model.specs.Splits.{threshold_of, units_total}
 use Rattle.threshold_dp.specs.Table.{pick_rows, follow}
 use Rattle.threshold_dp.proofs.table.read_out.Given as goal

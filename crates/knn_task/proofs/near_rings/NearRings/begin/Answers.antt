@@ -1,4 +1,3 @@
-use Rattle.std.proofs.Common.{ap}
 use Rattle.ring_walk.specs.NearPlanned.{near_rows, near_parts, near_query}
 use Rattle.knn_task.proofs.WalkedLemmas.{query_is, walked_begun, begins_is}
 use Rattle.knn_task.proofs.near_rings.NearRings.begin.Goals as goal

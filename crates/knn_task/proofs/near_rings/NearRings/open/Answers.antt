@@ -1,4 +1,4 @@
-use Rattle.std.proofs.Common.{◌≤◌, arith}
+use Rattle.std.proofs.Common.{arith}
 use Rattle.knn_task.proofs.WalkedLemmas.{query_is, walked_starts}
 use Rattle.knn_task.proofs.near_rings.NearRings.open.Goals as goal
 

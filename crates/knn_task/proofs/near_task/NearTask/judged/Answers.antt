@@ -1,4 +1,4 @@
-use Rattle.std.proofs.Common.{sym, ◌∙◌, arith}
+use Rattle.std.proofs.Common.{sym, ◌∙◌}
 use Rattle.knn_task.specs.Walked.{search_of, ring_at}
 use Rattle.knn_task.proofs.NearWorkLemmas.{answers_full, answers_moved}
 use Rattle.knn_task.proofs.near_task.NearTask.judged.Goals as goal

@@ -9,6 +9,6 @@ loop-list-preserved g c =
     let long = ap length same in
     let below : c.loop-list.list-index < length all = omega arith in
     let is : c.list-item.result ≡ get_or all c.loop-list.list-index c.list-item.result = rw same at c.list-item.is in
-    rw c.in-Ok-push.ensures.items
-    (map_more items_of all c.loop-list.copies.items c.loop-list.list-index c.list-item.result c.in-Ok-from_slice.copied below is
-    (c.in-Ok-from_slice.ensures.items ∙ c.as_slice.ensures.value) c.loop-list.invariant)
+    rw c.in_ok-push.ensures.items
+    (map_more items_of all c.loop-list.copies.items c.loop-list.list-index c.list-item.result c.in_ok-copied.copied below is
+    (c.in_ok-copied.ensures.items ∙ c.as_slice.ensures.value) c.loop-list.invariant)

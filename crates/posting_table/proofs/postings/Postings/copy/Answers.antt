@@ -12,9 +12,9 @@ loop-bucket-preserved g c =
     let long = ap length same in
     let below : c.loop-bucket.bucket-index < length all = omega arith in
     let is : c.bucket-item.result ≡ get_or all c.loop-bucket.bucket-index c.bucket-item.result = rw same at c.bucket-item.is in
-    rw c.in-Ok-push.ensures.items
-    (map_more (λ bucket. arc_value bucket) all c.loop-bucket.copies.items c.loop-bucket.bucket-index c.bucket-item.result c.in-Ok-clone.shared below is
-    c.in-Ok-clone.ensures.cases c.loop-bucket.invariant)
+    rw c.in_ok-push.ensures.items
+    (map_more (λ bucket. arc_value bucket) all c.loop-bucket.copies.items c.loop-bucket.bucket-index c.bucket-item.result c.in_ok-shared.shared below is
+    c.in_ok-shared.ensures.cases c.loop-bucket.invariant)
 
 pub invariant_of-result : goal.invariant_of-result
 invariant_of-result g c =

@@ -8,9 +8,9 @@ of_rest-requires g c = (search rules, (search rules, λ round. round_there c.arg
 
 pub loop-rest-preserved : goal.loop-rest-preserved
 loop-rest-preserved g c =
-    rw c.in-Ok-push.ensures.items
+    rw c.in_ok-push.ensures.items
     (bucket_dealt (held_by c.args.lists.now) c.loop-rest.buckets.items c.loop-rest.rest ((length c.args.lists.now + 256 - 1) / 256)
-    c.in_ok-bucket.bucket c.in-Ok-new.shared c.in-Ok-new.ensures.ok c.in_ok-bucket.ensures c.loop-rest.invariant)
+    c.in_ok-bucket.bucket c.in_ok-shared.shared c.in_ok-shared.ensures.ok c.in_ok-bucket.ensures c.loop-rest.invariant)
 
 pub invariant_of-result : goal.invariant_of-result
 invariant_of-result g c =

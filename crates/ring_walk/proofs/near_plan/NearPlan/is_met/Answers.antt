@@ -1,4 +1,4 @@
-use Rattle.std.proofs.Common.{◌+◌, nat_lt, length, get_or, ap, ◌∙◌, arith}
+use Rattle.std.proofs.Common.{length, get_or, ap, ◌∙◌, arith}
 use Rattle.std.proofs.lemmas.Bool.{lt-ltb, le-ltb}
 use Rattle.hamming_model.specs.Layouts.{part_distance}
 use Rattle.shard_probe.specs.Probed.{code_in}

@@ -1,4 +1,3 @@
-use Rattle.std.proofs.Common.{◌∙◌}
 use Rattle.ring_walk.proofs.NearPlanLemmas.{near_of_table}
 use Rattle.ring_walk.proofs.near_plan.NearPlan.open.Goals as goal
 

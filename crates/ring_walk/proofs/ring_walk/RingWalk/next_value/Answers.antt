@@ -1,4 +1,4 @@
-use Rattle.std.proofs.Common.{◌≡◌, ◌∷◌, length, sym, ap, ◌∙◌, subst}
+use Rattle.std.proofs.Common.{length, sym, ap, ◌∙◌, subst}
 use Rattle.ring_walk.specs.NearPlanned.{near_list}
 use Rattle.ring_walk.specs.RingWalks.{RingPlace, IsRingPlace}
 use Rattle.ring_walk.proofs.RingWalkLemmas.{value_place}

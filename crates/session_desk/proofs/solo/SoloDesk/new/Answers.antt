@@ -14,9 +14,9 @@ loop-number-preserved g c =
     let n = c.loop-number.number in
     let is : c.in_ok-shard.shard ≡ first_shard_of config n = c.in_ok-shard.ensures
     ∙ ap (λ (layout : Laid). shard_with (empty_of n config.shards layout) []) c.in_ok-layout.ensures.layout in
-    subst (λ (shards : List ShardState). AreFirstShards config shards c.push-in-loop-number.new.self.items (n + 1)) (sym c.in-Ok.ensures.items)
+    subst (λ (shards : List ShardState). AreFirstShards config shards c.push-in-loop-number.new.self.items (n + 1)) (sym c.in_ok-push.ensures.items)
     (subst (λ (pins : List (Option Pin)). AreFirstShards config (c.loop-number.shards.items ++ c.in_ok-shard.shard ∷ []) pins (n + 1))
-    (sym c.in-Ok-push.ensures.items)
+    (sym c.in_ok-push-2.ensures.items)
     (first_more config c.loop-number.shards.items c.loop-number.pins.items n c.in_ok-shard.shard c.loop-number.invariant is))
 
 pub invariant_of-result : goal.invariant_of-result

@@ -12,7 +12,8 @@ ring-requires-clause-in_width g c =
     let number = probe.values_are.number in
     let less = c.requires.part in
     let version = c.args.self.now.version in
-    let layout = c.deref-2.ensures ∙ c.layout.ensures.layout ∙ ap (λ v. v.contents.layout) c.deref.ensures ∙ ap (λ p. p.version.contents.layout) c.self.view_is in
+    let layout = c.deref-2.ensures ∙ c.layout.ensures.layout ∙ ap (λ v. v.contents.layout) c.deref.ensures
+    ∙ ap (λ p. p.version.contents.layout) c.self.view_is in
     value_small version.contents.layout.bits (parts_in version) (code_in version c.args.self.now.stored) c.self.inside.values.items
     c.args.part c.index.result.now c.width-width.result probe.probed.query.is_code probe.values_are c.requires.part
     (get_or_read c.self.inside.values.items c.args.part c.index.result.now (omega arith) c.index.ensures 0)

@@ -66,4 +66,4 @@ loop-i-preserved g c =
     c.row.ensures ∙ ap (λ (rows : List (ℕ × List ℕ)). get_or rows c.index-in-loop-i.result.now c.row.result) seen
     ∙ ap (λ (n : ℕ). get_or (bucket_at buckets next) n c.row.result) head ∙ head_row buckets are c.loop-i._i within heads taken.each next same c.row.result in
     let more = taken_more buckets are c.loop-i._i within heads taken.each next same c.loop-i.first.items taken c.row.result row in
-    (rw (c.in-Ok-push.ensures.items, own) more, (omega (arith, c.tick.ensures, c.loop-i.invariant.1.0), search rules))
+    (rw (c.in-Ok.ensures.items, own) more, (omega (arith, c.tick.ensures, c.loop-i.invariant.1.0), search rules))

@@ -9,16 +9,16 @@ insert_in-requires g c =
 
 pub invariant_of-self : goal.invariant_of-self
 invariant_of-self g c =
-    kept_same (bucket_of_key c.self.invariant c.self.view_is c.index_mut.ensures.value) c.insert_in.new.bucket c.in_default.ensures.unchanged
+    kept_same (bucket_of_key c.self.invariant c.self.view_is c.index_mut.ensures.value) c.insert_in.new.bucket c.in_err-insert_in.ensures.unchanged
 
 pub invariant_of-self-2 : goal.invariant_of-self-2
 invariant_of-self-2 g c =
     kept_added (bucket_of_key c.self.invariant c.self.view_is c.index_mut.ensures.value) c.insert_in.new.bucket c.args.code
-    c.in-Ok.ensures.added c.requires.absent
+    c.in_ok-insert_in.ensures.added c.requires.absent
 
 pub returns : goal.returns
 returns g c =
     record {
       added = seen_added (bucket_of_key c.self.invariant c.self.view_is c.index_mut.ensures.value) c.insert_in.new.bucket
-          c.args.code c.in-Ok.ensures.added;
+          c.args.code c.in_ok-insert_in.ensures.added;
     }

@@ -10,16 +10,17 @@ remove_from-requires g c =
 
 pub invariant_of-self : goal.invariant_of-self
 invariant_of-self g c =
-    kept_same (bucket_of_key c.self.invariant c.self.view_is c.index_mut.ensures.value) c.remove_from.new.bucket c.in_default.ensures.unchanged
+    kept_same (bucket_of_key c.self.invariant c.self.view_is c.index_mut.ensures.value) c.remove_from.new.bucket c.in_err-code.ensures.unchanged
 
 pub invariant_of-self-2 : goal.invariant_of-self-2
 invariant_of-self-2 g c =
-    kept_removed (bucket_of_key c.self.invariant c.self.view_is c.index_mut.ensures.value) c.remove_from.new.bucket c.in-Ok.ensures.removed c.requires.present
+    kept_removed (bucket_of_key c.self.invariant c.self.view_is c.index_mut.ensures.value) c.remove_from.new.bucket c.in_ok-code.ensures.removed
+    c.requires.present
 
 pub returns-clause-code : goal.returns-clause-code
 returns-clause-code g c =
-    sym (own_code (bucket_of_key c.self.invariant c.self.view_is c.index_mut.ensures.value)) ∙ c.in-Ok.ensures.code
+    sym (own_code (bucket_of_key c.self.invariant c.self.view_is c.index_mut.ensures.value)) ∙ c.in_ok-code.ensures.code
 
 pub returns-clause-removed : goal.returns-clause-removed
 returns-clause-removed g c =
-    seen_removed (bucket_of_key c.self.invariant c.self.view_is c.index_mut.ensures.value) c.remove_from.new.bucket c.in-Ok.ensures.removed
+    seen_removed (bucket_of_key c.self.invariant c.self.view_is c.index_mut.ensures.value) c.remove_from.new.bucket c.in_ok-code.ensures.removed

@@ -1,4 +1,4 @@
-use Rattle.std.proofs.Common.{◌≡◌, ◌+◌, ◌≤◌, [], map, get_or, sym, ap, subst, ◌∙◌}
+use Rattle.std.proofs.Common.{◌+◌, ◌≤◌, [], map, get_or, sym, ap, subst, ◌∙◌}
 use Rattle.threshold_model.specs.Splits.{threshold_of}
 use Rattle.threshold_dp.specs.Table.{pick_rows, follow}
 use Rattle.threshold_dp.specs.Radii.{RadiusPlans}

@@ -20,7 +20,8 @@ begin_each-requires g c =
 
 pub invariant_of-result : goal.invariant_of-result
 invariant_of-result g c =
-    subst (λ (version : Tabled). IsDraft version.contents (arc_value c.args.layout) c.in_ok-rows.rows.items c.in_ok-parts.parts.items 0) (sym c.in_ok-version.ensures)
+    subst (λ (version : Tabled). IsDraft version.contents (arc_value c.args.layout) c.in_ok-rows.rows.items c.in_ok-parts.parts.items 0)
+    (sym c.in_ok-version.ensures)
     (draft_begun c.args.version.now.contents (arc_value c.args.layout) c.in_ok-rows.rows.items c.layout-room.ensures.version c.in_ok-rows.ensures.rows
     c.in_ok-parts.parts.items c.requires.bits c.requires.few_words c.layout-room.ensures.tables.room c.requires.laid c.in_ok-rows.ensures.codes
     (rw (← c.deref.ensures, ← c.as_slice.ensures.value) c.in_ok-parts.ensures))

@@ -9,7 +9,7 @@ use Rattle.version_draft.proofs.draft.Draft.version.Goals as goal
 pub in_layout-requires : goal.in_layout-requires
 in_layout-requires g c =
     let version = c.self.inside.version.contents in
-    let same = sym c.in-Ok.ensures.cases in
+    let same = sym c.in_ok-layout.ensures.cases in
     let made = rw c.as_slice.ensures.value at c.in_ok-tables.ensures in
     let none = ap (λ (draft : Unfinished). draft.left) c.self.view_is ∙ c.requires in
     let done = tables_done version (arc_value c.self.inside.layout) c.self.inside.rows.items c.self.inside.parts.items c.self.inside.next c.self.invariant

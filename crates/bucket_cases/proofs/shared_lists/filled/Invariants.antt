@@ -1,0 +1,6 @@
+-- What the loop keeps: the table's width.
+use Rattle.std.proofs.Common.{◌≡◌}
+use Rattle.bucket_cases.proofs.shared_lists.filled.Given as goal
+
+abbrev pub invariant-loop-key : goal.invariant-loop-key
+invariant-loop-key g l = l.table.width ≡ l.width

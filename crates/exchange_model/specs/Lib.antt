@@ -1,0 +1,4 @@
+pub mod Exchanges
+pub mod Least
+pub mod Pairs
+pub mod Rounds

@@ -1,0 +1,45 @@
+use Rattle.std.proofs.Common.{nat_lt, [], length, get_or, ap, sym, ◌∙◌, arith, subst, Option, Some}
+use Rattle.exchange_model.specs.Exchanges.{exchanged}
+use Rattle.part_layout.specs.Laid.{Laid}
+use Rattle.exchange_model.specs.declared.position_exchange.PositionExchange.{PositionExchange}
+use Rattle.layout_search.specs.Ready.{LeavesExchanged, cost_with}
+use Rattle.exchange_model.specs.Exchanges.{exchanges_of_place}
+use Rattle.exchange_model.specs.Rounds.{first_below}
+use Rattle.layout_search.proofs.StepLemmas.{none_more, same_first, same_trans, some_first}
+use Rattle.layout_search.proofs.search.Search.first_of_part.Goals as goal
+
+pub returns-in-Some-clause-first : goal.returns-in-Some-clause-first
+returns-in-Some-clause-first g c =
+    let inv = c.loop-place.invariant in
+    let own = c.first_of_place.ensures.first ∙ same_first c.args.self.now c.loop-place.self c.args.bound inv.1 inv.2
+    (exchanges_of_place c.loop-place.self.layout.parts c.args.part c.loop-place.place)
+    ∙ ap (λ (l : Laid). first_below (cost_with c.args.self.now) c.args.self.now.layout.parts c.args.bound
+    (exchanges_of_place l.parts c.args.part c.loop-place.place)) inv.2 in
+    let end = c.width-place-end.ensures in
+    let same = ap (λ (l : Laid). length (get_or l.parts c.args.part [])) c.turn_to.ensures.layout in
+    sym (some_first (λ e. nat_lt (cost_with c.args.self.now (exchanged c.args.self.now.layout.parts e)) c.args.bound)
+    (exchanges_of_place c.args.self.now.layout.parts c.args.part) c.loop-place.place
+    (length (get_or c.args.self.now.layout.parts c.args.part [])) _ (omega arith) inv.3 (sym own ∙ c.in-Some.is))
+
+pub loop-place-preserved : goal.loop-place-preserved
+loop-place-preserved g c =
+    let inv = c.loop-place.invariant in
+    let own = c.first_of_place.ensures.first ∙ same_first c.args.self.now c.loop-place.self c.args.bound inv.1 inv.2
+    (exchanges_of_place c.loop-place.self.layout.parts c.args.part c.loop-place.place)
+    ∙ ap (λ (l : Laid). first_below (cost_with c.args.self.now) c.args.self.now.layout.parts c.args.bound
+    (exchanges_of_place l.parts c.args.part c.loop-place.place)) inv.2 in (
+      c.first_of_place.ensures.ready,
+      same_trans c.args.self.now c.loop-place.self c.first_of_place.new.self inv.1 c.first_of_place.ensures.task,
+      subst (λ (o : Option PositionExchange). LeavesExchanged c.loop-place.self.layout c.first_of_place.new.self.layout o) c.in_default.is
+          c.first_of_place.ensures.layout ∙ inv.2,
+      none_more (λ e. nat_lt (cost_with c.args.self.now (exchanged c.args.self.now.layout.parts e)) c.args.bound)
+          (exchanges_of_place c.args.self.now.layout.parts c.args.part) c.loop-place.place
+          inv.3 (sym own ∙ c.in_default.is),
+      c.first_of_place.ensures.turned c.in_default.is,
+    )
+
+pub returns-in-Some-clause-layout : goal.returns-in-Some-clause-layout
+returns-in-Some-clause-layout g c =
+    subst (λ (l : Laid). LeavesExchanged l c.first_of_place.new.self.layout (Some c.in-Some.exchange)) c.loop-place.invariant.2
+    (subst (λ (o : Option PositionExchange). LeavesExchanged c.loop-place.self.layout c.first_of_place.new.self.layout o) c.in-Some.is
+    c.first_of_place.ensures.layout)

@@ -1,0 +1,12 @@
+pub mod ReadingLemmas
+pub mod SpellingLemmas
+pub mod WalkLemmas
+pub mod AddLemmas
+pub mod QueryLemmas
+pub mod QuitLemmas
+pub mod AnswerLemmas
+pub mod LoadLemmas
+pub mod WrittenLemmas
+pub mod RequestLemmas
+pub mod LawLemmas
+pub mod BoundLemmas

@@ -1,0 +1,5 @@
+pub mod BuildLemmas
+pub mod EndLemmas
+pub mod FollowLemmas
+pub mod FrontLemmas
+pub mod SwapLemmas

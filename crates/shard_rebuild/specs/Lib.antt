@@ -1,0 +1,4 @@
+pub mod Fronting
+pub mod Searching
+pub mod ShardBuilds
+pub mod Swapping
