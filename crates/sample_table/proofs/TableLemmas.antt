@@ -1,9 +1,8 @@
 -- Tables with parts counted anew, and the least costs over them.
 use Rattle.std.proofs.Common.{◌≡◌, ℕ, zero, suc, ◌+◌, ◌-◌, ◌<◌, ◌≤◌, min, cond, inl, inr, List, [], ◌∷◌, length, get_or, set, refl, sym, ◌∙◌, ap, arith, subst}
 use Rattle.std.proofs.lemmas.Bool.{cases_eq, cases_lt, lt-ltb, le-ltb}
-use Rattle.std.proofs.lemmas.List.{get_or-set_same, get_or-set_other, get_or-map, length-map, length-set, map-set, with_items_is}
+use Rattle.std.proofs.lemmas.List.{get_or-set_same, get_or-set_other, get_or-map, length-map, length-set, map-set}
 use Rattle.std.specs.Global.{Vec}
-use Rattle.std.specs.Vec.{with_items}
 use Rattle.exchange_model.specs.Least.{IsLeastSum, least_cost}
 use Rattle.exchange_model.specs.declared.limits.TheConstants.{SEARCH_ROWS_MOST}
 use Rattle.exchange_model.specs.Pairs.{counts_beside, counts_of_pair, least_beside, place_beside}

@@ -1,10 +1,6 @@
-use Rattle.std.proofs.Common.{◌≡◌, ◌+◌, ◌-◌, ◌∙◌, ℕ, List, [], ◌∷◌, length, ap, refl, sym, subst, arith}
-use Rattle.std.specs.Global.{Vec}
-use Rattle.std.proofs.lemmas.List.{length-map}
+use Rattle.std.proofs.Common.{◌≡◌, ◌+◌, ◌-◌, ◌∙◌, [], ◌∷◌, length, ap, subst, arith}
 use Rattle.exchange_model.specs.Least.{IsLeastSum}
-use Rattle.sample_table.specs.Kept.{sample_table_of}
-use Rattle.sample_table.specs.Levels.{IsTurnedTo, PairTable, levels_of, least_of_levels, with_part}
-use Rattle.sample_table.specs.Sums.{IsCountRow, IsLeastJoint, counts_in}
+use Rattle.sample_table.specs.Sums.{counts_in}
 use Rattle.sample_table.proofs.TableLemmas.{row_counts, row_read, rows_number}
 use Rattle.sample_table.proofs.TrialLemmas.{tried_by_three, tried_by_two}
 use Rattle.sample_table.proofs.sample_table.SampleTable.least_with.Goals as goal
