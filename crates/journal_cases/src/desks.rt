@@ -5,6 +5,7 @@ ghost use Rattle.hamming_model.specs.declared.limits.TheConstants.{ENTRIES_MOST,
 ghost use Rattle.entry_log.specs.Entries.{kept_operation};
 ghost use Rattle.session_desk.specs.Calls.{KeepsKnown};
 ghost use Rattle.session_desk.specs.Desks.{IsOwnFront};
+ghost use Rattle.shard_rebuild.specs.ShardBuilds.{SeesMore};
 
 use commit_journal::{Decided, Front};
 use entry_log::{Decision, Op};
@@ -15,6 +16,7 @@ use query_opening::{Wanted, open_query};
 use read_meter::{Steps, upkeep};
 use search_model::stored_rows_search_alike;
 use session_desk::{Desk, SoloDesk};
+use shard_rebuild::builds_stay_with_their_shard;
 use std::alloc::Global;
 use std::process::Abort;
 use std::test::Fail;
@@ -24,7 +26,7 @@ use std::test::Fail;
 struct Reads;
 
 // A desk of codes of 8 bits in two parts.
-fn small_desk<R: Abort>(rt: &R, alloc: Global, shards: u32, entries: u64) -> SoloDesk<1>
+pub(crate) fn small_desk<R: Abort>(rt: &R, alloc: Global, shards: u32, entries: u64) -> SoloDesk<1>
     requires some { 1 ≤ shards }
     requires few { shards ≤ SHARDS_MOST }
     requires some_entries { 1 ≤ entries }
@@ -44,7 +46,7 @@ fn small_desk<R: Abort>(rt: &R, alloc: Global, shards: u32, entries: u64) -> Sol
 }
 
 // The code of 8 bits that two digits spell.
-fn spelled<R: Abort>(rt: &R, text: &[u8]) -> Code<1>
+pub(crate) fn spelled<R: Abort>(rt: &R, text: &[u8]) -> Code<1>
     ensures { StandsFor 1 8 result (take 8 result) }
 {
     stored_rows_search_alike();
@@ -55,13 +57,15 @@ fn spelled<R: Abort>(rt: &R, text: &[u8]) -> Code<1>
 }
 
 // Commits an operation, and compares what became of it.
-fn commit<R: Abort, D: Desk<1>>(rt: &R, desk: &mut D, op: Op<1>, decision: Decision, position: u64)
+pub(crate) fn commit<R: Abort, D: Desk<1>>(rt: &R, desk: &mut D, op: Op<1>, decision: Decision, position: u64)
     requires bits { (D.desk desk.old).config.bits ≡ 8 }
     requires stored { IsStoredOperation 1 8 (kept_operation op) }
     ensures config { (D.desk desk.new).config ≡ (D.desk desk.old).config }
     ensures fronts { (D.desk desk.new).fronts ≡ (D.desk desk.old).fronts }
     ensures known { KeepsKnown (D.desk desk.new) (D.knows desk.old) (D.knows desk.new) }
+    ensures sees { SeesMore (D.desk desk.old) (D.desk desk.new) }
 {
+    builds_stay_with_their_shard();
     let decided = desk.commit(op).expect(rt, "memory for an entry");
     let is_decided = decided == Decided { decision, position };
     assert!(rt; is_decided, "{position}");
@@ -89,12 +93,12 @@ fn a_solo_desk_decides_and_tells_its_rows(rt: HostRuntime) -> Result<(), Fail> {
 }
 
 // Pins the first shard at a front, compares the rows, and closes the front.
-fn pin_and_close<R: Abort, D: Desk<1>>(
+pub(crate) fn pin_and_close<R: Abort, D: Desk<1>, M>(
     rt: &R,
     desk: &mut D,
     front: Front<1>,
     rows: u64,
-    steps: &mut Steps<Reads>,
+    steps: &mut Steps<M>,
 )
     requires own { IsOwnFront (D.desk desk.old) front }
     requires knows { D.knows desk.old front }
