@@ -9,17 +9,17 @@ use Rattle.layout_search.specs.Improves.{AreSamples, plain_sample}
 use Rattle.session_model.specs.Ledger.{Ledgers}
 use Rattle.session_model.specs.Outside.{Call}
 use Rattle.gph_session.specs.Sessions.{Told, state_of}
-use Rattle.session_step.specs.declared.shard_build.ShardBuild.{ShardBuild}
-use Rattle.session_step.specs.KeptBuild.{MeansBuild, StandsFrom, left_in}
-use Rattle.session_step.specs.Moments.{Moment, Spends}
-use Rattle.session_step.specs.Meaning.{AllKeep, IsReady, Means}
+use Rattle.open_session.specs.declared.shard_build.ShardBuild.{ShardBuild}
+use Rattle.open_session.specs.KeptBuild.{MeansBuild, StandsFrom, left_in}
+use Rattle.open_session.specs.Moments.{Moment, Spends}
+use Rattle.open_session.specs.Meaning.{AllKeep, IsReady, Means}
 use Rattle.gph_session.specs.Flow.{HasBegunWith}
 use Rattle.gph_session.specs.declared.report.Status.{Status}
 use Rattle.gph_session.specs.Serving.{EndsAs}
-use Rattle.session_step.proofs.MomentLemmas.{reads_still, spends_still, as_long}
-use Rattle.session_step.proofs.MomentLemmas.{desk_keeps}
-use Rattle.session_step.proofs.SwapInLemmas.{are_layouts}
-use Rattle.session_step.proofs.WholeLemmas.{leaves}
+use Rattle.open_session.proofs.MomentLemmas.{reads_still, spends_still, as_long}
+use Rattle.open_session.proofs.MomentLemmas.{desk_keeps}
+use Rattle.open_session.proofs.DeskLemmas.{are_layouts}
+use Rattle.open_session.proofs.WholeLemmas.{leaves}
 
 -- ---- a session before its first byte
 

@@ -19,10 +19,10 @@ use Rattle.session_model.specs.State.{State}
 use Rattle.session_model.specs.Run.{before_quit}
 use Rattle.session_step.specs.declared.turn.Turn.{Turn}
 use Rattle.session_step.specs.declared.turn.Turn.TheVariants.{Goes, Quits}
-use Rattle.session_step.specs.Moments.{Moment}
+use Rattle.open_session.specs.Moments.{Moment}
 use Rattle.gph_session.specs.Flow.{Start, GoesOn}
 use Rattle.gph_session.specs.Pieces.{HasServed, HasEnded, WasRefused}
-use Rattle.session_step.specs.Steps.{Stands}
+use Rattle.open_session.specs.Steps.{Stands}
 use Rattle.gph_session.specs.Flow.{history_after}
 use Rattle.gph_session.specs.Pieces.{FlowIs, FlowsOn, EndIs}
 use Rattle.session_step.specs.Answering.{TurnIs, AnswersAs}

@@ -35,17 +35,17 @@ use Rattle.session_model.proofs.RunLemmas.{before_answered, quit_answered, befor
 use Rattle.session_step.specs.declared.turn.Turn.{Turn}
 use Rattle.session_step.specs.declared.turn.Turn.TheVariants.{Goes}
 use Rattle.gph_session.specs.Sessions.{IsServed, RisesByCount, state_of}
-use Rattle.session_step.specs.KeptBuild.{StandsFrom, left_in}
-use Rattle.session_step.specs.KeptDesk.{LeavesDesk, pins_of}
-use Rattle.session_step.specs.Moments.{Moment, ReadsTo, Spends}
-use Rattle.session_step.specs.Meaning.{Means, IsSettled, AllKeep}
+use Rattle.open_session.specs.KeptBuild.{StandsFrom, left_in}
+use Rattle.open_session.specs.KeptDesk.{LeavesDesk, pins_of}
+use Rattle.open_session.specs.Moments.{Moment, ReadsTo, Spends}
+use Rattle.open_session.specs.Meaning.{Means, IsSettled, AllKeep}
 use Rattle.session_step.specs.Answering.{OneLine}
 use Rattle.gph_session.specs.Flow.{Start, HasRun, GoesOn, told_by}
 use Rattle.gph_session.specs.Pieces.{HasServed, HasEnded, WasRefused}
 use Rattle.session_step.specs.Answering.{requests_with}
-use Rattle.session_step.specs.Steps.{Stands}
+use Rattle.open_session.specs.Steps.{Stands}
 use Rattle.gph_session.specs.Flow.{history_after}
-use Rattle.session_step.proofs.MomentLemmas.{reads_then, spends_then, others_more, as_long}
+use Rattle.open_session.proofs.MomentLemmas.{reads_then, spends_then, others_more, as_long}
 
 -- ---- what a state's queries have read
 

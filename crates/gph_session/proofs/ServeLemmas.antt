@@ -22,7 +22,7 @@ use Rattle.session_model.proofs.RunLemmas.{before_more, no_quit_in_front}
 use Rattle.session_step.specs.declared.turn.Turn.{Turn}
 use Rattle.session_step.specs.declared.turn.Turn.TheVariants.{Goes, Quits}
 use Rattle.gph_session.specs.Sessions.{IsServed}
-use Rattle.session_step.specs.Moments.{Moment}
+use Rattle.open_session.specs.Moments.{Moment}
 use Rattle.gph_session.specs.Flow.{Start, GoesOn, told_by}
 use Rattle.gph_session.specs.Pieces.{FlowIs, FlowsOn, EndIs, EndsOn}
 use Rattle.gph_session.specs.Pieces.{HasEnded, HasServed, WasRefused}

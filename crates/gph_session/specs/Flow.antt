@@ -18,12 +18,12 @@ use Rattle.session_model.specs.Told.{pinned_by}
 use Rattle.session_model.specs.Run.{Run, IsAlone}
 use Rattle.session_model.specs.Commits.{commits}
 use Rattle.session_model.specs.Run.{written_text, lines_of}
-use Rattle.session_step.specs.Moments.{Moment, ReadsTo, Spends}
-use Rattle.session_step.specs.Meaning.{Means, AllKeep, IsSettled}
-use Rattle.session_step.specs.Pinned.{TellsPinned}
-use Rattle.session_step.specs.KeptBuild.{MeansBuild, StandsFrom, left_in}
-use Rattle.session_step.specs.KeptDesk.{LeavesDesk}
-use Rattle.session_step.specs.Samples.{MeansSamples}
+use Rattle.open_session.specs.Moments.{Moment, ReadsTo, Spends}
+use Rattle.open_session.specs.Meaning.{Means, AllKeep, IsSettled}
+use Rattle.open_session.specs.Pinned.{TellsPinned}
+use Rattle.open_session.specs.KeptBuild.{MeansBuild, StandsFrom, left_in}
+use Rattle.open_session.specs.KeptDesk.{LeavesDesk}
+use Rattle.open_session.specs.Samples.{MeansSamples}
 use Rattle.gph_session.specs.Sessions.{RisesByCount, Told, state_of}
 
 -- what a session began with

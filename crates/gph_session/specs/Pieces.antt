@@ -10,10 +10,10 @@ use Rattle.session_model.specs.Run.{AnswersLines, IsRefused}
 use Rattle.session_model.specs.Run.{before_quit, has_quit}
 use Rattle.session_step.specs.declared.turn.Turn.{Turn}
 use Rattle.session_step.specs.declared.turn.Turn.TheVariants.{Goes, Quits}
-use Rattle.session_step.specs.Moments.{Moment}
+use Rattle.open_session.specs.Moments.{Moment}
 use Rattle.gph_session.specs.Sessions.{IsServed}
 use Rattle.gph_session.specs.Flow.{Start, GoesOn, told_by}
-use Rattle.session_step.specs.Moments.{Point}
+use Rattle.open_session.specs.Moments.{Point}
 
 -- a session that began so answers these lines by that output
 pub record HasServed {W : ℕ} (config : Config) (start : Start) (now : Moment W)

@@ -11,7 +11,7 @@ use Rattle.gph_session.specs.declared.report.Status.{Status}
 use Rattle.gph_session.specs.declared.report.Status.TheVariants.{Done, ReadFault, WriteFault}
 use Rattle.gph_session.specs.declared.report.Status.TheVariants.{NoMemory, InputLimit}
 use Rattle.gph_session.specs.Sessions.{IsServed, Told}
-use Rattle.session_step.specs.Moments.{Moment}
+use Rattle.open_session.specs.Moments.{Moment}
 use Rattle.gph_session.specs.Flow.{GoesOn, Start}
 
 -- so many bytes were read and all whole lines of them answered, and no fault rose

@@ -5,21 +5,22 @@ ghost use Rattle.std.specs.Thread.{IsSync};
 ghost use Rattle.session_model.specs.declared.limits.TheConstants.{BLOCK_MOST};
 ghost use Rattle.session_model.specs.Outside.{call};
 ghost use Rattle.layout_search.specs.Improves.{AreSamples};
-ghost use Rattle.session_step.specs.KeptBuild.{IsBuildOfDesk};
-ghost use Rattle.session_step.specs.Meaning.{IsReady, HaveShards};
+ghost use Rattle.open_session.specs.KeptBuild.{IsBuildOfDesk};
+ghost use Rattle.open_session.specs.Meaning.{IsReady, HaveShards};
 ghost use Rattle.gph_session.specs.Flow.{HasBegunWith, told_by};
-ghost use Rattle.session_step.specs.Moments.{moment_of};
+ghost use Rattle.open_session.specs.Moments.{moment_of};
 ghost use Rattle.gph_session.specs.Serving.{EndsAs};
 
 use crate::block::{answer_block, answer_end};
 use crate::report::Status;
 use line_io::{Failed, Sink, Source};
+use open_session::Session;
 use part_layout::Config;
 use read_meter::{Meters, Steps};
 use scatter_gather::Gate;
 use session_desk::Desk;
 use session_model::BLOCK_MOST;
-use session_step::{Session, Turn};
+use session_step::Turn;
 use std::alloc::Global;
 use std::thread::Threads;
 

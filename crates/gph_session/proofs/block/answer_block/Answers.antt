@@ -2,7 +2,7 @@
 use Rattle.std.proofs.Common.{◌≡◌, ◌-◌, ◌++◌, length, take, drop}
 use Rattle.std.proofs.Common.{refl, ◌∙◌, subst, arith, rules}
 use Rattle.std.proofs.lemmas.List.{take_all, length-drop, length-take}
-use Rattle.session_step.specs.Moments.{moment_of}
+use Rattle.open_session.specs.Moments.{moment_of}
 use Rattle.gph_session.specs.Flow.{GoesOn}
 use Rattle.gph_session.proofs.BlockLemmas.{goes_then, quits_then, refused_then, still_goes}
 use Rattle.gph_session.proofs.block.answer_block.Goals as goal

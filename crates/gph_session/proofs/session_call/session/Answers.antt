@@ -3,14 +3,14 @@ use Rattle.std.proofs.Common.{◌≡◌, [], None, sym, ap, ◌∙◌, map, subs
 use Rattle.std.proofs.lemmas.Result.{IfOk-at_ok}
 use Rattle.byte_lines.specs.Cut.{held_of}
 use Rattle.session_desk.specs.Desks.{DeskState, IsDesk}
-use Rattle.session_step.specs.declared.open_session.Session.{Session}
+use Rattle.open_session.specs.declared.open_session.Session.{Session}
 use Rattle.gph_session.specs.declared.report.Status.TheVariants as status
 use Rattle.layout_search.specs.Improves.{AreSamples}
-use Rattle.session_step.specs.KeptBuild.{IsBuildOfDesk}
-use Rattle.session_step.specs.Meaning.{HaveShards}
-use Rattle.session_step.specs.Moments.{moment_of}
-use Rattle.session_step.specs.Pinned.{told_layout}
-use Rattle.session_step.proofs.MomentLemmas.{learns_nothing}
+use Rattle.open_session.specs.KeptBuild.{IsBuildOfDesk}
+use Rattle.open_session.specs.Meaning.{HaveShards}
+use Rattle.open_session.specs.Moments.{moment_of}
+use Rattle.open_session.specs.Pinned.{told_layout}
+use Rattle.open_session.proofs.MomentLemmas.{learns_nothing}
 use Rattle.gph_session.proofs.BegunLemmas.{begun_session, is_ready, ended_as, no_samples}
 use Rattle.gph_session.proofs.session_call.session.Goals as goal
 

@@ -5,9 +5,9 @@ use Rattle.query_protocol.specs.Stored.{unstored_reading}
 use Rattle.session_model.specs.Commits.{is_answered}
 use Rattle.query_protocol.specs.Replies.{reply_line}
 use Rattle.open_queries.specs.Writing.{IsCaused, Writes}
-use Rattle.session_step.specs.Moments.{moment_of}
+use Rattle.open_session.specs.Moments.{moment_of}
 use Rattle.session_step.specs.Answering.{TurnIs, fault_reply}
-use Rattle.session_step.proofs.Here.{here_of}
+use Rattle.open_session.proofs.Here.{here_of}
 use Rattle.session_step.proofs.TurnLemmas.{turn_of, fault_step, fault_answered, nothing_turn, caused_turn}
 use Rattle.session_step.proofs.line_answer.answer.Goals as goal
 
