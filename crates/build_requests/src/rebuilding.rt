@@ -8,7 +8,7 @@ ghost use Rattle.query_protocol.specs.Replies.{line_of};
 ghost use Rattle.query_protocol.specs.Stored.{IsLaidFor};
 ghost use Rattle.open_queries.specs.Writing.{IsCaused};
 ghost use Rattle.session_desk.specs.Desks.{DeskState};
-ghost use Rattle.open_session.specs.Steps.{AnswersRequest};
+ghost use Rattle.open_session.specs.Steps.{AnswersOnBuild};
 ghost use Rattle.open_session.specs.KeptBuild.{IsBuildOfDesk};
 ghost use Rattle.open_session.specs.Meaning.{IsReady};
 ghost use Rattle.open_session.specs.Moments.{moment_of};
@@ -43,10 +43,9 @@ pub fn start<const W: usize, D: Desk<W>, K: Sink, M>(
     requires build { IsBuildOfDesk (D.desk desk.old) session.old.build }
     requires shard { shard < config.now.shards }
     requires layout { IsLaidFor config.now.bits layout }
-    ensures answers { (reads : List ℕ) → AnswersRequest (Repart shard layout.parts) result
-        config.now (K.held sink.old) (K.held sink.new)
-        (moment_of (D.desk desk.old) session.old reads upkeep.old)
-        (moment_of (D.desk desk.new) session.new reads upkeep.new) }
+    ensures answers { AnswersOnBuild (Repart shard layout.parts) result config.now
+        (D.desk desk.old) (D.desk desk.new) session.old session.new upkeep.old upkeep.new
+        (K.held sink.old) (K.held sink.new) }
     ensures build { IsBuildOfDesk (D.desk desk.new) session.new.build }
     ensures cutter { session.new.cutter ≡ session.old.cutter }
     ensures samples { session.new.samples ≡ session.old.samples }
@@ -71,9 +70,8 @@ fn started<const W: usize, D: Desk<W>, M>(
 ) -> Reply
     requires shard { shard < (D.desk desk.old).config.shards }
     requires layout { IsLaidFor (D.desk desk.old).config.bits layout }
-    ensures starts { (reads : List ℕ) →
-        StartsAs W (moment_of (D.desk desk.old) session.old reads upkeep.old)
-        (moment_of (D.desk desk.new) session.new reads upkeep.new) shard layout
+    ensures starts { (reads : List ℕ) → StartsAs W (moment_of (D.desk desk.old) session.old reads
+        upkeep.old) (moment_of (D.desk desk.new) session.new reads upkeep.new) shard layout
         (line_of result) }
     ensures cutter { session.new.cutter ≡ session.old.cutter }
     ensures samples { session.new.samples ≡ session.old.samples }
@@ -102,15 +100,14 @@ fn started<const W: usize, D: Desk<W>, M>(
 pub fn place<const W: usize, K: Sink, M>(
     config: &Config,
     session: &mut Session<W>,
-    n: u32,
+    rows_most: u32,
     sink: &mut K,
     upkeep: &mut Steps<M>,
 ) -> Result<(), Failed>
     requires ready { IsReady W config.now }
-    ensures answers { (desk : DeskState) (reads : List ℕ) → desk.alone ≡ true →
-        AnswersRequest (Build n) result config.now (K.held sink.old) (K.held sink.new)
-        (moment_of desk session.old reads upkeep.old)
-        (moment_of desk session.new reads upkeep.new) }
+    ensures answers { (desk : DeskState) → desk.alone ≡ true →
+        AnswersOnBuild (Build rows_most) result config.now desk desk session.old session.new
+        upkeep.old upkeep.new (K.held sink.old) (K.held sink.new) }
     ensures build { (desk : DeskState) → IsBuildOfDesk desk session.old.build →
         IsBuildOfDesk desk session.new.build }
     ensures cutter { session.new.cutter ≡ session.old.cutter }
@@ -119,16 +116,20 @@ pub fn place<const W: usize, K: Sink, M>(
     ensures queries { session.new.queries ≡ session.old.queries }
     ensures cause { IsCaused (K.faults sink.old) (K.faults sink.new) result }
 {
-    let reply = placed(session, n, upkeep);
+    let reply = placed(session, rows_most, upkeep);
     say(&mut session.out, sink, &reply)
 }
 
 // Places rows of the build, and tells the reply.
-fn placed<const W: usize, M>(session: &mut Session<W>, n: u32, upkeep: &mut Steps<M>) -> Reply
+fn placed<const W: usize, M>(
+    session: &mut Session<W>,
+    rows_most: u32,
+    upkeep: &mut Steps<M>,
+) -> Reply
     requires { W ≤ WORDS_MOST }
     ensures places { (desk : DeskState) (reads : List ℕ) →
         PlacesAs W (moment_of desk session.old reads upkeep.old)
-        (moment_of desk session.new reads upkeep.new) n (line_of result) }
+        (moment_of desk session.new reads upkeep.new) rows_most (line_of result) }
     ensures cutter { session.new.cutter ≡ session.old.cutter }
     ensures samples { session.new.samples ≡ session.old.samples }
     ensures requests { session.new.requests ≡ session.old.requests }
@@ -137,7 +138,7 @@ fn placed<const W: usize, M>(session: &mut Session<W>, n: u32, upkeep: &mut Step
     let Some(ShardBuild { shard, mut build }) = session.build.take() else {
         return Reply::Bad(Bad::other_build());
     };
-    build.step(n, upkeep);
+    build.step(rows_most, upkeep);
     let left = build.left();
     session.build = Some(ShardBuild { shard, build });
     Reply::Built { shard, left }
@@ -156,10 +157,8 @@ pub fn swap<const W: usize, D: Desk<W>, K: Sink, M>(
     requires alone { (D.desk desk.old).alone ≡ true }
     requires config { (D.desk desk.old).config ≡ config.now }
     requires build { IsBuildOfDesk (D.desk desk.old) session.old.build }
-    ensures answers { (reads : List ℕ) → AnswersRequest Swap result config.now
-        (K.held sink.old) (K.held sink.new)
-        (moment_of (D.desk desk.old) session.old reads upkeep.old)
-        (moment_of (D.desk desk.new) session.new reads upkeep.new) }
+    ensures answers { AnswersOnBuild Swap result config.now (D.desk desk.old) (D.desk desk.new)
+        session.old session.new upkeep.old upkeep.new (K.held sink.old) (K.held sink.new) }
     ensures build { IsBuildOfDesk (D.desk desk.new) session.new.build }
     ensures cutter { session.new.cutter ≡ session.old.cutter }
     ensures samples { session.new.samples ≡ session.old.samples }

@@ -8,7 +8,7 @@ ghost use Rattle.open_queries.specs.Writing.{IsCaused};
 ghost use Rattle.open_session.specs.KeptBuild.{KeepsBuilds};
 ghost use Rattle.open_session.specs.Meaning.{IsReady};
 ghost use Rattle.open_session.specs.Moments.{moment_of};
-ghost use Rattle.open_session.specs.PlainSteps.{AnswersPlainly};
+ghost use Rattle.open_session.specs.PlainSteps.{AnswersUnread};
 ghost use Rattle.build_requests.specs.Searching.{HasSearched, LacksSearch};
 
 use layout_search::Found;
@@ -38,10 +38,9 @@ pub fn search<const W: usize, D: Desk<W>, K: Sink, M>(
     requires samples { AreSamples config.now.bits session.old.samples }
     requires shard { shard < config.now.shards }
     requires rounds { AreRounds rounds }
-    ensures answers { (reads : List ℕ) → AnswersPlainly (Search shard rounds) result config.now
-        (K.held sink.old) (K.held sink.new)
-        (moment_of (D.desk desk.old) session.old reads upkeep.old)
-        (moment_of (D.desk desk.new) session.new reads upkeep.new) }
+    ensures answers { AnswersUnread (Search shard rounds) result config.now (D.desk desk.old)
+        (D.desk desk.new) session.old session.new upkeep.old upkeep.new
+        (K.held sink.old) (K.held sink.new) }
     ensures cutter { session.new.cutter ≡ session.old.cutter }
     ensures requests { session.new.requests ≡ session.old.requests }
     ensures queries { session.new.queries ≡ session.old.queries }
@@ -82,10 +81,9 @@ fn searched<const W: usize, D: Desk<W>, M>(
     requires shard { shard < (D.desk desk.old).config.shards }
     requires samples { AreSamples (D.desk desk.old).config.bits session.old.samples }
     requires rounds { AreRounds rounds }
-    ensures found { (reads : List ℕ) → IfOk result (λ found.
-        HasSearched W (moment_of (D.desk desk.old) session.old reads upkeep.old)
-        (moment_of (D.desk desk.new) session.new reads upkeep.new) shard rounds
-        found.0 found.1) }
+    ensures found { (reads : List ℕ) → IfOk result (λ found. HasSearched W
+        (moment_of (D.desk desk.old) session.old reads upkeep.old) (moment_of (D.desk desk.new)
+        session.new reads upkeep.new) shard rounds found.0 found.1) }
     ensures none { (reads : List ℕ) → OnErr result (LacksSearch W
         (moment_of (D.desk desk.old) session.old reads upkeep.old)
         (moment_of (D.desk desk.new) session.new reads upkeep.new) shard) }

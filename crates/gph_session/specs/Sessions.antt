@@ -7,8 +7,7 @@ use Rattle.session_model.specs.Builds.{swaps_of}
 use Rattle.session_model.specs.State.{State, new_session}
 use Rattle.session_model.specs.Entries.{Exchange}
 use Rattle.session_model.specs.Ledger.{Rise}
-use Rattle.session_model.specs.Commits.{commits}
-use Rattle.session_model.specs.Commits.{requests_of}
+use Rattle.session_model.specs.Commits.{commits, requests_of}
 use Rattle.session_model.specs.Run.{IsServedAlone}
 use Rattle.session_model.specs.Told.{ToldLayout, layouts_told}
 use Rattle.open_session.specs.Pinned.{told_layout}

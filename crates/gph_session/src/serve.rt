@@ -7,7 +7,7 @@ ghost use Rattle.session_model.specs.Outside.{call};
 ghost use Rattle.layout_search.specs.Improves.{AreSamples};
 ghost use Rattle.open_session.specs.KeptBuild.{IsBuildOfDesk};
 ghost use Rattle.open_session.specs.Meaning.{IsReady, HaveShards};
-ghost use Rattle.gph_session.specs.Flow.{HasBegunWith, told_by};
+ghost use Rattle.gph_session.specs.Flow.{HasBegunWith, told_so_far};
 ghost use Rattle.open_session.specs.Moments.{moment_of};
 ghost use Rattle.gph_session.specs.Serving.{EndsAs};
 
@@ -57,10 +57,9 @@ pub(crate) fn serve<
     requires room { length block.old ≡ BLOCK_MOST }
     requires new { HasBegunWith config.now
         (moment_of (D.desk desk.old) session.old meters.old upkeep.old) session.old.cutter.held }
-    ensures { EndsAs result config.now (D.desk desk.old) (D.desk desk.new)
-        (told_by (moment_of (D.desk desk.new) session.new meters.new upkeep.new))
-        (call S.left S.faults K.held K.faults source.old source.new
-        sink.old sink.new meters.old meters.new upkeep.old upkeep.new) }
+    ensures { EndsAs result config.now (D.desk desk.old) (D.desk desk.new) (told_so_far (moment_of
+        (D.desk desk.new) session.new meters.new upkeep.new)) (call S.left S.faults K.held K.faults
+        source.old source.new sink.old sink.new meters.old meters.new upkeep.old upkeep.new) }
 {
     let limit = config.input;
     let mut taken: u64 = 0;

@@ -69,3 +69,11 @@ abbrev pub AnswersUncounted : {A : Type 0} {W : ℕ} → LineRequest → Result 
 AnswersUncounted asked result config desk desk' session session' before after =
     (reads : List ℕ) (upkeep : ℕ) → AnswersPlainly asked result config before after
     (moment_of desk session reads upkeep) (moment_of desk' session' reads upkeep)
+
+-- a request is answered so that reads no posting, while shards may follow entries
+abbrev pub AnswersUnread : {A : Type 0} {W : ℕ} → LineRequest → Result A Failed → Config
+    → DeskState → DeskState → Session W → Session W → ℕ → ℕ → Option (List ℕ) → Option (List ℕ)
+    → Type 0
+AnswersUnread asked result config desk desk' session session' upkeep upkeep' before after =
+    (reads : List ℕ) → AnswersPlainly asked result config before after
+    (moment_of desk session reads upkeep) (moment_of desk' session' reads upkeep')

@@ -8,6 +8,7 @@ use Rattle.query_protocol.specs.Requests.{LineRequest}
 use Rattle.query_protocol.specs.Lines.{reading}
 use Rattle.query_protocol.specs.Replies.{LineReply, text}
 use Rattle.session_desk.specs.Calls.{one_more}
+use Rattle.session_desk.specs.Desks.{DeskState}
 use Rattle.session_model.specs.State.{State, open_queries}
 use Rattle.session_model.specs.Builds.{was_moved, was_swapped}
 use Rattle.session_model.specs.Entries.{Exchange}
@@ -21,7 +22,8 @@ use Rattle.open_session.specs.KeptBuild.{MeansBuild, StandsFrom, left_in}
 use Rattle.open_session.specs.KeptDesk.{LeavesDesk}
 use Rattle.open_session.specs.Meaning.{Means, AllKeep, IsSettled}
 use Rattle.open_session.specs.Pinned.{TellsPinned}
-use Rattle.open_session.specs.Moments.{Moment, Point, ReadsTo, Spends}
+use Rattle.open_session.specs.Moments.{Moment, Point, ReadsTo, Spends, moment_of}
+use Rattle.open_session.specs.declared.open_session.Session.{Session}
 use Rattle.open_session.specs.Samples.{MeansSamples}
 
 -- a moment means a state, in the history so far
@@ -85,3 +87,11 @@ abbrev pub AnswersBetween : {A : Type 0} {W : ℕ} → LineRequest → Result A 
     → Point W → Point W → Type 0
 AnswersBetween asked result config old new =
     AnswersRequest asked result config old.written new.written old.moment new.moment
+
+-- a request on builds is answered so over a desk: no query reads a posting
+abbrev pub AnswersOnBuild : {A : Type 0} {W : ℕ} → LineRequest → Result A Failed → Config
+    → DeskState → DeskState → Session W → Session W → ℕ → ℕ → Option (List ℕ) → Option (List ℕ)
+    → Type 0
+AnswersOnBuild asked result config desk desk' session session' upkeep upkeep' before after =
+    (reads : List ℕ) → AnswersRequest asked result config before after
+    (moment_of desk session reads upkeep) (moment_of desk' session' reads upkeep')

@@ -67,10 +67,9 @@ impl PinnedLayouts {
     // Adds the layout that a query pinned on a shard, unless it is the last of the shard among so many.
     fn add_one(&mut self, known: usize, shard: u32, layout: &Arc<Layout>) -> Result<(), NoMemory>
         requires known { known ≤ length self.old.told.items }
-        ensures added { OnOk result (map told_layout self.new.told.items
-            ≡ map told_layout self.old.told.items
-            ++ told_next (map told_layout (take known self.old.told.items)) self.old.opened shard
-            (arc_value layout.now).parts) }
+        ensures added { OnOk result (map told_layout self.new.told.items ≡ map told_layout
+            self.old.told.items ++ told_next (map told_layout (take known self.old.told.items))
+            self.old.opened shard (arc_value layout.now).parts) }
         ensures front { take known self.new.told.items ≡ take known self.old.told.items }
         ensures longer { length self.old.told.items ≤ length self.new.told.items }
         ensures opened { self.new.opened ≡ self.old.opened }

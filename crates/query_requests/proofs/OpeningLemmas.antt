@@ -87,6 +87,11 @@ beyond_most (pin ∷ pins) position = omega (arith, beyond_most pins position)
 
 -- ---- a desk that is alone
 
+-- the code of a question is the one that it was made with
+code_of_ask : (asked : Question) (code : List ℕ) → asked_code (ask_of asked code) ≡ code
+code_of_ask (question.Range tau) code = refl
+code_of_ask (question.Near number) code = refl
+
 module _ (words : ℕ) (old new : DeskState) (is_old : IsDesk words old) (is_new : IsDesk words new)
     (alone : old.alone ≡ true) (comes : ComesOn old new) where
   seen : new.seen ≡ old.seen
@@ -106,7 +111,7 @@ module _ (words : ℕ) (old new : DeskState) (is_old : IsDesk words old) (is_new
   behind_here : (position : ℕ) → behind old.pins position old.config.shards ≡ entries_beyond (pins_of old) position
   behind_here position = ap (behind old.pins position) (sym is_old.pins) ∙ behind_is old.pins position
 
-  pub opens_none : (from to : ℕ) → to ≤ from + behind old.pins (length new.seen) old.config.shards
+  opens_none : (from to : ℕ) → to ≤ from + behind old.pins (length new.seen) old.config.shards
       → OpensNone old new from to
   opens_none from to steps = record {
     seen = seen;
@@ -133,7 +138,7 @@ module _ (words : ℕ) (old new : DeskState) (is_old : IsDesk words old) (is_new
       (λ i lt. ap (λ (l : Laid). l.parts)
       ((pins.each i some (omega (arith, lt, number))).layout alone ∙ sym (comes.layouts alone i)))
 
-  pub opens_all : {S : Type 0} (asks : S → Asked) (stands : S → Standing) (sources : List S)
+  opens_all : {S : Type 0} (asks : S → Asked) (stands : S → Standing) (sources : List S)
       (position rows : ℕ) (asked : Ask) (room from to : ℕ)
       → OpensSources asks stands old new position rows (wanted_in asked) (asked_code asked) room sources
       → to ≤ from + behind old.pins (length new.seen) old.config.shards
@@ -163,12 +168,27 @@ module _ (words : ℕ) (old new : DeskState) (is_old : IsDesk words old) (is_new
             };
       }
 
--- ---- a gathering of what was opened
+  -- the same of a question, by what it wants
+  pub opens_asked : {S : Type 0} (asks : S → Asked) (stands : S → Standing) (sources : List S)
+      (position rows : ℕ) (what : Question) (code : List ℕ) (wanted : Wanted) → wanted ≡ wanted_in (ask_of what code)
+      → (room from to : ℕ) → OpensSources asks stands old new position rows wanted code room sources
+      → to ≤ from + behind old.pins (length new.seen) old.config.shards
+      → OpensAll asks stands old new sources position rows (ask_of what code) room from to
+  opens_asked asks stands sources position rows what code wanted is room from to opens =
+      let asked = ask_of what code in
+      opens_all asks stands sources position rows asked room from to
+      (subst (λ c. OpensSources asks stands old new position rows (wanted_in asked) c room sources)
+      (sym (code_of_ask what code))
+      (subst (λ w. OpensSources asks stands old new position rows w code room sources) is opens))
 
--- the code of a question is the one that it was made with
-pub code_of_ask : (asked : Question) (code : List ℕ) → asked_code (ask_of asked code) ≡ code
-code_of_ask (question.Range tau) code = refl
-code_of_ask (question.Near number) code = refl
+-- what an opening leaves that found no memory
+pub none_opened : {words : ℕ} {old new : DeskState} {from to : ℕ} → IsDesk words old → IsDesk words new
+    → old.alone ≡ true → ComesOn old new → to ≤ from + behind old.pins (length new.seen) old.config.shards
+    → OpensNone old new from to
+none_opened {words} {old} {new} {from} {to} is_old is_new alone comes steps =
+    opens_none words old new is_old is_new alone comes from to steps
+
+-- ---- a gathering of what was opened
 
 -- each is near
 all_near : (asked : List Asked) → AllByRecursion (λ (a : Asked). a.near ≡ true) asked

@@ -27,7 +27,7 @@ pub fn next<const W: usize, K: Sink, R: Threads + Sync, G: Gate, L: Send>(
     config: &Config,
     session: &mut Session<W>,
     tag: &Tag,
-    n: u32,
+    count: u32,
     sink: &mut K,
     gate: &G,
     meters: &mut Meters<L>,
@@ -36,7 +36,7 @@ pub fn next<const W: usize, K: Sink, R: Threads + Sync, G: Gate, L: Send>(
     requires sync { IsSync R.row }
     requires shards { HaveShards config.now.shards session.old.queries }
     ensures answers { (desk : DeskState) (upkeep : ℕ) → desk.alone ≡ true → AnswersPlainlyBetween
-        (Next tag.now n) result config.now (point_of desk session.old meters.old upkeep
+        (Next tag.now count) result config.now (point_of desk session.old meters.old upkeep
         (K.held sink.old)) (point_of desk session.new meters.new upkeep (K.held sink.new)) }
     ensures cutter { session.new.cutter ≡ session.old.cutter }
     ensures samples { session.new.samples ≡ session.old.samples }
@@ -49,7 +49,7 @@ pub fn next<const W: usize, K: Sink, R: Threads + Sync, G: Gate, L: Send>(
     let _before = meters.as_mut().len();
     let said = session
         .queries
-        .next(rt, gate, tag, n, &mut session.out, sink, meters);
+        .next(rt, gate, tag, count, &mut session.out, sink, meters);
     let _after = meters.as_mut().len();
     said
 }

@@ -11,7 +11,7 @@ ghost use Rattle.open_session.specs.Meaning.{IsReady, HaveShards};
 ghost use Rattle.open_session.specs.KeptBuild.{KeepsBuilds};
 ghost use Rattle.open_session.specs.KeptDesk.{layouts_of};
 ghost use Rattle.open_session.specs.Pinned.{PinsMore, pinned_in};
-ghost use Rattle.open_session.specs.PlainSteps.{AnswersPlainly};
+ghost use Rattle.open_session.specs.PlainSteps.{AnswersUnread};
 ghost use Rattle.open_session.specs.Moments.{moment_of};
 ghost use Rattle.query_requests.specs.Opening.{OpensGathered, OpensNone};
 ghost use Rattle.query_requests.specs.Opened.{OpensAs};
@@ -48,11 +48,9 @@ pub fn begin_query<const W: usize, D: Desk<W>, K: Sink, M>(
     requires samples { AreSamples config.now.bits session.old.samples }
     requires within { radius_in config.now.bits (ask_of question (take config.now.bits code))
         ≤ config.now.bits }
-    ensures answers { (reads : List ℕ) → AnswersPlainly
-        (opening_request tag (ask_of question (take config.now.bits code.entry))) result config.now
-        (K.held sink.old) (K.held sink.new)
-        (moment_of (D.desk desk.old) session.old reads upkeep.old)
-        (moment_of (D.desk desk.new) session.new reads upkeep.new) }
+    ensures answers { AnswersUnread (opening_request tag (ask_of question (take config.now.bits
+        code.entry))) result config.now (D.desk desk.old) (D.desk desk.new) session.old session.new
+        upkeep.old upkeep.new (K.held sink.old) (K.held sink.new) }
     ensures cutter { session.new.cutter ≡ session.old.cutter }
     ensures requests { session.new.requests ≡ session.old.requests }
     ensures build { session.new.build ≡ session.old.build }
@@ -85,9 +83,8 @@ fn opened<const W: usize, D: Desk<W>, M>(
     requires samples { AreSamples config.now.bits session.old.samples }
     requires within { radius_in config.now.bits (ask_of question (take config.now.bits code))
         ≤ config.now.bits }
-    ensures opens { (reads : List ℕ) →
-        OpensAs (moment_of (D.desk desk.old) session.old reads upkeep.old)
-        (moment_of (D.desk desk.new) session.new reads upkeep.new) tag
+    ensures opens { (reads : List ℕ) → OpensAs (moment_of (D.desk desk.old) session.old reads
+        upkeep.old) (moment_of (D.desk desk.new) session.new reads upkeep.new) tag
         (ask_of question (take config.now.bits code.entry)) config.now.room (line_of result) }
     ensures cutter { session.new.cutter ≡ session.old.cutter }
     ensures requests { session.new.requests ≡ session.old.requests }

@@ -162,8 +162,7 @@ fn meet_plainly<const W: usize, D: Desk<W>, K: Sink, R: Threads + Sync, G: Gate,
     requires shard { NamesOneOf config.now.shards request }
     requires plain { IsPlain request }
     ensures answers { AnswersPlainlyBetween (unstored config.now.bits request.entry) result
-        config.now
-        (point_of (D.desk desk.old) session.old meters.old upkeep.old (K.held sink.old))
+        config.now (point_of (D.desk desk.old) session.old meters.old upkeep.old (K.held sink.old))
         (point_of (D.desk desk.new) session.new meters.new upkeep.new (K.held sink.new)) }
     ensures cutter { session.new.cutter ≡ session.old.cutter }
     ensures requests { session.new.requests ≡ session.old.requests }

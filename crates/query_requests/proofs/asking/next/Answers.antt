@@ -36,16 +36,16 @@ returns-clause-answers g c = λ desk upkeep alone line asked history s stands'.
       ap length last.ensures.value,
     ) in
     let from_here = subst (λ from. GivesAs (asks {W = g.row.W}) (stands {W = g.row.W}) c.args.session.now.queries
-    c.args.tag.now c.args.n (held c.args.sink.now) (held c.next-said.new.sink) from told
+    c.args.tag.now c.args.count (held c.args.sink.now) (held c.next-said.new.sink) from told
     c.next-said.result c.next-said.new.self) same c.next-said.ensures.gives in
     let gives = subst (λ to. GivesAs (asks {W = g.row.W}) (stands {W = g.row.W}) c.args.session.now.queries
-    c.args.tag.now c.args.n (held c.args.sink.now) (held c.next-said.new.sink) m to
+    c.args.tag.now c.args.count (held c.args.sink.now) (held c.next-said.new.sink) m to
     c.next-said.result c.next-said.new.self) (sym same_end) from_here in
-    next_step p (held c.next-said.new.sink) c.next-said.result _ c.args.tag.now c.args.n asked ready refl refl refl refl refl number gives
+    next_step p (held c.next-said.new.sink) c.next-said.result _ c.args.tag.now c.args.count asked ready refl refl refl refl refl number gives
 
 pub returns-clause-shards : goal.returns-clause-shards
 returns-clause-shards g c =
     let held = g.K.Sink.held in
     given_shards c.args.config.now.shards c.args.session.now.queries c.next-said.new.self c.requires.shards
-    c.args.tag.now c.args.n (held c.args.sink.now) (held c.next-said.new.sink) _ _ c.next-said.result
+    c.args.tag.now c.args.count (held c.args.sink.now) (held c.next-said.new.sink) _ _ c.next-said.result
     c.next-said.ensures.gives

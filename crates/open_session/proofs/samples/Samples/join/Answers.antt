@@ -31,6 +31,7 @@ returns-else-tau-le-SAMPLE_RADIUS_MOST-clause-joined g c = λ bits.
 
 pub returns-in_default-clause-joined : goal.returns-in_default-clause-joined
 returns-in_default-clause-joined g c = λ bits.
-    let code = take bits c.args.code in
-    subst (λ q. SamplesJoined bits (ask_of q code) c.args.self.now c.args.self.now) (sym c.in_default.is)
-    (joined_none bits c.args.self.now (ask.Near c.in_default.field-0 code) c.all-samples.ensures.few refl)
+    subst (λ q. SamplesJoined bits (ask_of q (take bits c.args.code)) c.args.self.now c.args.self.now)
+    (sym c.in_default.is)
+    (joined_none bits c.args.self.now (ask.Near c.in_default.field-0 (take bits c.args.code))
+    c.all-samples.ensures.few refl)
