@@ -81,7 +81,7 @@ is_ready words config desk is same = subst (IsReady words) same (record {
 })
 
 -- what a new session is
-pub record IsNew {W : ℕ} (session : Session W) (position : ℕ) : Type 0 where
+pub record IsNew {W : ℕ} (session : Session W) (at : ℕ) : Type 0 where
   pub queries : session.queries ≡ []
   pub opened : session.pinned.opened ≡ 0
   pub told : session.pinned.told.items ≡ []
@@ -89,9 +89,9 @@ pub record IsNew {W : ℕ} (session : Session W) (position : ℕ) : Type 0 where
   pub build : session.build ≡ None
   pub cutter : session.cutter.held ≡ held_of []
   pub requests : session.requests ≡ 0
-  pub position : session.position ≡ position
+  pub position : session.position ≡ at
 
-pub new_of : {W : ℕ} {E : Type 0} {result : Result (Session W) E} {session : Session W} (position : ℕ)
+pub new_of : {W : ℕ} {E : Type 0} {result : Result (Session W) E} {session : Session W} (at : ℕ)
     → result ≡ Ok session → IfOk result (λ (session : Session W). session.queries ≡ [])
     → IfOk result (λ (session : Session W). session.pinned.opened ≡ 0)
     → IfOk result (λ (session : Session W). session.pinned.told.items ≡ [])
@@ -99,8 +99,8 @@ pub new_of : {W : ℕ} {E : Type 0} {result : Result (Session W) E} {session : S
     → IfOk result (λ (session : Session W). session.build ≡ None)
     → IfOk result (λ (session : Session W). session.cutter.held ≡ held_of [])
     → IfOk result (λ (session : Session W). session.requests ≡ 0)
-    → IfOk result (λ (session : Session W). session.position ≡ position) → IsNew session position
-new_of {W} position ok queries opened told samples build cutter requests at = record {
+    → IfOk result (λ (session : Session W). session.position ≡ at) → IsNew session at
+new_of {W} at ok queries opened told samples build cutter requests position = record {
   queries = IfOk-at_ok (λ (session : Session W). session.queries ≡ []) ok queries;
   opened = IfOk-at_ok (λ (session : Session W). session.pinned.opened ≡ 0) ok opened;
   told = IfOk-at_ok (λ (session : Session W). session.pinned.told.items ≡ []) ok told;
@@ -108,7 +108,7 @@ new_of {W} position ok queries opened told samples build cutter requests at = re
   build = IfOk-at_ok (λ (session : Session W). session.build ≡ None) ok build;
   cutter = IfOk-at_ok (λ (session : Session W). session.cutter.held ≡ held_of []) ok cutter;
   requests = IfOk-at_ok (λ (session : Session W). session.requests ≡ 0) ok requests;
-  position = IfOk-at_ok (λ (session : Session W). session.position ≡ position) ok at;
+  position = IfOk-at_ok (λ (session : Session W). session.position ≡ at) ok position;
 }
 
 -- the ending by the status, over the same desk

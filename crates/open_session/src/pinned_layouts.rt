@@ -43,10 +43,7 @@ impl PinnedLayouts {
     }
 
     /// Those with the layouts that one query more pinned, by the versions of its shards. Takes memory only for those that differ.
-    pub fn add<const W: usize>(
-        &mut self,
-        versions: &[Arc<Version<W>>],
-    ) -> Result<(), NoMemory>
+    pub fn add<const W: usize>(&mut self, versions: &[Arc<Version<W>>]) -> Result<(), NoMemory>
         requires few { length versions.now ≤ SHARDS_MOST }
         ensures added { OnOk result (PinsMore (pinned_in self.old) (pinned_in self.new)
             (layouts_in (contents_of_all versions.now))) }

@@ -45,15 +45,14 @@ loop-done-preserved g c =
 
 pub returns-in-Ok-Quits-clause-flow : goal.returns-in-Ok-Quits-clause-flow
 returns-in-Ok-Quits-clause-flow g c = λ start bytes output going.
-    quits_then c.args.config.now start _ _ c.loop-done.done c.answer_line-taken.result.0 c.args.block.now bytes output
-    _ _ _ _ _ (c.loop-done.invariant.goes start bytes output going) c.answer_line-taken.result.1
-    c.answer_line-taken.ensures.flow (search rules)
+    quits_then c.args.config.now start _ _ c.loop-done.done c.answer_line-taken.result.0 c.args.block.now bytes output _ _ _ _ _
+    (c.loop-done.invariant.goes start bytes output going) c.answer_line-taken.result.1 c.answer_line-taken.ensures.flow (search rules)
 
 pub returns-in-Err-clause-flow : goal.returns-in-Err-clause-flow
 returns-in-Err-clause-flow g c = λ start bytes output going.
-    refused_then c.args.config.now start _ _ c.loop-done.done c.answer_line-taken.result.0 c.args.block.now bytes output
-    _ _ _ _ _ (c.loop-done.invariant.goes start bytes output going) c.answer_line-taken.result.1
-    c.answer_line-taken.ensures.flow c.in-Err.field-0 c.in-Err.is
+    refused_then c.args.config.now start _ _ c.loop-done.done c.answer_line-taken.result.0 c.args.block.now bytes output _ _ _ _ _
+    (c.loop-done.invariant.goes start bytes output going) c.answer_line-taken.result.1 c.answer_line-taken.ensures.flow
+    c.in-Err.field-0 c.in-Err.is
 
 pub returns-clause-flow : goal.returns-clause-flow
 returns-clause-flow g c = λ start bytes output going.
