@@ -75,7 +75,7 @@ begins (reply.Bad fault) =
 begins reply.NoMemory = ([], refl)
 
 -- the first word of a line that is a reply
-pub first_is : (this : LineReply) (word : List ℕ) (after : List (List ℕ)) → words (reply_text this) ≡ word ∷ after → word ≡ word_of this
+first_is : (this : LineReply) (word : List ℕ) (after : List (List ℕ)) → words (reply_text this) ≡ word ∷ after → word ≡ word_of this
 first_is this word after is =
     let found = begins this in
     let both : word ∷ after ≡ word_of this ∷ found.0 = sym is ∙ found.1 in
@@ -109,7 +109,7 @@ hit_word (reply.Searched shard before after swaps at text) is = absurd (differ (
 hit_word (reply.Bad fault) is = absurd (differ (codes "bad") (codes "hit") refl is)
 hit_word reply.NoMemory is = absurd (differ (codes "nomem") (codes "hit") refl is)
 
-pub cost_word : (this : LineReply) → word_of this ≡ codes "cost"
+cost_word : (this : LineReply) → word_of this ≡ codes "cost"
     → (tag : List ℕ) × (reads : ℕ) × (bound : ℕ) × (this ≡ reply.Cost tag reads bound)
 cost_word (reply.Added key at) is = absurd (differ (codes "added") (codes "cost") refl is)
 cost_word (reply.Deleted key at) is = absurd (differ (codes "deleted") (codes "cost") refl is)
@@ -195,6 +195,12 @@ not_word word text other same is text_is not equal =
     let both : true ≡ false = sym passed ∙ not in
     cc
 
+-- the first word of a reply, where it was found to be the wanted one
+pub said_word : (this : LineReply) (line word after text wanted : List ℕ) (same : Bool) → line ≡ reply_text this → words line ≡ word ∷ words after
+    → same ≡ bytes_eq word text → text ≡ wanted → same ≡ true → word_of this ≡ wanted
+said_word this line word after text wanted same is first was text_is passed =
+    sym (first_is this word (words after) (ap words (sym is) ∙ first)) ∙ same_word word text wanted same was text_is passed
+
 -- the sums with a reply more
 pub with_adds : (this : LineReply) (old new : Sums) (hits : ℕ) → Adds this hits → new.hits ≡ old.hits + hits → new.bound ≡ old.bound
     → new.reads ≡ old.reads → AddsReply this old new
@@ -234,14 +240,14 @@ cost_read this line word after answer told fits is first read =
     let rest : words after ≡ tag ∷ codes "reads" ∷ decimal reads ∷ codes "bound" ∷ decimal bound ∷ [] = cc in
     read tag reads bound held.1 held.2 rest ∙ ap (λ (r : LineReply). Some (reads_of r, told_bound r)) (sym told.3)
 
-pub cost_is_read : (this : LineReply) (line word after : List ℕ) → IsCost this → IsWritten this → line ≡ reply_text this
+cost_is_read : (this : LineReply) (line word after : List ℕ) → IsCost this → IsWritten this → line ≡ reply_text this
     → words line ≡ word ∷ words after → ReadsCost after None → ⊥
 cost_is_read this line word after told fits is first read =
     let both : ◌≡◌ {A = Option (ℕ × ℕ)} None (Some (reads_of this, told_bound this)) = cost_read this line word after None told fits is first read in
     cc
 
 -- the numbers that were read
-pub cost_numbers : (this : LineReply) (line word after : List ℕ) (reads bound : ℕ) → IsCost this → IsWritten this → line ≡ reply_text this
+cost_numbers : (this : LineReply) (line word after : List ℕ) (reads bound : ℕ) → IsCost this → IsWritten this → line ≡ reply_text this
     → words line ≡ word ∷ words after → ReadsCost after (Some (reads, bound)) → (reads ≡ reads_of this) × (bound ≡ told_bound this)
 cost_numbers this line word after reads bound told fits is first read =
     let both : Some (reads, bound) ≡ Some (reads_of this, told_bound this) =
@@ -250,7 +256,7 @@ cost_numbers this line word after reads bound told fits is first read =
     (ap (λ (p : ℕ × ℕ). p.0) pair, ap (λ (p : ℕ × ℕ). p.1) pair)
 
 -- the sums with a reply to `cost`
-pub cost_adds : (this : LineReply) (old new : Sums) (reads bound : ℕ) → IsCost this → (reads ≡ reads_of this) × (bound ≡ told_bound this)
+cost_adds : (this : LineReply) (old new : Sums) (reads bound : ℕ) → IsCost this → (reads ≡ reads_of this) × (bound ≡ told_bound this)
     → new.hits ≡ old.hits → new.reads ≡ old.reads + reads → new.bound ≡ old.bound + bound → AddsReply this old new
 cost_adds this old new reads bound told numbers of_hits of_reads of_bound =
     let no_hits : hits_of this ≡ 0 = ap hits_of told.3 in
@@ -260,6 +266,22 @@ cost_adds this old new reads bound told numbers of_hits of_reads of_bound =
       reads = omega (arith, of_reads, numbers.0);
       not_lacks = ap lacks_of told.3;
     }
+
+-- a line whose first word was found to be `cost`
+module _ (this : LineReply) (line word after text : List ℕ) (same : Bool) (fits : IsWritten this) (is : line ≡ reply_text this)
+    (first : words line ≡ word ∷ words after) (was : same ≡ bytes_eq word text) (text_is : text ≡ codes "cost") (passed : same ≡ true) where
+  told : IsCost this
+  told = cost_word this (said_word this line word after text (codes "cost") same is first was text_is passed)
+
+  pub cost_must_read : ReadsCost after None → ⊥
+  cost_must_read = cost_is_read this line word after told fits is first
+
+  pub cost_told : (reads bound : ℕ) → ReadsCost after (Some (reads, bound)) → (reads ≡ reads_of this) × (bound ≡ told_bound this)
+  cost_told reads bound = cost_numbers this line word after reads bound told fits is first
+
+  pub cost_added : (old new : Sums) (reads bound : ℕ) → ReadsCost after (Some (reads, bound)) → new.hits ≡ old.hits
+      → new.reads ≡ old.reads + reads → new.bound ≡ old.bound + bound → AddsReply this old new
+  cost_added old new reads bound read = cost_adds this old new reads bound told (cost_told reads bound read)
 
 -- ---- replies that can't be added
 

@@ -1,3 +1,4 @@
 pub mod CountLemmas
 pub mod SumLemmas
 pub mod TableLemmas
+pub mod TrialLemmas

@@ -1,10 +1,10 @@
 -- Tables with parts counted anew, and the least costs over them.
 use Rattle.std.proofs.Common.{◌≡◌, ℕ, zero, suc, ◌+◌, ◌-◌, ◌<◌, ◌≤◌, min, cond, inl, inr, List, [], ◌∷◌, length, get_or, set, refl, sym, ◌∙◌, ap, arith, subst}
 use Rattle.std.proofs.lemmas.Bool.{cases_eq, cases_lt, lt-ltb, le-ltb}
-use Rattle.std.proofs.lemmas.List.{get_or-set_same, get_or-set_other, get_or-map, length-map, length-set, map-set, with_items_is}
+use Rattle.std.proofs.lemmas.List.{get_or-set_same, get_or-set_other, get_or-map, length-map, length-set, map-set}
 use Rattle.std.specs.Global.{Vec}
-use Rattle.std.specs.Vec.{with_items}
 use Rattle.exchange_model.specs.Least.{IsLeastSum, least_cost}
+use Rattle.exchange_model.specs.declared.limits.TheConstants.{SEARCH_ROWS_MOST}
 use Rattle.exchange_model.specs.Pairs.{counts_beside, counts_of_pair, least_beside, place_beside}
 use Rattle.sample_table.specs.Kept.{IsTableKept, sample_table_of}
 use Rattle.sample_table.specs.Levels.{LevelTable, PairTable, least_of_levels, level_count, levels_of, with_part}
@@ -206,9 +206,13 @@ pub row_below : (tau : ℕ) (rows : List (Vec ℕ)) (others : List ℕ) (table :
     → part < length table.levels.rows → part < length rows
 row_below tau rows others table part seen below = let size = rows_number tau rows others table seen in omega arith
 
--- a row of a trial, as it is written
-pub row_written : (tau : ℕ) (own : Vec ℕ) (values : List ℕ) (value : ℕ) (lent out : List ℕ) → lent ≡ own.items → length lent ≡ own.len
-    → length out ≡ length lent → length own.items ≡ tau + 2 → out ≡ levels_of values value (length lent)
-    → (with_items own out).items ≡ levels_of values value (tau + 2)
-row_written tau own values value lent out same long kept fits is =
-    with_items_is own out (kept ∙ long) ∙ is ∙ ap (levels_of values value) (ap length same ∙ fits)
+-- a row of a trial, as it was written and is read
+pub row_read : (tau : ℕ) (own lent values : List ℕ) (value : ℕ) (written : List ℕ) → lent ≡ written → written ≡ levels_of values value (length own)
+    → length own ≡ tau + 2 → lent ≡ levels_of values value (tau + 2)
+row_read tau own lent values value written same is fits = same ∙ is ∙ ap (levels_of values value) fits
+
+-- it counts, for as many numbers as another row has
+pub row_counts : (tau number : ℕ) (lent values : List ℕ) (value : ℕ) → lent ≡ levels_of values value (tau + 2) → number ≡ tau + 2
+    → length values ≤ SEARCH_ROWS_MOST → IsCountRow number lent
+row_counts tau number lent values value is many few =
+    subst (λ n. IsCountRow n lent) (sym many) (subst (IsCountRow (tau + 2)) (sym is) (levels_row values value (tau + 2) few (omega arith)))

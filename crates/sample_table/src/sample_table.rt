@@ -2,7 +2,7 @@
 
 ghost use Rattle.std.specs.Prelude.{◌≡◌, ◌+◌, ◌<◌, ◌≤◌, length, replicate, IfOk};
 ghost use Rattle.exchange_model.specs.declared.limits.TheConstants.{SAMPLE_RADIUS_MOST, SEARCH_ROWS_MOST};
-ghost use Rattle.sample_table.specs.Levels.{IsTurnedTo, least_of_levels, with_part};
+ghost use Rattle.sample_table.specs.Levels.{IsTurnedTo, least_of_levels, levels_of, with_part};
 
 use crate::least_sums::{least_joint, least_of_three, least_sums};
 use crate::levels::levels;
@@ -81,7 +81,7 @@ impl SampleTable {
         requires few { length values.now ≤ SEARCH_ROWS_MOST }
         ensures levels { self.new.levels ≡ with_part self.old.levels part values.now value }
     {
-        levels(values, value, self.rows[part].as_mut_slice());
+        write_levels(&mut self.rows[part], values, value);
     }
 
     /// The least cost of a threshold vector for the radius tau, at most 64.
@@ -140,8 +140,8 @@ impl SampleTable {
         least_cost_is_that_of_splits();
         least_cost_is_that_of_three();
         least_cost_is_the_least();
-        levels(values, value, self.first.as_mut_slice());
-        levels(next_values, next_value, self.next.as_mut_slice());
+        write_levels(&mut self.first, values, value);
+        write_levels(&mut self.next, next_values, next_value);
         if self.rows.len() == 2 {
             return least_joint(
                 self.first.as_slice(),
@@ -156,6 +156,15 @@ impl SampleTable {
             self.sums.as_mut_slice(),
         )
     }
+}
+
+// Writes the levels of a part into its row, as long as that is.
+fn write_levels(row: &mut Vec<u32>, values: &[u16], value: u16)
+    requires { length values.now ≤ SEARCH_ROWS_MOST }
+    ensures levels { row.new.items ≡ levels_of values.now value (length row.old.items) }
+    ensures long { length row.new.items ≡ length row.old.items }
+{
+    levels(values, value, row.as_mut_slice());
 }
 
 // A row of no counts.

@@ -52,10 +52,9 @@ returns-clause-layout g c =
 pub returns-clause-cost : goal.returns-clause-cost
 returns-clause-cost g c =
     let after = c.exchange.new.self in
-    let own = c.args.self.now in
     c.trial_cost-cost.ensures.cost ∙ ap (λ rows. cost_at {W = g.row.W} after.bits rows c.as_slice-2.result.now after.parts) c.as_slice.ensures.value
-    ∙ ap (λ samples. cost_at {W = g.row.W} after.bits own.rows.items samples after.parts) c.as_slice-2.ensures.value
-    ∙ ap (λ (l : Laid). cost_at {W = g.row.W} l.bits own.rows.items own.samples.items l.parts) c.exchange.ensures.exchanged
+    ∙ ap (λ samples. cost_at {W = g.row.W} after.bits c.args.self.now.rows.items samples after.parts) c.as_slice-2.ensures.value
+    ∙ ap (λ (l : Laid). cost_at {W = g.row.W} l.bits c.args.self.now.rows.items c.args.self.now.samples.items l.parts) c.exchange.ensures.exchanged
 
 pub returns-clause-ready : goal.returns-clause-ready
 returns-clause-ready g c =

@@ -22,8 +22,8 @@ returns-then-cost_after-bound-clause-first g c =
 
 pub returns-then-cost_after-bound-clause-layout : goal.returns-then-cost_after-bound-clause-layout
 returns-then-cost_after-bound-clause-layout g c =
-    let e = exchange_of c.args.part c.args.place c.loop-other.other in
-    c.exchange.ensures.layout ∙ ap (λ (l : Laid). exchanged_in l e) (c.cost_after.ensures.layout ∙ c.loop-other.invariant.2)
+    c.exchange.ensures.layout
+    ∙ ap (λ (l : Laid). exchanged_in l (exchange_of c.args.part c.args.place c.loop-other.other)) (c.cost_after.ensures.layout ∙ c.loop-other.invariant.2)
 
 pub loop-other-preserved : goal.loop-other-preserved
 loop-other-preserved g c =

@@ -15,8 +15,8 @@ loop-rest-preserved c = λ said is written.
 
 pub loop-rest-smaller : goal.loop-rest-smaller
 loop-rest-smaller c =
-    let some = some_left c.loop-rest.rest.now c.loop-rest-test.ensures in
-    fewer_left c.loop-rest.rest.now c.in_ok-line.line.now c.in_ok-line.after.now some c.in_ok-line.ensures
+    fewer_left c.loop-rest.rest.now c.in_ok-line.line.now c.in_ok-line.after.now (some_left c.loop-rest.rest.now c.loop-rest-test.ensures)
+    c.in_ok-line.ensures
 
 pub returns-clause-sums : goal.returns-clause-sums
 returns-clause-sums c = λ said is written.
@@ -31,6 +31,5 @@ returns-in_err-line-clause-none c = λ said is written.
 
 pub returns-in_err-sums-clause-none : goal.returns-in_err-sums-clause-none
 returns-in_err-sums-clause-none c = λ said is written.
-    let some = some_left c.loop-rest.rest.now c.loop-rest-test.ensures in
     if_none _ _ (none_added_more said c.loop-rest.rest.now c.in_ok-line.line.now c.in_ok-line.after.now c.loop-rest.sums c.lines_of_replies.ensures
-    some c.in_ok-line.ensures c.in_err-sums.ensures.none (c.loop-rest.invariant said is written))
+    (some_left c.loop-rest.rest.now c.loop-rest-test.ensures) c.in_ok-line.ensures c.in_err-sums.ensures.none (c.loop-rest.invariant said is written))
