@@ -13,7 +13,7 @@ use Rattle.session_model.specs.Outside.{Call}
 use Rattle.session_model.specs.Outcomes.{EndsWith, IsDone, IsReadFault, IsWriteFault, IsInputLimit}
 use Rattle.gph_session.specs.declared.report.Report.{Report}
 use Rattle.gph_session.specs.Sessions.{EndsBy, IsServed, state_of, told_by}
-use Rattle.session_step.specs.KeptDesk.{pins_of}
+use Rattle.open_session.specs.KeptDesk.{pins_of}
 
 map_replicate : {A B : Type 0} (f : A → B) (n : ℕ) (x : A) → map f (replicate n x) ≡ replicate n (f x)
 map_replicate f zero x = refl

@@ -1,25 +1,24 @@
 -- Lemmas on a session before its first byte, and on its ending by its status.
 use Rattle.std.proofs.Common.{◌≡◌, ℕ, ◌+◌, true, Option, None, List, [], ◌++◌, length, map}
-use Rattle.std.proofs.Common.{refl, sym, ap, subst, inl, arith, append-nil}
+use Rattle.std.proofs.Common.{Result, Ok, IfOk, refl, sym, ap, subst, inl, arith, append-nil}
+use Rattle.std.proofs.lemmas.Result.{IfOk-at_ok}
 use Rattle.byte_lines.specs.Cut.{held_of}
 use Rattle.part_layout.specs.declared.config.Config.{Config}
-use Rattle.session_desk.specs.Desks.{DeskState, IsDesk}
-use Rattle.session_desk.specs.Desks.{seen_history}
+use Rattle.session_desk.specs.Desks.{DeskState, IsDesk, seen_history}
 use Rattle.layout_search.specs.Improves.{AreSamples, plain_sample}
-use Rattle.session_model.specs.Ledger.{Ledgers}
 use Rattle.session_model.specs.Outside.{Call}
 use Rattle.gph_session.specs.Sessions.{Told, state_of}
-use Rattle.session_step.specs.declared.shard_build.ShardBuild.{ShardBuild}
-use Rattle.session_step.specs.KeptBuild.{MeansBuild, StandsFrom, left_in}
-use Rattle.session_step.specs.Moments.{Moment, Spends}
-use Rattle.session_step.specs.Meaning.{AllKeep, IsReady, Means}
+use Rattle.open_session.specs.declared.open_session.Session.{Session}
+use Rattle.open_session.specs.declared.shard_build.ShardBuild.{ShardBuild}
+use Rattle.open_session.specs.KeptBuild.{MeansBuild, StandsFrom, left_in}
+use Rattle.open_session.specs.Moments.{Moment, Spends}
+use Rattle.open_session.specs.Meaning.{AllKeep, IsReady, Means}
 use Rattle.gph_session.specs.Flow.{HasBegunWith}
 use Rattle.gph_session.specs.declared.report.Status.{Status}
 use Rattle.gph_session.specs.Serving.{EndsAs}
-use Rattle.session_step.proofs.MomentLemmas.{reads_still, spends_still, as_long}
-use Rattle.session_step.proofs.MomentLemmas.{desk_keeps}
-use Rattle.session_step.proofs.SwapInLemmas.{are_layouts}
-use Rattle.session_step.proofs.WholeLemmas.{leaves}
+use Rattle.open_session.proofs.MomentLemmas.{reads_still, spends_still, as_long, desk_keeps}
+use Rattle.open_session.proofs.DeskLemmas.{are_layouts}
+use Rattle.open_session.proofs.WholeLemmas.{leaves}
 
 -- ---- a session before its first byte
 
@@ -81,10 +80,48 @@ is_ready words config desk is same = subst (IsReady words) same (record {
   is_config = is.config;
 })
 
--- the ending by the status, over the desk as it was
-pub ended_as : (status expected : Status) → status ≡ expected → (config : Config) (desk before desk' : DeskState)
+-- what a new session is
+pub record IsNew {W : ℕ} (session : Session W) (at : ℕ) : Type 0 where
+  pub queries : session.queries ≡ []
+  pub opened : session.pinned.opened ≡ 0
+  pub told : session.pinned.told.items ≡ []
+  pub samples : session.samples ≡ []
+  pub build : session.build ≡ None
+  pub cutter : session.cutter.held ≡ held_of []
+  pub requests : session.requests ≡ 0
+  pub position : session.position ≡ at
+
+pub new_of : {W : ℕ} {E : Type 0} {result : Result (Session W) E} {session : Session W} (at : ℕ)
+    → result ≡ Ok session → IfOk result (λ (session : Session W). session.queries ≡ [])
+    → IfOk result (λ (session : Session W). session.pinned.opened ≡ 0)
+    → IfOk result (λ (session : Session W). session.pinned.told.items ≡ [])
+    → IfOk result (λ (session : Session W). session.samples ≡ [])
+    → IfOk result (λ (session : Session W). session.build ≡ None)
+    → IfOk result (λ (session : Session W). session.cutter.held ≡ held_of [])
+    → IfOk result (λ (session : Session W). session.requests ≡ 0)
+    → IfOk result (λ (session : Session W). session.position ≡ at) → IsNew session at
+new_of {W} at ok queries opened told samples build cutter requests position = record {
+  queries = IfOk-at_ok (λ (session : Session W). session.queries ≡ []) ok queries;
+  opened = IfOk-at_ok (λ (session : Session W). session.pinned.opened ≡ 0) ok opened;
+  told = IfOk-at_ok (λ (session : Session W). session.pinned.told.items ≡ []) ok told;
+  samples = IfOk-at_ok (λ (session : Session W). session.samples ≡ []) ok samples;
+  build = IfOk-at_ok (λ (session : Session W). session.build ≡ None) ok build;
+  cutter = IfOk-at_ok (λ (session : Session W). session.cutter.held ≡ held_of []) ok cutter;
+  requests = IfOk-at_ok (λ (session : Session W). session.requests ≡ 0) ok requests;
+  position = IfOk-at_ok (λ (session : Session W). session.position ≡ at) ok position;
+}
+
+-- the ending by the status, over the same desk
+ended_as : (status expected : Status) → status ≡ expected → (config : Config) (desk before desk' : DeskState)
     (told : Told) (it : Call) → desk ≡ before → EndsAs status config desk desk' told it
     → EndsAs expected config before desk' told it
 ended_as status expected is config desk before desk' told it same ends =
     subst (λ d. EndsAs expected config d desk' told it) same
     (subst (λ s. EndsAs s config desk desk' told it) is ends)
+
+-- the ending by the status, over the desk as it was before it learned nothing
+pub ended_over : (status expected : Status) → status ≡ expected → (config : Config) (before desk desk' : DeskState)
+    (told : Told) (it : Call) → before.alone ≡ true → OnlyLearns before desk → EndsAs status config desk desk' told it
+    → EndsAs expected config before desk' told it
+ended_over status expected is config before desk desk' told it alone learns =
+    ended_as status expected is config desk before desk' told it (learns_nothing before desk alone learns)

@@ -5,7 +5,7 @@ use Rattle.std.proofs.Common.{sym, ap, ◌∙◌, subst, arith, append-nil, appe
 use Rattle.std.specs.Io.KnownBytes.{Appends}
 use Rattle.std.proofs.KnownBytes.{Appends-trans, Appends-nil}
 use Rattle.std.proofs.Math.Seq.{take-add}
-use Rattle.std.proofs.lemmas.List.{take_rest, take-append-drop}
+use Rattle.std.proofs.lemmas.List.{take_all, take_rest, take-append-drop}
 use Rattle.byte_lines.specs.Cut.{held_of, TellsOf}
 use Rattle.byte_lines.specs.Lines.{ended_lines, unended, last_line, lines}
 use Rattle.byte_lines.specs.declared.cutter.Cut.{Cut}
@@ -15,16 +15,12 @@ use Rattle.byte_lines.proofs.LinesLemmas.{ended_lines-append}
 use Rattle.hamming_model.specs.History.{JournalEntry}
 use Rattle.part_layout.specs.declared.config.Config.{Config}
 use Rattle.query_protocol.specs.Replies.{text}
-use Rattle.session_model.specs.State.{State}
 use Rattle.session_model.specs.Run.{before_quit}
 use Rattle.session_step.specs.declared.turn.Turn.{Turn}
 use Rattle.session_step.specs.declared.turn.Turn.TheVariants.{Goes, Quits}
-use Rattle.session_step.specs.Moments.{Moment}
-use Rattle.gph_session.specs.Flow.{Start, GoesOn}
-use Rattle.gph_session.specs.Pieces.{HasServed, HasEnded, WasRefused}
-use Rattle.session_step.specs.Steps.{Stands}
-use Rattle.gph_session.specs.Flow.{history_after}
-use Rattle.gph_session.specs.Pieces.{FlowIs, FlowsOn, EndIs}
+use Rattle.open_session.specs.Moments.{Moment}
+use Rattle.gph_session.specs.Flow.{Start, GoesOn, history_after}
+use Rattle.gph_session.specs.Pieces.{HasServed, HasEnded, WasRefused, FlowIs, FlowsOn, EndIs}
 use Rattle.session_step.specs.Answering.{TurnIs, AnswersAs}
 use Rattle.gph_session.proofs.FlowLemmas.{served_so_far, all_before_quit, goes_line, served_last, stands_here}
 use Rattle.gph_session.proofs.FlowLemmas.{refused_line, ended_line, goes_bytes, refused_more, ended_more}
@@ -280,3 +276,14 @@ module _ {W : ℕ} (config : Config) (start : Start) (old new : Moment W) (done 
             (refused_in_front config start new (bytes ++ front) rest (output ++ f.0) known fewer
             (no_fewer_lines bytes (take done block)) f.2),
       )
+
+-- a whole block was answered
+pub all_goes : {W : ℕ} (config : Config) (start : Start) (new : Moment W) (done : ℕ) (block bytes output : List ℕ)
+    (before after begun : Option (List ℕ)) → length block ≤ done
+    → ((more : List ℕ) × Appends before after more × GoesOn config start new (bytes ++ take done block) (output ++ more) begun)
+    → (more : List ℕ) × Appends before after more × GoesOn config start new (bytes ++ block) (output ++ more) begun
+all_goes config start new done block bytes output before after begun whole end = (
+  end.0,
+  end.1,
+  subst (λ l. GoesOn config start new (bytes ++ l) (output ++ end.0) begun) (take_all done block whole) end.2,
+)

@@ -20,32 +20,27 @@ use Rattle.query_protocol.specs.Replies.{text}
 use Rattle.session_desk.specs.Desks.{DeskState, seen_history}
 use Rattle.session_model.specs.State.{Query, State, open_queries}
 use Rattle.session_model.specs.Entries.{Exchange}
-use Rattle.session_model.specs.Ledger.{Ledgers, Rise, RisesBy, column, readings_of, IsBounded}
+use Rattle.session_model.specs.Ledger.{Rise, RisesBy, readings_of, IsBounded}
 use Rattle.session_desk.specs.Calls.{one_more}
 use Rattle.session_model.specs.Builds.{swaps_of, was_moved, was_swapped}
-use Rattle.session_model.specs.Upkeep.{all_other_steps, other_steps, entries_beyond}
+use Rattle.session_model.specs.Upkeep.{all_other_steps, other_steps}
 use Rattle.session_model.specs.Upkeep.{all_build_steps, build_after, build_at, build_steps}
-use Rattle.session_model.specs.Commits.{entries_by}
-use Rattle.session_model.specs.Commits.{is_answered, requests_of}
-use Rattle.session_model.specs.Run.{Run, IsAlone, IsServedAlone}
-use Rattle.session_model.specs.Commits.{commit_of, commits}
-use Rattle.session_model.specs.Run.{lines_of, asks_quit, before_quit, has_quit}
+use Rattle.session_model.specs.Commits.{entries_by, is_answered, requests_of, commit_of, commits}
+use Rattle.session_model.specs.Run.{Run, IsAlone, lines_of, asks_quit, before_quit, has_quit}
 use Rattle.session_model.proofs.RunLemmas.{run_more, commits_more, written_more, own_commits}
 use Rattle.session_model.proofs.RunLemmas.{before_answered, quit_answered, before_more, quit_more}
 use Rattle.session_step.specs.declared.turn.Turn.{Turn}
 use Rattle.session_step.specs.declared.turn.Turn.TheVariants.{Goes}
 use Rattle.gph_session.specs.Sessions.{IsServed, RisesByCount, state_of}
-use Rattle.session_step.specs.KeptBuild.{StandsFrom, left_in}
-use Rattle.session_step.specs.KeptDesk.{LeavesDesk, pins_of}
-use Rattle.session_step.specs.Moments.{Moment, ReadsTo, Spends}
-use Rattle.session_step.specs.Meaning.{Means, IsSettled, AllKeep}
-use Rattle.session_step.specs.Answering.{OneLine}
-use Rattle.gph_session.specs.Flow.{Start, HasRun, GoesOn, told_by}
+use Rattle.open_session.specs.KeptBuild.{StandsFrom, left_in}
+use Rattle.open_session.specs.KeptDesk.{LeavesDesk, pins_of}
+use Rattle.open_session.specs.Moments.{Moment}
+use Rattle.open_session.specs.Meaning.{Means, IsSettled, AllKeep}
+use Rattle.session_step.specs.Answering.{OneLine, requests_with}
+use Rattle.gph_session.specs.Flow.{Start, HasRun, GoesOn, told_so_far, history_after}
 use Rattle.gph_session.specs.Pieces.{HasServed, HasEnded, WasRefused}
-use Rattle.session_step.specs.Answering.{requests_with}
-use Rattle.session_step.specs.Steps.{Stands}
-use Rattle.gph_session.specs.Flow.{history_after}
-use Rattle.session_step.proofs.MomentLemmas.{reads_then, spends_then, others_more, as_long}
+use Rattle.open_session.specs.Steps.{Stands}
+use Rattle.open_session.proofs.MomentLemmas.{reads_then, spends_then, others_more, as_long}
 
 -- ---- what a state's queries have read
 
@@ -85,7 +80,7 @@ module _ {W : ℕ} (config : Config) (start : Start) (now : Moment W) (exchanges
     steps = omega arith;
   }
 
-  pub is_served : IsServed start.desk now.desk (told_by now) config exchanges
+  pub is_served : IsServed start.desk now.desk (told_so_far now) config exchanges
       (rise_of state steps)
   is_served =
       let who = start.desk.who in

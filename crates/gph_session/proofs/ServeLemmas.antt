@@ -10,27 +10,24 @@ use Rattle.byte_lines.specs.Lines.{ended_lines, unended, last_line}
 use Rattle.line_io.specs.declared.source.Failed.{Failed}
 use Rattle.byte_lines.proofs.LinesLemmas.{ended_lines-append}
 use Rattle.part_layout.specs.declared.config.Config.{Config}
-use Rattle.session_desk.specs.Desks.{DeskState}
 use Rattle.session_model.specs.declared.limits.TheConstants.{BLOCK_MOST}
 use Rattle.session_model.specs.Entries.{Exchange}
 use Rattle.session_model.specs.Ledger.{Rise}
 use Rattle.session_model.specs.Run.{AnswersLines, has_quit}
 use Rattle.session_model.specs.Outside.{Call, Ends, Transfers}
-use Rattle.session_model.specs.Outcomes.{EndsWith, before_last}
-use Rattle.session_model.specs.Outcomes.{IsDone, IsReadFault, IsWriteFault, IsInputLimit}
+use Rattle.session_model.specs.Outcomes.{EndsWith, before_last, IsDone, IsReadFault, IsWriteFault, IsInputLimit}
 use Rattle.session_model.proofs.RunLemmas.{before_more, no_quit_in_front}
 use Rattle.session_step.specs.declared.turn.Turn.{Turn}
 use Rattle.session_step.specs.declared.turn.Turn.TheVariants.{Goes, Quits}
 use Rattle.gph_session.specs.Sessions.{IsServed}
-use Rattle.session_step.specs.Moments.{Moment}
-use Rattle.gph_session.specs.Flow.{Start, GoesOn, told_by}
-use Rattle.gph_session.specs.Pieces.{FlowIs, FlowsOn, EndIs, EndsOn}
-use Rattle.gph_session.specs.Pieces.{HasEnded, HasServed, WasRefused}
+use Rattle.open_session.specs.Moments.{Moment}
+use Rattle.gph_session.specs.Flow.{Start, told_so_far}
+use Rattle.gph_session.specs.Pieces.{FlowIs, FlowsOn, EndIs, EndsOn, HasEnded, HasServed, WasRefused}
 use Rattle.gph_session.specs.Serving.{Serves}
 use Rattle.gph_session.proofs.FlowLemmas.{served_so_far, goes_on}
 use Rattle.gph_session.proofs.BlockLemmas.{no_fewer_lines}
 
-pub take_one : (xs : List ℕ) → 0 < length xs → take 1 xs ≡ get_or xs 0 0 ∷ []
+take_one : (xs : List ℕ) → 0 < length xs → take 1 xs ≡ get_or xs 0 0 ∷ []
 take_one [] lt = absurd (omega arith)
 take_one (x ∷ xs) lt = refl
 
@@ -75,19 +72,30 @@ pub record HasRead (before after : Option (List ℕ)) (taken limit : ℕ) (piece
   pub few : length piece ≤ BLOCK_MOST
   pub fits : taken + length piece ≤ limit
 
--- what a read left in front of its room
-pub has_read : {before after : Option (List ℕ)} {taken limit : ℕ} (count : ℕ) (room rest : List ℕ)
-    → count ≤ length room → length room ≤ BLOCK_MOST → taken + length room ≤ limit
+-- what a read left in front of its room, which is of this size
+pub has_read : {before after : Option (List ℕ)} {taken limit : ℕ} (count size : ℕ) (room rest : List ℕ)
+    → length room ≡ size → count ≤ length room → size ≤ BLOCK_MOST → taken + size ≤ limit
     → Consumes before after (take count room)
     → HasRead before after taken limit (take count (room ++ rest))
-has_read {before} {after} count room rest within few fits read =
+has_read {before} {after} count size room rest sized within few fits read =
     let same : take count (room ++ rest) ≡ take count room = take-append-le count room rest within in
-    let short : length (take count room) ≤ length room = omega (arith, length-take count room, within) in
+    let short : length (take count room) ≤ size = omega (arith, length-take count room, within, sized) in
     record {
       read = subst (Consumes before after) (sym same) read;
       few = omega (arith, ap length same, short, few);
       fits = omega (arith, ap length same, short, fits);
     }
+
+-- a read that gave nothing
+pub none_read : {before after : Option (List ℕ)} (count : ℕ) (room : List ℕ) → count ≡ 0
+    → Consumes before after (take count room) → Consumes before after []
+none_read {before} {after} count room zero = subst (λ n. Consumes before after (take n room)) zero
+
+-- a read that gave one byte
+pub one_read : {before after : Option (List ℕ)} (count : ℕ) (room : List ℕ) → count ≡ 1 → 0 < length room
+    → Consumes before after (take count room) → Consumes before after (get_or room 0 0 ∷ [])
+one_read {before} {after} count room one some =
+    subst (Consumes before after) (ap (λ n. take n room) one ∙ take_one room some)
 
 pub length_read : (count : ℕ) (room rest : List ℕ) → count ≤ length room
     → length (take count (room ++ rest)) ≡ count
@@ -108,7 +116,7 @@ module _ {W : ℕ} {config : Config} {start : Start} {old : Moment W} {taken : �
 
   -- what makes a session of exchanges that end at a moment
   abbrev Served : Moment W → Config → List Exchange → Rise → Type 0
-  Served now = IsServed start.desk now.desk (told_by now)
+  Served now = IsServed start.desk now.desk (told_so_far now)
 
   -- the lines so far were answered, and none of them ends the session
   served : HasServed config start old (ended_lines [] serves.bytes) serves.output

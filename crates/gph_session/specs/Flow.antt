@@ -1,10 +1,9 @@
 -- What a session has written for what it has read, while it goes on.
 -- No public clause cites this module.
-use Rattle.std.specs.Prelude.{◌≡◌, ℕ, ◌+◌, min, false, Option}
-use Rattle.std.specs.Prelude.{List, [], ◌++◌}
+use Rattle.std.specs.Prelude.{◌≡◌, ℕ, ◌+◌, min, false, Option, List, [], ◌++◌}
 use Rattle.std.specs.List.{AllByRecursion}
 use Rattle.byte_lines.specs.Cut.{held_of}
-use Rattle.byte_lines.specs.Lines.{ended_lines, unended, lines}
+use Rattle.byte_lines.specs.Lines.{ended_lines, unended}
 use Rattle.hamming_model.specs.History.{JournalEntry}
 use Rattle.part_layout.specs.declared.config.Config.{Config}
 use Rattle.session_desk.specs.Desks.{DeskState, seen_history}
@@ -13,17 +12,15 @@ use Rattle.session_model.specs.Entries.{Exchange}
 use Rattle.session_model.specs.Ledger.{Ledgers}
 use Rattle.session_model.specs.Builds.{swaps_of, was_moved}
 use Rattle.session_model.specs.Upkeep.{all_build_steps, all_other_steps, build_after}
-use Rattle.session_model.specs.Commits.{requests_of}
+use Rattle.session_model.specs.Commits.{requests_of, commits}
 use Rattle.session_model.specs.Told.{pinned_by}
-use Rattle.session_model.specs.Run.{Run, IsAlone}
-use Rattle.session_model.specs.Commits.{commits}
-use Rattle.session_model.specs.Run.{written_text, lines_of}
-use Rattle.session_step.specs.Moments.{Moment, ReadsTo, Spends}
-use Rattle.session_step.specs.Meaning.{Means, AllKeep, IsSettled}
-use Rattle.session_step.specs.Pinned.{TellsPinned}
-use Rattle.session_step.specs.KeptBuild.{MeansBuild, StandsFrom, left_in}
-use Rattle.session_step.specs.KeptDesk.{LeavesDesk}
-use Rattle.session_step.specs.Samples.{MeansSamples}
+use Rattle.session_model.specs.Run.{Run, IsAlone, written_text, lines_of}
+use Rattle.open_session.specs.Moments.{Moment, ReadsTo, Spends}
+use Rattle.open_session.specs.Meaning.{Means, AllKeep, IsSettled}
+use Rattle.open_session.specs.Pinned.{TellsPinned}
+use Rattle.open_session.specs.KeptBuild.{MeansBuild, StandsFrom, left_in}
+use Rattle.open_session.specs.KeptDesk.{LeavesDesk}
+use Rattle.open_session.specs.Samples.{MeansSamples}
 use Rattle.gph_session.specs.Sessions.{RisesByCount, Told, state_of}
 
 -- what a session began with
@@ -37,8 +34,8 @@ history_after start config exchanges =
     seen_history start.desk ++ commits start.desk.who config exchanges
 
 -- what a session would tell of itself at a moment
-abbrev pub told_by : {W : ℕ} → Moment W → Told
-told_by now = record {
+abbrev pub told_so_far : {W : ℕ} → Moment W → Told
+told_so_far now = record {
   requests = now.requests;
   position = now.position;
   layouts = now.pinned.told;

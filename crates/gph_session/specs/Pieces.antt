@@ -6,21 +6,19 @@ use Rattle.byte_lines.specs.Lines.{ended_lines, lines}
 use Rattle.line_io.specs.declared.source.Failed.{Failed}
 use Rattle.part_layout.specs.declared.config.Config.{Config}
 use Rattle.session_model.specs.Ledger.{Rise, RisesBy}
-use Rattle.session_model.specs.Run.{AnswersLines, IsRefused}
-use Rattle.session_model.specs.Run.{before_quit, has_quit}
+use Rattle.session_model.specs.Run.{AnswersLines, IsRefused, before_quit, has_quit}
 use Rattle.session_step.specs.declared.turn.Turn.{Turn}
 use Rattle.session_step.specs.declared.turn.Turn.TheVariants.{Goes, Quits}
-use Rattle.session_step.specs.Moments.{Moment}
+use Rattle.open_session.specs.Moments.{Moment, Point}
 use Rattle.gph_session.specs.Sessions.{IsServed}
-use Rattle.gph_session.specs.Flow.{Start, GoesOn, told_by}
-use Rattle.session_step.specs.Moments.{Point}
+use Rattle.gph_session.specs.Flow.{Start, GoesOn, told_so_far}
 
 -- a session that began so answers these lines by that output
 pub record HasServed {W : ℕ} (config : Config) (start : Start) (now : Moment W)
     (of_lines : List (List ℕ)) (output : List ℕ) : Type 0 where
   pub rise : Rise
   pub rises : RisesBy start.ledgers now.ledgers rise
-  pub answered : AnswersLines (IsServed start.desk now.desk (told_by now) config)
+  pub answered : AnswersLines (IsServed start.desk now.desk (told_so_far now) config)
       of_lines output rise
 
 -- one of these lines ended the session, and those before it were answered
@@ -34,7 +32,7 @@ pub record WasRefused {W : ℕ} (config : Config) (start : Start) (now : Moment 
     (of_lines : List (List ℕ)) (output : List ℕ) (known : ℕ) : Type 0 where
   pub rise : Rise
   pub rises : RisesBy start.ledgers now.ledgers rise
-  pub refused : IsRefused (IsServed start.desk now.desk (told_by now) config)
+  pub refused : IsRefused (IsServed start.desk now.desk (told_so_far now) config)
       of_lines output rise
   pub all_before : known ≤ length refused.answered
 

@@ -5,13 +5,12 @@ use Rattle.std.specs.Io.KnownBytes.{Appends, Consumes}
 use Rattle.part_layout.specs.declared.config.Config.{Config}
 use Rattle.session_desk.specs.Desks.{DeskState}
 use Rattle.session_model.specs.Outside.{Call, Ends}
-use Rattle.session_model.specs.Outcomes.{EndsWith}
-use Rattle.session_model.specs.Outcomes.{IsDone, IsReadFault, IsWriteFault, IsInputLimit}
+use Rattle.session_model.specs.Outcomes.{EndsWith, IsDone, IsReadFault, IsWriteFault, IsInputLimit}
 use Rattle.gph_session.specs.declared.report.Status.{Status}
 use Rattle.gph_session.specs.declared.report.Status.TheVariants.{Done, ReadFault, WriteFault}
 use Rattle.gph_session.specs.declared.report.Status.TheVariants.{NoMemory, InputLimit}
 use Rattle.gph_session.specs.Sessions.{IsServed, Told}
-use Rattle.session_step.specs.Moments.{Moment}
+use Rattle.open_session.specs.Moments.{Moment}
 use Rattle.gph_session.specs.Flow.{GoesOn, Start}
 
 -- so many bytes were read and all whole lines of them answered, and no fault rose

@@ -2,16 +2,15 @@
 use Rattle.std.specs.Prelude.{◌≡◌, ℕ, ◌+◌, ◌⊎◌, min, List, ◌++◌, length, map}
 use Rattle.part_layout.specs.declared.config.Config.{Config}
 use Rattle.session_desk.specs.Desks.{DeskState, seen_history}
-use Rattle.session_step.specs.KeptDesk.{LeavesDesk, layouts_of, pins_of}
+use Rattle.open_session.specs.KeptDesk.{LeavesDesk, layouts_of, pins_of}
 use Rattle.session_model.specs.Builds.{swaps_of}
 use Rattle.session_model.specs.State.{State, new_session}
 use Rattle.session_model.specs.Entries.{Exchange}
 use Rattle.session_model.specs.Ledger.{Rise}
-use Rattle.session_model.specs.Commits.{commits}
-use Rattle.session_model.specs.Commits.{requests_of}
+use Rattle.session_model.specs.Commits.{commits, requests_of}
 use Rattle.session_model.specs.Run.{IsServedAlone}
 use Rattle.session_model.specs.Told.{ToldLayout, layouts_told}
-use Rattle.session_step.specs.Pinned.{told_layout}
+use Rattle.open_session.specs.Pinned.{told_layout}
 use Rattle.session_model.specs.Outside.{Call}
 use Rattle.session_model.specs.Outcomes.{EndsWith}
 use Rattle.gph_session.specs.declared.report.Report.{Report}

@@ -4,17 +4,18 @@ ghost use Rattle.std.specs.Prelude.{◌≡◌, ◌<◌, ◌≤◌, length, take,
 ghost use Rattle.std.specs.Thread.{IsSync};
 ghost use Rattle.open_queries.specs.Writing.{IsCaused};
 ghost use Rattle.layout_search.specs.Improves.{AreSamples};
-ghost use Rattle.session_step.specs.KeptBuild.{IsBuildOfDesk};
-ghost use Rattle.session_step.specs.Meaning.{IsReady, HaveShards};
+ghost use Rattle.open_session.specs.KeptBuild.{IsBuildOfDesk};
+ghost use Rattle.open_session.specs.Meaning.{IsReady, HaveShards};
 ghost use Rattle.gph_session.specs.Pieces.{FlowsBetween, EndsBetween};
-ghost use Rattle.session_step.specs.Moments.{point_of};
+ghost use Rattle.open_session.specs.Moments.{point_of};
 
 use line_io::{Failed, Sink};
+use open_session::Session;
 use part_layout::Config;
 use read_meter::{Meters, Steps};
 use scatter_gather::Gate;
 use session_desk::Desk;
-use session_step::{Session, Turn, answer};
+use session_step::{Turn, answer};
 use std::alloc::Global;
 use std::thread::Threads;
 

@@ -8,6 +8,6 @@ mod report;
 mod serve;
 mod session_call;
 
+pub use open_session::LayoutFrom;
 pub use report::{Report, Status};
 pub use session_call::session;
-pub use session_step::LayoutFrom;

@@ -1,6 +1,6 @@
 //! What a session tells of itself once it has ended.
 
-use session_step::LayoutFrom;
+use open_session::LayoutFrom;
 
 /// How a session ended.
 #[derive(Clone, Copy, Debug, PartialEq, Eq)]

@@ -5,21 +5,22 @@ ghost use Rattle.std.specs.Thread.{IsSync};
 ghost use Rattle.session_model.specs.declared.limits.TheConstants.{BLOCK_MOST};
 ghost use Rattle.session_model.specs.Outside.{call};
 ghost use Rattle.layout_search.specs.Improves.{AreSamples};
-ghost use Rattle.session_step.specs.KeptBuild.{IsBuildOfDesk};
-ghost use Rattle.session_step.specs.Meaning.{IsReady, HaveShards};
-ghost use Rattle.gph_session.specs.Flow.{HasBegunWith, told_by};
-ghost use Rattle.session_step.specs.Moments.{moment_of};
+ghost use Rattle.open_session.specs.KeptBuild.{IsBuildOfDesk};
+ghost use Rattle.open_session.specs.Meaning.{IsReady, HaveShards};
+ghost use Rattle.gph_session.specs.Flow.{HasBegunWith, told_so_far};
+ghost use Rattle.open_session.specs.Moments.{moment_of};
 ghost use Rattle.gph_session.specs.Serving.{EndsAs};
 
 use crate::block::{answer_block, answer_end};
 use crate::report::Status;
 use line_io::{Failed, Sink, Source};
+use open_session::Session;
 use part_layout::Config;
 use read_meter::{Meters, Steps};
 use scatter_gather::Gate;
 use session_desk::Desk;
 use session_model::BLOCK_MOST;
-use session_step::{Session, Turn};
+use session_step::Turn;
 use std::alloc::Global;
 use std::thread::Threads;
 
@@ -56,10 +57,9 @@ pub(crate) fn serve<
     requires room { length block.old ≡ BLOCK_MOST }
     requires new { HasBegunWith config.now
         (moment_of (D.desk desk.old) session.old meters.old upkeep.old) session.old.cutter.held }
-    ensures { EndsAs result config.now (D.desk desk.old) (D.desk desk.new)
-        (told_by (moment_of (D.desk desk.new) session.new meters.new upkeep.new))
-        (call S.left S.faults K.held K.faults source.old source.new
-        sink.old sink.new meters.old meters.new upkeep.old upkeep.new) }
+    ensures { EndsAs result config.now (D.desk desk.old) (D.desk desk.new) (told_so_far (moment_of
+        (D.desk desk.new) session.new meters.new upkeep.new)) (call S.left S.faults K.held K.faults
+        source.old source.new sink.old sink.new meters.old meters.new upkeep.old upkeep.new) }
 {
     let limit = config.input;
     let mut taken: u64 = 0;

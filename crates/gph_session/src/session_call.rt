@@ -11,12 +11,12 @@ ghost use Rattle.gph_session.specs.Sessions.{EndsBy};
 use crate::report::{Report, Status};
 use crate::serve::serve;
 use line_io::{Sink, Source};
+use open_session::{Session, new_session};
 use part_layout::Config;
 use read_meter::{Meters, NoMemory, Steps};
 use scatter_gather::Gate;
 use session_desk::Desk;
 use session_model::BLOCK_MOST;
-use session_step::{Session, new_session};
 use std::alloc::Global;
 use std::thread::Threads;
 

@@ -11,7 +11,7 @@ use Rattle.query_protocol.specs.declared.bad.LineFault.{LineFault}
 use Rattle.query_protocol.specs.declared.bad.LineFault.TheVariants as line
 use Rattle.session_model.specs.Builds.{StartsUnlessBuilding}
 use Rattle.session_model.specs.State.{Build}
-use Rattle.session_step.specs.declared.shard_build.ShardBuild.{ShardBuild}
+use Rattle.open_session.specs.declared.shard_build.ShardBuild.{ShardBuild}
 use Rattle.query_protocol.specs.Replies.{reply_line}
 use Rattle.query_protocol.specs.Replies as reply
 use Rattle.query_protocol.specs.declared.bad.Bad.{Bad}
@@ -19,11 +19,11 @@ use Rattle.session_model.specs.Commits.{is_answered}
 use Rattle.open_queries.specs.Writing.{Writes, IsCaused}
 use Rattle.session_step.specs.declared.turn.Turn.{Turn}
 use Rattle.session_step.specs.declared.turn.Turn.TheVariants.{Goes}
-use Rattle.session_step.specs.Moments.{Moment}
+use Rattle.open_session.specs.Moments.{Moment}
 use Rattle.session_step.specs.Answering.{TurnIs, fault_reply, turn_after, requests_with}
-use Rattle.session_step.specs.KeptBuild.{MeansBuild}
-use Rattle.session_step.proofs.Here.{Here, asked_here, exchange_here, quiet, writes_one}
-use Rattle.session_step.proofs.WholeLemmas.{WholeTo, still_whole, whole_of}
+use Rattle.open_session.specs.KeptBuild.{MeansBuild}
+use Rattle.open_session.proofs.Here.{Here, asked_here, exchange_here, quiet, writes_one}
+use Rattle.open_session.proofs.WholeLemmas.{WholeTo, still_whole, whole_of}
 
 -- a step with the requests counted
 counted_step : {A : Type 0} {W : ℕ} (p : Here W) (after : Option (List ℕ)) (result : Result A Failed) (mid : Moment W)

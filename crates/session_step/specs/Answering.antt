@@ -7,7 +7,7 @@ use Rattle.byte_lines.specs.declared.cutter.Cut.{Cut}
 use Rattle.line_io.specs.declared.source.Failed.{Failed}
 use Rattle.hamming_model.specs.History.{JournalEntry}
 use Rattle.part_layout.specs.declared.config.Config.{Config}
-use Rattle.query_protocol.specs.Requests.{LineReading, LineRequest, bad}
+use Rattle.query_protocol.specs.Requests.{LineReading, bad}
 use Rattle.query_protocol.specs.Replies.{LineReply}
 use Rattle.query_protocol.specs.Replies as reply
 use Rattle.query_protocol.specs.declared.bad.LineFault.{LineFault}
@@ -18,8 +18,8 @@ use Rattle.session_model.specs.Commits.{is_answered}
 use Rattle.session_model.specs.Run.{asks_quit}
 use Rattle.session_step.specs.declared.turn.Turn.{Turn}
 use Rattle.session_step.specs.declared.turn.Turn.TheVariants.{Goes, Quits}
-use Rattle.session_step.specs.Moments.{Moment, Point}
-use Rattle.session_step.specs.Steps.{OneStep, Stands}
+use Rattle.open_session.specs.Moments.{Moment, Point}
+use Rattle.open_session.specs.Steps.{OneStep, Stands}
 
 -- one answered line more, if it is one: the count stays at the greatest number
 abbrev pub requests_with : LineReading → ℕ → ℕ
@@ -42,14 +42,6 @@ TurnIs (Ok Quits) W config history s line before after old new =
     (asks_quit (reading config line) ≡ true) × Appends before after [] × (new ≡ old)
 TurnIs (Err failed) W config history s line before after old new =
     OneLine {A = Turn} W config history s line before after (Err failed) old new
-
--- a request is answered so, whatever line asks it and whatever state the session means
-abbrev pub AnswersRequest : {A : Type 0} {W : ℕ} → LineRequest → Result A Failed → Config
-    → Option (List ℕ) → Option (List ℕ) → Moment W → Moment W → Type 0
-AnswersRequest {A} {W} asked result config before after old new =
-    (line : List ℕ) → reading config line ≡ Ok (Some asked) →
-    (history : List JournalEntry) (s : State) → Stands config old history s →
-    OneStep W config history s line before after result old new
 
 -- a session answers a line so, whatever state it means
 abbrev pub AnswersAs : {W : ℕ} → Result Turn Failed → Config → List ℕ → Option (List ℕ)
@@ -74,9 +66,3 @@ abbrev pub AnswersCut : {W : ℕ} → Cut → Result Turn Failed → Config → 
 AnswersCut cut result config old new =
     (line : List ℕ) → TellsOf (Some cut) old.cutter.line (line ∷ [])
     → AnswersAs result config line old.written new.written old.moment new.moment
-
--- a request is answered so between two points of a session
-abbrev pub AnswersBetween : {A : Type 0} {W : ℕ} → LineRequest → Result A Failed → Config
-    → Point W → Point W → Type 0
-AnswersBetween asked result config old new =
-    AnswersRequest asked result config old.written new.written old.moment new.moment

@@ -1,16 +1,1 @@
-pub mod Pinned
-pub mod Questions
-pub mod Cursors
-pub mod KeptDesk
-pub mod KeptBuild
-pub mod Samples
-pub mod Moments
-pub mod Meaning
-pub mod Steps
-pub mod PlainSteps
 pub mod Answering
-pub mod Commits
-pub mod Opening
-pub mod Rebuilding
-pub mod SwappingIn
-pub mod Searching

@@ -9,25 +9,23 @@ ghost use Rattle.query_protocol.specs.Stored.{unstored, IsFit, IsFitReading, Nam
 ghost use Rattle.query_protocol.specs.Replies.{line_of};
 ghost use Rattle.layout_search.specs.Improves.{AreSamples};
 ghost use Rattle.open_queries.specs.Writing.{IsCaused};
-ghost use Rattle.session_step.specs.KeptBuild.{IsBuildOfDesk, KeepsBuilds};
-ghost use Rattle.session_step.specs.Meaning.{IsReady, HaveShards, IsAnswered, IsPlain};
-ghost use Rattle.session_step.specs.PlainSteps.{AnswersPlainlyBetween};
-ghost use Rattle.session_step.specs.Answering.{AnswersBetween, AnswersCut, fault_reply, turn_after};
-ghost use Rattle.session_step.specs.Moments.{point_of};
+ghost use Rattle.open_session.specs.KeptBuild.{IsBuildOfDesk, KeepsBuilds};
+ghost use Rattle.open_session.specs.Meaning.{IsReady, HaveShards, IsAnswered, IsPlain};
+ghost use Rattle.open_session.specs.PlainSteps.{AnswersPlainlyBetween};
+ghost use Rattle.open_session.specs.Steps.{AnswersBetween};
+ghost use Rattle.session_step.specs.Answering.{AnswersCut, fault_reply, turn_after};
+ghost use Rattle.open_session.specs.Moments.{point_of};
 
-use crate::asking::{cancel, cost, layout, next, plan};
-use crate::commits::{add, delete, get};
-use crate::open_session::Session;
-use crate::opening::begin_query;
-use crate::question::Question;
-use crate::rebuilding::{place, start, swap};
-use crate::searching::search;
 use crate::turn::Turn;
+use build_requests::{place, search, start, swap};
 use byte_lines::{Cut, Cutter};
+use desk_requests::{add, delete, get, layout};
 use line_io::{Failed, Sink};
 use open_queries::say;
+use open_session::{Question, Session};
 use part_layout::Config;
 use query_protocol::{Bad, LineFault, Reply, Request, read_line};
+use query_requests::{begin_query, cancel, cost, next, plan};
 use read_meter::{Meters, Steps};
 use scatter_gather::Gate;
 use session_desk::Desk;
@@ -164,8 +162,7 @@ fn meet_plainly<const W: usize, D: Desk<W>, K: Sink, R: Threads + Sync, G: Gate,
     requires shard { NamesOneOf config.now.shards request }
     requires plain { IsPlain request }
     ensures answers { AnswersPlainlyBetween (unstored config.now.bits request.entry) result
-        config.now
-        (point_of (D.desk desk.old) session.old meters.old upkeep.old (K.held sink.old))
+        config.now (point_of (D.desk desk.old) session.old meters.old upkeep.old (K.held sink.old))
         (point_of (D.desk desk.new) session.new meters.new upkeep.new (K.held sink.new)) }
     ensures cutter { session.new.cutter ≡ session.old.cutter }
     ensures requests { session.new.requests ≡ session.old.requests }

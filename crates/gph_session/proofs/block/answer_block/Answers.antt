@@ -1,10 +1,7 @@
 -- The lines of a block, one after the other.
-use Rattle.std.proofs.Common.{◌≡◌, ◌-◌, ◌++◌, length, take, drop}
-use Rattle.std.proofs.Common.{refl, ◌∙◌, subst, arith, rules}
-use Rattle.std.proofs.lemmas.List.{take_all, length-drop, length-take}
-use Rattle.session_step.specs.Moments.{moment_of}
-use Rattle.gph_session.specs.Flow.{GoesOn}
-use Rattle.gph_session.proofs.BlockLemmas.{goes_then, quits_then, refused_then, still_goes}
+use Rattle.std.proofs.Common.{◌-◌, length, drop, refl, arith, rules}
+use Rattle.std.proofs.lemmas.List.{length-drop, length-take}
+use Rattle.gph_session.proofs.BlockLemmas.{all_goes, goes_then, quits_then, refused_then, still_goes}
 use Rattle.gph_session.proofs.block.answer_block.Goals as goal
 
 pub loop-done-init : goal.loop-done-init
@@ -48,25 +45,16 @@ loop-done-preserved g c =
 
 pub returns-in-Ok-Quits-clause-flow : goal.returns-in-Ok-Quits-clause-flow
 returns-in-Ok-Quits-clause-flow g c = λ start bytes output going.
-    quits_then c.args.config.now start _ _ c.loop-done.done c.answer_line-taken.result.0 c.args.block.now bytes output
-    _ _ _ _ _ (c.loop-done.invariant.goes start bytes output going) c.answer_line-taken.result.1
-    c.answer_line-taken.ensures.flow (search rules)
+    quits_then c.args.config.now start _ _ c.loop-done.done c.answer_line-taken.result.0 c.args.block.now bytes output _ _ _ _ _
+    (c.loop-done.invariant.goes start bytes output going) c.answer_line-taken.result.1 c.answer_line-taken.ensures.flow (search rules)
 
 pub returns-in-Err-clause-flow : goal.returns-in-Err-clause-flow
 returns-in-Err-clause-flow g c = λ start bytes output going.
-    refused_then c.args.config.now start _ _ c.loop-done.done c.answer_line-taken.result.0 c.args.block.now bytes output
-    _ _ _ _ _ (c.loop-done.invariant.goes start bytes output going) c.answer_line-taken.result.1
-    c.answer_line-taken.ensures.flow c.in-Err.field-0 c.in-Err.is
+    refused_then c.args.config.now start _ _ c.loop-done.done c.answer_line-taken.result.0 c.args.block.now bytes output _ _ _ _ _
+    (c.loop-done.invariant.goes start bytes output going) c.answer_line-taken.result.1 c.answer_line-taken.ensures.flow
+    c.in-Err.field-0 c.in-Err.is
 
 pub returns-clause-flow : goal.returns-clause-flow
 returns-clause-flow g c = λ start bytes output going.
-    let now = moment_of (g.D.Desk.desk c.loop-done.desk) c.loop-done.session c.loop-done.meters
-    c.loop-done.upkeep in
-    let whole : take c.loop-done.done c.args.block.now ≡ c.args.block.now =
-    take_all c.loop-done.done c.args.block.now (omega arith) in
-    let end = c.loop-done.invariant.goes start bytes output going in (
-      end.0,
-      end.1,
-      subst (λ l. GoesOn c.args.config.now start now (bytes ++ l) (output ++ end.0)
-          c.loop-done.session.cutter.held) whole end.2,
-    )
+    all_goes c.args.config.now start _ c.loop-done.done c.args.block.now bytes output _ _ _ (omega arith)
+    (c.loop-done.invariant.goes start bytes output going)

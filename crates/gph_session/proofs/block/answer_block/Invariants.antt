@@ -1,9 +1,9 @@
 use Rattle.std.proofs.Common.{◌≡◌, ℕ, ◌≤◌, ◌-◌, true, List, ◌++◌, length, take}
 use Rattle.std.specs.Io.KnownBytes.{Appends}
 use Rattle.layout_search.specs.Improves.{AreSamples}
-use Rattle.session_step.specs.KeptBuild.{IsBuildOfDesk}
-use Rattle.session_step.specs.Meaning.{HaveShards}
-use Rattle.session_step.specs.Moments.{moment_of}
+use Rattle.open_session.specs.KeptBuild.{IsBuildOfDesk}
+use Rattle.open_session.specs.Meaning.{HaveShards}
+use Rattle.open_session.specs.Moments.{moment_of}
 use Rattle.gph_session.specs.Flow.{Start, GoesOn}
 use Rattle.gph_session.proofs.block.answer_block.Given as goal
 

@@ -1,89 +1,60 @@
 -- How a session goes on after a read, and how it ends.
-use Rattle.std.proofs.Common.{◌≡◌, ◌≢◌, ◌<◌, length, take, drop, get_or}
-use Rattle.std.proofs.Common.{ap, ◌∙◌, subst, arith, rules}
-use Rattle.std.specs.Io.KnownBytes.{Consumes}
-use Rattle.session_model.specs.Outside.{ends}
-use Rattle.gph_session.proofs.ServeLemmas.{take_one, has_read, length_read, read_fault}
-use Rattle.gph_session.proofs.ServeLemmas.{limit_reached, done_at_end, refused_at_end}
-use Rattle.gph_session.proofs.ServeLemmas.{serves_more, done_by_quit, refused_in_block}
+use Rattle.std.proofs.Common.{◌≡◌, ◌≢◌, length, drop, get_or, arith, rules}
+use Rattle.gph_session.proofs.ServeLemmas.{has_read, length_read, none_read, one_read, read_fault, limit_reached}
+use Rattle.gph_session.proofs.ServeLemmas.{done_at_end, refused_at_end, serves_more, done_by_quit, refused_in_block}
 use Rattle.gph_session.proofs.serve.serve.Goals as goal
 
 pub returns-in-Err : goal.returns-in-Err
-returns-in-Err g c =
-    read_fault c.loop-session.invariant.serves c.in-Err.ensures.bytes c.in-Err.ensures.cause.failed
+returns-in-Err g c = read_fault c.loop-session.invariant.serves c.in-Err.ensures.bytes c.in-Err.ensures.cause.failed
 
 pub returns-in-Ok-answer_end : goal.returns-in-Ok-answer_end
 returns-in-Ok-answer_end g c =
-    let zero = c.in-Ok-eq0.field-0-test in
     let size : length c.read.new.room ≡ c.clamp-room.result = search rules in
-    let none = subst (λ n. Consumes (g.S.Source.left c.loop-session.source) (g.S.Source.left c.read.new.self)
-    (take n c.read.new.room)) zero c.in-Ok-eq0.ensures.bytes.0 in
-    done_at_end c.loop-session.invariant.serves _ _ _ c.in-Ok-eq0.ensures.steady none
-    (c.in-Ok-eq0.ensures.bytes.1 zero (omega (arith, size, c.clamp-room.ensures))) c.answer_end.result
-    c.answer_end.ensures.flow
-    c.in-Ok-answer_end.is c.in-Ok-answer_end.ensures.cause
+    done_at_end c.loop-session.invariant.serves _ _ _ c.in-Ok-eq0.ensures.steady
+    (none_read _ c.read.new.room c.in-Ok-eq0.field-0-test c.in-Ok-eq0.ensures.bytes.0)
+    (c.in-Ok-eq0.ensures.bytes.1 c.in-Ok-eq0.field-0-test (omega (arith, size, c.clamp-room.ensures))) c.answer_end.result
+    c.answer_end.ensures.flow c.in-Ok-answer_end.is c.in-Ok-answer_end.ensures.cause
 
 pub returns-in-Err-answer_end : goal.returns-in-Err-answer_end
 returns-in-Err-answer_end g c =
-    let zero = c.in-Ok-eq0.field-0-test in
     let size : length c.read.new.room ≡ c.clamp-room.result = search rules in
-    let none = subst (λ n. Consumes (g.S.Source.left c.loop-session.source) (g.S.Source.left c.read.new.self)
-    (take n c.read.new.room)) zero c.in-Ok-eq0.ensures.bytes.0 in
-    refused_at_end c.loop-session.invariant.serves _ _ _ c.in-Ok-eq0.ensures.steady none
-    (c.in-Ok-eq0.ensures.bytes.1 zero (omega (arith, size, c.clamp-room.ensures))) c.answer_end.result
-    c.answer_end.ensures.flow
-    c.in-Err-answer_end.is c.in-Err-answer_end.ensures.cause.1
+    refused_at_end c.loop-session.invariant.serves _ _ _ c.in-Ok-eq0.ensures.steady
+    (none_read _ c.read.new.room c.in-Ok-eq0.field-0-test c.in-Ok-eq0.ensures.bytes.0)
+    (c.in-Ok-eq0.ensures.bytes.1 c.in-Ok-eq0.field-0-test (omega (arith, size, c.clamp-room.ensures))) c.answer_end.result
+    c.answer_end.ensures.flow c.in-Err-answer_end.is c.in-Err-answer_end.ensures.cause.1
 
 pub returns-then-taken-limit : goal.returns-then-taken-limit
 returns-then-taken-limit g c =
-    let full = c.if-taken-limit.true in
-    let length_is : length c.read.new.room ≡ c.clamp-room.result = search rules in
+    let room_is : length c.read.new.room ≡ c.clamp-room.result = search rules in
     let some : c.in-Ok.count ≢ 0 = c.in-Ok.count-test.1 in
-    let one : c.in-Ok.count ≡ 1 =
-    omega (arith, length_is, c.clamp-room.ensures, c.in-Ok.ensures.bound.0, full, some) in
-    let room : 0 < length c.read.new.room = omega (arith, length_is, c.clamp-room.ensures) in
-    let read = subst (Consumes (g.S.Source.left c.loop-session.source) (g.S.Source.left c.read.new.self))
-    (ap (λ n. take n c.read.new.room) one ∙ take_one c.read.new.room room) c.in-Ok.ensures.bytes.0 in
-    limit_reached c.loop-session.invariant.serves (get_or c.read.new.room 0 0) read c.in-Ok.ensures.steady full
+    limit_reached c.loop-session.invariant.serves (get_or c.read.new.room 0 0) (one_read c.in-Ok.count c.read.new.room
+    (omega (arith, room_is, c.clamp-room.ensures, c.in-Ok.ensures.bound.0, c.if-taken-limit.true, some))
+    (omega (arith, room_is, c.clamp-room.ensures)) c.in-Ok.ensures.bytes.0) c.in-Ok.ensures.steady c.if-taken-limit.true
 
 pub loop-session-preserved : goal.loop-session-preserved
 loop-session-preserved g c =
-    let i = c.loop-session.invariant in
+    let serves = c.loop-session.invariant.serves in
     let rest = drop c.clamp-room.result c.loop-session.block in
-    let room_is : length c.read.new.room ≡ c.clamp-room.result = search rules in
-    let read = has_read c.in-Ok.count c.read.new.room rest c.in-Ok.ensures.bound.0
-    (omega (arith, room_is, c.clamp-room.ensures)) (omega (arith, room_is, c.clamp-room.ensures, i.serves.few))
-    c.in-Ok.ensures.bytes.0 in
+    let read = has_read c.in-Ok.count c.clamp-room.result c.read.new.room rest (search rules) c.in-Ok.ensures.bound.0
+    (omega (arith, c.clamp-room.ensures)) (omega (arith, c.clamp-room.ensures, serves.few)) c.in-Ok.ensures.bytes.0 in
     record {
       alone = c.answer_block.ensures.alone;
       config = c.answer_block.ensures.config;
       shards = c.answer_block.ensures.shards;
       samples = c.answer_block.ensures.samples;
       build = c.answer_block.ensures.build;
-      serves = serves_more i.serves _ _ _ c.in-Ok.ensures.steady read _ c.answer_block.result
-          c.answer_block.ensures.flow c.in-Ok.count
+      serves = serves_more serves _ _ _ c.in-Ok.ensures.steady read _ c.answer_block.result c.answer_block.ensures.flow c.in-Ok.count
           (length_read c.in-Ok.count c.read.new.room rest c.in-Ok.ensures.bound.0) (search rules) (search rules);
     }
 
 pub returns-in-Ok-Quits : goal.returns-in-Ok-Quits
-returns-in-Ok-Quits g c =
-    let serves = c.loop-session.invariant.serves in
-    let room_is : length c.read.new.room ≡ c.clamp-room.result = search rules in
-    let read = has_read c.in-Ok.count c.read.new.room (drop c.clamp-room.result c.loop-session.block)
-    c.in-Ok.ensures.bound.0
-    (omega (arith, room_is, c.clamp-room.ensures)) (omega (arith, room_is, c.clamp-room.ensures, serves.few))
-    c.in-Ok.ensures.bytes.0 in
-    done_by_quit serves _ _ _ c.in-Ok.ensures.steady read _ c.answer_block.result c.answer_block.ensures.flow
-    (search rules) (search rules)
+returns-in-Ok-Quits g c = done_by_quit c.loop-session.invariant.serves _ _ _ c.in-Ok.ensures.steady
+    (has_read c.in-Ok.count c.clamp-room.result c.read.new.room (drop c.clamp-room.result c.loop-session.block) (search rules)
+    c.in-Ok.ensures.bound.0 (omega (arith, c.clamp-room.ensures)) (omega (arith, c.clamp-room.ensures, c.loop-session.invariant.serves.few))
+    c.in-Ok.ensures.bytes.0) _ c.answer_block.result c.answer_block.ensures.flow (search rules) (search rules)
 
 pub returns-in-Err-answer_block : goal.returns-in-Err-answer_block
-returns-in-Err-answer_block g c =
-    let serves = c.loop-session.invariant.serves in
-    let full : length c.read.new.room ≡ c.clamp-room.result = search rules in
-    let read = has_read c.in-Ok.count c.read.new.room (drop c.clamp-room.result c.loop-session.block)
-    c.in-Ok.ensures.bound.0
-    (omega (arith, full, c.clamp-room.ensures)) (omega (arith, full, c.clamp-room.ensures, serves.few))
-    c.in-Ok.ensures.bytes.0 in
-    refused_in_block serves _ _ _ c.in-Ok.ensures.steady read _ c.answer_block.result c.answer_block.ensures.flow
-    c.in-Err-answer_block.is
-    c.in-Err-answer_block.ensures.cause.1
+returns-in-Err-answer_block g c = refused_in_block c.loop-session.invariant.serves _ _ _ c.in-Ok.ensures.steady
+    (has_read c.in-Ok.count c.clamp-room.result c.read.new.room (drop c.clamp-room.result c.loop-session.block) (search rules)
+    c.in-Ok.ensures.bound.0 (omega (arith, c.clamp-room.ensures)) (omega (arith, c.clamp-room.ensures, c.loop-session.invariant.serves.few))
+    c.in-Ok.ensures.bytes.0) _ c.answer_block.result c.answer_block.ensures.flow c.in-Err-answer_block.is c.in-Err-answer_block.ensures.cause.1

@@ -1,9 +1,9 @@
 use Rattle.std.proofs.Common.{◌≡◌, ◌-◌, true}
 use Rattle.session_model.specs.Outside.{ends}
 use Rattle.layout_search.specs.Improves.{AreSamples}
-use Rattle.session_step.specs.KeptBuild.{IsBuildOfDesk}
-use Rattle.session_step.specs.Meaning.{HaveShards}
-use Rattle.session_step.specs.Moments.{moment_of}
+use Rattle.open_session.specs.KeptBuild.{IsBuildOfDesk}
+use Rattle.open_session.specs.Meaning.{HaveShards}
+use Rattle.open_session.specs.Moments.{moment_of}
 use Rattle.gph_session.specs.Flow.{start_at}
 use Rattle.gph_session.specs.Serving.{Serves}
 use Rattle.gph_session.proofs.serve.serve.Given as goal

@@ -1,17 +1,14 @@
 -- A session begins with nothing answered, and ends as it was served.
-use Rattle.std.proofs.Common.{◌≡◌, [], None, sym, ap, ◌∙◌, map, subst, rules, true}
-use Rattle.std.proofs.lemmas.Result.{IfOk-at_ok}
-use Rattle.byte_lines.specs.Cut.{held_of}
+use Rattle.std.proofs.Common.{◌≡◌, sym, ap, ◌∙◌, map, subst, rules, true}
 use Rattle.session_desk.specs.Desks.{DeskState, IsDesk}
-use Rattle.session_step.specs.declared.open_session.Session.{Session}
 use Rattle.gph_session.specs.declared.report.Status.TheVariants as status
 use Rattle.layout_search.specs.Improves.{AreSamples}
-use Rattle.session_step.specs.KeptBuild.{IsBuildOfDesk}
-use Rattle.session_step.specs.Meaning.{HaveShards}
-use Rattle.session_step.specs.Moments.{moment_of}
-use Rattle.session_step.specs.Pinned.{told_layout}
-use Rattle.session_step.proofs.MomentLemmas.{learns_nothing}
-use Rattle.gph_session.proofs.BegunLemmas.{begun_session, is_ready, ended_as, no_samples}
+use Rattle.open_session.specs.KeptBuild.{IsBuildOfDesk}
+use Rattle.open_session.specs.Meaning.{HaveShards}
+use Rattle.open_session.specs.Moments.{moment_of}
+use Rattle.open_session.specs.Pinned.{told_layout}
+use Rattle.open_session.proofs.MomentLemmas.{learns_nothing}
+use Rattle.gph_session.proofs.BegunLemmas.{begun_session, ended_over, is_ready, new_of, no_samples}
 use Rattle.gph_session.proofs.session_call.session.Goals as goal
 
 pub serve-status-requires-after_bounds : goal.serve-status-requires-after_bounds
@@ -25,65 +22,39 @@ serve-status-requires-after_bounds g c κs within =
     let alone : now.alone ≡ true = ap (λ (d : DeskState). d.alone) same ∙ c.requires.alone in
     let config : now.config ≡ c.args.config.now = ap (λ (d : DeskState). d.config) same ∙ c.requires.config in
     let made = c.new_session-begun.ensures in
-    let ok = c.in-Ok-Ok.is-0 in
-    let queries = IfOk-at_ok (λ (session : Session g.row.W). session.queries ≡ []) ok made.queries in
-    let cutter = IfOk-at_ok (λ (session : Session g.row.W). session.cutter.held ≡ held_of []) ok made.cutter in
-    let opened = IfOk-at_ok (λ (session : Session g.row.W). session.pinned.opened ≡ 0) ok made.opened in
-    let told = IfOk-at_ok (λ (session : Session g.row.W). session.pinned.told.items ≡ []) ok made.told in
-    let samples = IfOk-at_ok (λ (session : Session g.row.W). session.samples ≡ []) ok made.samples in
-    let build = IfOk-at_ok (λ (session : Session g.row.W). session.build ≡ None) ok made.build in
-    let requests = IfOk-at_ok (λ (session : Session g.row.W). session.requests ≡ 0) ok made.requests in
-    let position = IfOk-at_ok (λ (session : Session g.row.W). session.position ≡ c.length-position.result) ok made.position in (
+    let new = new_of c.length-position.result c.in-Ok-Ok.is-0 made.queries made.opened made.told made.samples made.build
+    made.cutter made.requests made.position in (
       search rules,
-      (
-        c.requires.sync,
-        (
-          is_ready g.row.W c.args.config.now now is config,
-          (
-            alone,
-            (
-              config,
-              (
-                subst (HaveShards {W = g.row.W} c.args.config.now.shards) (sym queries) tt,
-                (
-                  subst (AreSamples c.args.config.now.bits) (sym samples) (no_samples g.row.W c.args.config.now.bits),
-                  (
-                    subst (IsBuildOfDesk now) (sym build) tt,
-                    (
-                      search rules,
-                      begun_session g.row.W c.args.config.now
-                          (moment_of now session c.args.meters.now c.args.upkeep.now) session.cutter.held is alone config
-                          queries opened (ap (map told_layout) told) samples build requests (position ∙ c.length-position.ensures.length) cutter,
-                    ),
-                  ),
-                ),
-              ),
-            ),
-          ),
-        ),
-      ),
+      c.requires.sync,
+      is_ready g.row.W c.args.config.now now is config,
+      alone,
+      config,
+      subst (HaveShards {W = g.row.W} c.args.config.now.shards) (sym new.queries) tt,
+      subst (AreSamples c.args.config.now.bits) (sym new.samples) (no_samples g.row.W c.args.config.now.bits),
+      subst (IsBuildOfDesk now) (sym new.build) tt,
+      search rules,
+      begun_session g.row.W c.args.config.now
+          (moment_of now session c.args.meters.now c.args.upkeep.now) session.cutter.held is alone config
+          new.queries new.opened (ap (map told_layout) new.told) new.samples new.build new.requests
+          (new.position ∙ c.length-position.ensures.length) new.cutter,
     )
 
 pub returns-clause-done : goal.returns-clause-done
 returns-clause-done g c = λ is.
-    ended_as c.serve-status.result status.Done is c.args.config.now _ (g.D.Desk.desk c.args.desk.now) _ _ _
-    (learns_nothing (g.D.Desk.desk c.args.desk.now) (g.D.Desk.desk c.length-position.new.self) c.requires.alone
-    c.length-position.ensures.learns) c.serve-status.ensures
+    ended_over c.serve-status.result status.Done is c.args.config.now (g.D.Desk.desk c.args.desk.now) _ _ _ _ c.requires.alone
+    c.length-position.ensures.learns c.serve-status.ensures
 
 pub returns-clause-read_fault : goal.returns-clause-read_fault
 returns-clause-read_fault g c = λ is.
-    ended_as c.serve-status.result status.ReadFault is c.args.config.now _ (g.D.Desk.desk c.args.desk.now) _ _ _
-    (learns_nothing (g.D.Desk.desk c.args.desk.now) (g.D.Desk.desk c.length-position.new.self) c.requires.alone
-    c.length-position.ensures.learns) c.serve-status.ensures
+    ended_over c.serve-status.result status.ReadFault is c.args.config.now (g.D.Desk.desk c.args.desk.now) _ _ _ _ c.requires.alone
+    c.length-position.ensures.learns c.serve-status.ensures
 
 pub returns-clause-write_fault : goal.returns-clause-write_fault
 returns-clause-write_fault g c = λ is.
-    ended_as c.serve-status.result status.WriteFault is c.args.config.now _ (g.D.Desk.desk c.args.desk.now) _ _ _
-    (learns_nothing (g.D.Desk.desk c.args.desk.now) (g.D.Desk.desk c.length-position.new.self) c.requires.alone
-    c.length-position.ensures.learns) c.serve-status.ensures
+    ended_over c.serve-status.result status.WriteFault is c.args.config.now (g.D.Desk.desk c.args.desk.now) _ _ _ _ c.requires.alone
+    c.length-position.ensures.learns c.serve-status.ensures
 
 pub returns-clause-input_limit : goal.returns-clause-input_limit
 returns-clause-input_limit g c = λ is.
-    ended_as c.serve-status.result status.InputLimit is c.args.config.now _ (g.D.Desk.desk c.args.desk.now) _ _ _
-    (learns_nothing (g.D.Desk.desk c.args.desk.now) (g.D.Desk.desk c.length-position.new.self) c.requires.alone
-    c.length-position.ensures.learns) c.serve-status.ensures
+    ended_over c.serve-status.result status.InputLimit is c.args.config.now (g.D.Desk.desk c.args.desk.now) _ _ _ _ c.requires.alone
+    c.length-position.ensures.learns c.serve-status.ensures

@@ -5,17 +5,16 @@ use Rattle.query_protocol.specs.Stored.{unstored_reading}
 use Rattle.session_model.specs.Commits.{is_answered}
 use Rattle.query_protocol.specs.Replies.{reply_line}
 use Rattle.open_queries.specs.Writing.{IsCaused, Writes}
-use Rattle.session_step.specs.Moments.{moment_of}
+use Rattle.open_session.specs.Moments.{moment_of}
 use Rattle.session_step.specs.Answering.{TurnIs, fault_reply}
-use Rattle.session_step.proofs.Here.{here_of}
+use Rattle.open_session.proofs.Here.{here_of}
 use Rattle.session_step.proofs.TurnLemmas.{turn_of, fault_step, fault_answered, nothing_turn, caused_turn}
 use Rattle.session_step.proofs.line_answer.answer.Goals as goal
 
 pub returns-in-Ok-None-clause-answers : goal.returns-in-Ok-None-clause-answers
 returns-in-Ok-None-clause-answers g c = λ line tells history s stands.
     nothing_turn (here_of c.args.config.now _ (g.K.Sink.held c.args.sink.now) line history s stands) _
-    (sym (c.in-Ok-None.ensures.reads line tells).asked
-    ∙ ap (λ r. unstored_reading c.args.config.now.bits (Ok r)) c.in-Ok-None.field-0-is) (Appends-nil _)
+    (sym (c.in-Ok-None.ensures.reads line tells).asked ∙ ap (λ r. unstored_reading _ (Ok r)) c.in-Ok-None.field-0-is) (Appends-nil _)
 
 pub returns-in-Ok-Some : goal.returns-in-Ok-Some
 returns-in-Ok-Some g c =
@@ -27,8 +26,7 @@ returns-in-Ok-Some g c =
           let old = moment_of (g.D.Desk.desk c.args.desk.now) c.args.session.now c.args.meters.now c.args.upkeep.now in
           let mid = moment_of (g.D.Desk.desk call.new.desk) call.new.session call.new.meters call.new.upkeep in
           let p = here_of config old (held c.args.sink.now) line history s stands in
-          let asks = sym (c.in-Ok-Some.ensures.reads line tells).asked
-          ∙ ap (λ r. unstored_reading config.bits (Ok r)) c.in-Ok-Some.field-0-is in
+          let asks = sym (c.in-Ok-Some.ensures.reads line tells).asked ∙ ap (λ r. unstored_reading config.bits (Ok r)) c.in-Ok-Some.field-0-is in
           subst (λ r. TurnIs r g.row.W config history s line (held c.args.sink.now) (held call.new.sink) old
           (record mid { requests = c.saturating_add-session.result })) (sym c.goes_on.ensures)
           (turn_of p (held call.new.sink) call.result mid c.saturating_add-session.result

@@ -1,9 +1,9 @@
 -- A request that isn't on builds is met by a step of which the build stays.
-use Rattle.std.proofs.Common.{◌≡◌, sym, ◌∙◌, subst}
+use Rattle.std.proofs.Common.{sym, ◌∙◌, subst}
 use Rattle.query_protocol.specs.Stored.{unstored}
-use Rattle.session_step.specs.KeptBuild.{IsBuildOfDesk}
-use Rattle.session_step.specs.Moments.{Point, point_of}
-use Rattle.session_step.proofs.WholeLemmas.{answered_whole, has_build_later, plain_request}
+use Rattle.open_session.specs.KeptBuild.{IsBuildOfDesk}
+use Rattle.open_session.specs.Moments.{Point, point_of}
+use Rattle.open_session.proofs.WholeLemmas.{answered_whole, has_build_later, plain_request}
 use Rattle.session_step.proofs.line_answer.meet.Goals as goal
 
 pub returns-in_default : goal.returns-in_default

@@ -1,0 +1,4 @@
+pub mod StartLemmas
+pub mod SwapInLemmas
+pub mod RebuildFrames
+pub mod SearchLemmas

@@ -1,0 +1,10 @@
+pub mod MomentLemmas
+pub mod Here
+pub mod PinnedLemmas
+pub mod QueryLemmas
+pub mod QuestionLemmas
+pub mod BoundLemmas
+pub mod DeskLemmas
+pub mod PlainLemmas
+pub mod WholeLemmas
+pub mod KeptSamples

@@ -1,0 +1,10 @@
+pub mod Pinned
+pub mod Questions
+pub mod Cursors
+pub mod KeptDesk
+pub mod KeptBuild
+pub mod Samples
+pub mod Moments
+pub mod Meaning
+pub mod Steps
+pub mod PlainSteps

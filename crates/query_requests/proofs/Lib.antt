@@ -1,0 +1,5 @@
+pub mod NextLemmas
+pub mod AskLemmas
+pub mod OpenedLemmas
+pub mod FrameLemmas
+pub mod OpeningLemmas
