@@ -30,7 +30,7 @@ use Rattle.build_requests.specs.Rebuilding.{WasOtherBuild, kept_build}
 use Rattle.build_requests.specs.SwappingIn.{HadRowsLeft, HasLacked, HasSwapped, SwapsInAs}
 use Rattle.open_session.proofs.Here.{Here, asked_here, exchange_here, means_to, on_ok, pinned_still, samples_here, writes_one}
 use Rattle.open_session.proofs.MomentLemmas.{reads_still}
-use Rattle.open_session.proofs.DeskLemmas.{beyond_less, keeps, pin_within, same_list, seen_same}
+use Rattle.open_session.proofs.DeskLemmas.{are_layouts, beyond_less, keeps, pin_within, same_list, seen_same}
 use Rattle.build_requests.proofs.StartLemmas.{beyond_one, seen_here}
 use Rattle.open_session.proofs.WholeLemmas.{WholeTo, leaves, no_build, some_build, still_whole, whole_by}
 
