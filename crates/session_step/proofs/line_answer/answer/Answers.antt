@@ -14,7 +14,7 @@ use Rattle.session_step.proofs.line_answer.answer.Goals as goal
 pub returns-in-Ok-None-clause-answers : goal.returns-in-Ok-None-clause-answers
 returns-in-Ok-None-clause-answers g c = λ line tells history s stands.
     nothing_turn (here_of c.args.config.now _ (g.K.Sink.held c.args.sink.now) line history s stands) _
-    (sym (c.in-Ok-None.ensures.reads line tells).asked ∙ ap (λ r. unstored_reading _ (Ok r)) c.in-Ok-None.field-0-is) (Appends-nil _)
+    (sym (c.in-Ok-None.ensures.reads line tells).asked ∙ ap (λ r. unstored_reading c.args.config.now.bits (Ok r)) c.in-Ok-None.field-0-is) (Appends-nil _)
 
 pub returns-in-Ok-Some : goal.returns-in-Ok-Some
 returns-in-Ok-Some g c =
