@@ -168,7 +168,12 @@ fn told(read: &Option<Request<1>>) -> (&[u8], &[u8], u64, u64) {
         Some(Request::Del { key }) => (b"del", b"", *key, 0),
         Some(Request::Get { key }) => (b"get", b"", *key, 0),
         Some(Request::Range { tag, tau, code }) => {
-            (b"range", tag.bytes(), u64::from(*tau), code.words()[0] >> 56)
+            (
+                b"range",
+                tag.bytes(),
+                u64::from(*tau),
+                code.words()[0] >> 56,
+            )
         }
         Some(Request::Near { tag, k, code }) => {
             (b"near", tag.bytes(), u64::from(*k), code.words()[0] >> 56)

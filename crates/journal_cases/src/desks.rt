@@ -57,7 +57,13 @@ pub(crate) fn spelled<R: Abort>(rt: &R, text: &[u8]) -> Code<1>
 }
 
 // Commits an operation, and compares what became of it.
-pub(crate) fn commit<R: Abort, D: Desk<1>>(rt: &R, desk: &mut D, op: Op<1>, decision: Decision, position: u64)
+pub(crate) fn commit<R: Abort, D: Desk<1>>(
+    rt: &R,
+    desk: &mut D,
+    op: Op<1>,
+    decision: Decision,
+    position: u64,
+)
     requires bits { (D.desk desk.old).config.bits ≡ 8 }
     requires stored { IsStoredOperation 1 8 (kept_operation op) }
     ensures config { (D.desk desk.new).config ≡ (D.desk desk.old).config }
