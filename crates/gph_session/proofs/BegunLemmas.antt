@@ -4,6 +4,7 @@ use Rattle.std.proofs.Common.{Result, Ok, IfOk, refl, sym, ap, subst, inl, arith
 use Rattle.std.proofs.lemmas.Result.{IfOk-at_ok}
 use Rattle.byte_lines.specs.Cut.{held_of}
 use Rattle.part_layout.specs.declared.config.Config.{Config}
+use Rattle.session_desk.specs.Calls.{OnlyLearns}
 use Rattle.session_desk.specs.Desks.{DeskState, IsDesk, seen_history}
 use Rattle.layout_search.specs.Improves.{AreSamples, plain_sample}
 use Rattle.session_model.specs.Outside.{Call}
@@ -16,7 +17,7 @@ use Rattle.open_session.specs.Meaning.{AllKeep, IsReady, Means}
 use Rattle.gph_session.specs.Flow.{HasBegunWith}
 use Rattle.gph_session.specs.declared.report.Status.{Status}
 use Rattle.gph_session.specs.Serving.{EndsAs}
-use Rattle.open_session.proofs.MomentLemmas.{reads_still, spends_still, as_long, desk_keeps}
+use Rattle.open_session.proofs.MomentLemmas.{reads_still, spends_still, as_long, desk_keeps, learns_nothing}
 use Rattle.open_session.proofs.DeskLemmas.{are_layouts}
 use Rattle.open_session.proofs.WholeLemmas.{leaves}
 

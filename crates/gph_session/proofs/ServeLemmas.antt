@@ -86,17 +86,6 @@ has_read {before} {after} count size room rest sized within few fits read =
       fits = omega (arith, ap length same, short, fits);
     }
 
--- a read that gave nothing
-pub none_read : {before after : Option (List ℕ)} (count : ℕ) (room : List ℕ) → count ≡ 0
-    → Consumes before after (take count room) → Consumes before after []
-none_read {before} {after} count room zero = subst (λ n. Consumes before after (take n room)) zero
-
--- a read that gave one byte
-pub one_read : {before after : Option (List ℕ)} (count : ℕ) (room : List ℕ) → count ≡ 1 → 0 < length room
-    → Consumes before after (take count room) → Consumes before after (get_or room 0 0 ∷ [])
-one_read {before} {after} count room one some =
-    subst (Consumes before after) (ap (λ n. take n room) one ∙ take_one room some)
-
 pub length_read : (count : ℕ) (room rest : List ℕ) → count ≤ length room
     → length (take count (room ++ rest)) ≡ count
 length_read count room rest within =
@@ -146,32 +135,41 @@ module _ {W : ℕ} {config : Config} {start : Start} {old : Moment W} {taken : �
     };
   }
 
-  pub limit_reached : {source2 : Ends} (past : ℕ) → Consumes source1.bytes source2.bytes (past ∷ [])
+  -- one byte more was read
+  pub limit_reached : {source2 : Ends} (count : ℕ) (room : List ℕ) → count ≡ 1 → 0 < length room
+      → Consumes source1.bytes source2.bytes (take count room)
       → source2.faults ≡ source1.faults → taken ≡ config.input
       → EndsWith (IsInputLimit (Served old) config) (up_to source2 sink1 old)
-  limit_reached {source2} past more steady full = record {
-    rise = served.rise;
-    rises = served.rises;
-    ended = record {
-      no_read_failed = steady ∙ serves.no_read_failed;
-      no_write_failed = serves.no_write_failed;
-      bytes = serves.bytes;
-      past = past;
-      output = serves.output;
-      read = Consumes-trans source0.bytes source1.bytes source2.bytes serves.bytes (past ∷ []) serves.read more;
-      full = serves.long ∙ full;
-      wrote = serves.wrote;
-      goes_on = goes;
-      answered = served.answered;
-    };
-  }
+  limit_reached {source2} count room one some read steady full =
+      let past = get_or room 0 0 in
+      let more = subst (Consumes source1.bytes source2.bytes) (ap (λ n. take n room) one ∙ take_one room some) read in
+      record {
+        rise = served.rise;
+        rises = served.rises;
+        ended = record {
+          no_read_failed = steady ∙ serves.no_read_failed;
+          no_write_failed = serves.no_write_failed;
+          bytes = serves.bytes;
+          past = past;
+          output = serves.output;
+          read = Consumes-trans source0.bytes source1.bytes source2.bytes serves.bytes (past ∷ []) serves.read more;
+          full = serves.long ∙ full;
+          wrote = serves.wrote;
+          goes_on = goes;
+          answered = served.answered;
+        };
+      }
 
   module _ (source2 sink2 : Ends) (new : Moment W) (no_read_failed : source2.faults ≡ source1.faults) where
     -- ---- the end of the input
 
-    module _ (none : Consumes source1.bytes source2.bytes []) (at_end : IsAtEnd source2.bytes)
-        (result : Result Turn Failed) (flows : EndsOn result config old new begun sink1.bytes sink2.bytes)
-      where
+    module _ (count : ℕ) (room : List ℕ) (zero : count ≡ 0)
+        (read : Consumes source1.bytes source2.bytes (take count room)) (at_end : IsAtEnd source2.bytes)
+        (result : Result Turn Failed) (flows : EndsOn result config old new begun sink1.bytes sink2.bytes) where
+        -- nothing was read
+        none : Consumes source1.bytes source2.bytes []
+        none = subst (λ n. Consumes source1.bytes source2.bytes (take n room)) zero read
+
         ends : (more : List ℕ) × Appends sink1.bytes sink2.bytes more
             × EndIs result config start new serves.bytes (serves.output ++ more)
         ends = flows start serves.bytes serves.output serves.goes

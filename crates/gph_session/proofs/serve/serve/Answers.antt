@@ -1,6 +1,6 @@
 -- How a session goes on after a read, and how it ends.
-use Rattle.std.proofs.Common.{◌≡◌, ◌≢◌, length, drop, get_or, arith, rules}
-use Rattle.gph_session.proofs.ServeLemmas.{has_read, length_read, none_read, one_read, read_fault, limit_reached}
+use Rattle.std.proofs.Common.{◌≡◌, ◌≢◌, length, drop, arith, rules}
+use Rattle.gph_session.proofs.ServeLemmas.{has_read, length_read, read_fault, limit_reached}
 use Rattle.gph_session.proofs.ServeLemmas.{done_at_end, refused_at_end, serves_more, done_by_quit, refused_in_block}
 use Rattle.gph_session.proofs.serve.serve.Goals as goal
 
@@ -10,16 +10,16 @@ returns-in-Err g c = read_fault c.loop-session.invariant.serves c.in-Err.ensures
 pub returns-in-Ok-answer_end : goal.returns-in-Ok-answer_end
 returns-in-Ok-answer_end g c =
     let size : length c.read.new.room ≡ c.clamp-room.result = search rules in
-    done_at_end c.loop-session.invariant.serves _ _ _ c.in-Ok-eq0.ensures.steady
-    (none_read _ c.read.new.room c.in-Ok-eq0.field-0-test c.in-Ok-eq0.ensures.bytes.0)
+    done_at_end c.loop-session.invariant.serves _ _ _ c.in-Ok-eq0.ensures.steady _ c.read.new.room
+    c.in-Ok-eq0.field-0-test c.in-Ok-eq0.ensures.bytes.0
     (c.in-Ok-eq0.ensures.bytes.1 c.in-Ok-eq0.field-0-test (omega (arith, size, c.clamp-room.ensures))) c.answer_end.result
     c.answer_end.ensures.flow c.in-Ok-answer_end.is c.in-Ok-answer_end.ensures.cause
 
 pub returns-in-Err-answer_end : goal.returns-in-Err-answer_end
 returns-in-Err-answer_end g c =
     let size : length c.read.new.room ≡ c.clamp-room.result = search rules in
-    refused_at_end c.loop-session.invariant.serves _ _ _ c.in-Ok-eq0.ensures.steady
-    (none_read _ c.read.new.room c.in-Ok-eq0.field-0-test c.in-Ok-eq0.ensures.bytes.0)
+    refused_at_end c.loop-session.invariant.serves _ _ _ c.in-Ok-eq0.ensures.steady _ c.read.new.room
+    c.in-Ok-eq0.field-0-test c.in-Ok-eq0.ensures.bytes.0
     (c.in-Ok-eq0.ensures.bytes.1 c.in-Ok-eq0.field-0-test (omega (arith, size, c.clamp-room.ensures))) c.answer_end.result
     c.answer_end.ensures.flow c.in-Err-answer_end.is c.in-Err-answer_end.ensures.cause.1
 
@@ -27,9 +27,9 @@ pub returns-then-taken-limit : goal.returns-then-taken-limit
 returns-then-taken-limit g c =
     let room_is : length c.read.new.room ≡ c.clamp-room.result = search rules in
     let some : c.in-Ok.count ≢ 0 = c.in-Ok.count-test.1 in
-    limit_reached c.loop-session.invariant.serves (get_or c.read.new.room 0 0) (one_read c.in-Ok.count c.read.new.room
+    limit_reached c.loop-session.invariant.serves c.in-Ok.count c.read.new.room
     (omega (arith, room_is, c.clamp-room.ensures, c.in-Ok.ensures.bound.0, c.if-taken-limit.true, some))
-    (omega (arith, room_is, c.clamp-room.ensures)) c.in-Ok.ensures.bytes.0) c.in-Ok.ensures.steady c.if-taken-limit.true
+    (omega (arith, room_is, c.clamp-room.ensures)) c.in-Ok.ensures.bytes.0 c.in-Ok.ensures.steady c.if-taken-limit.true
 
 pub loop-session-preserved : goal.loop-session-preserved
 loop-session-preserved g c =
