@@ -1,0 +1,5 @@
+pub mod Asks
+pub mod Codes
+pub mod Kept
+pub mod Sources
+pub mod Worlds
