@@ -1,8 +1,10 @@
 //! The beginning of a world.
 
-ghost use Rattle.std.specs.Prelude.{◌≡◌, ◌*◌, ◌≤◌, IfOk};
+ghost use Rattle.std.specs.Prelude.{◌≡◌, ◌*◌, ◌<◌, ◌≤◌, [], IfOk};
 ghost use Rattle.std.specs.Arc.{arc_value};
 ghost use Rattle.hamming_model.specs.declared.limits.TheConstants.{ENTRIES_MOST, ROOM_MOST, SHARDS_MOST, WORDS_MOST};
+ghost use Rattle.shard_version.specs.Contents.{empty_of};
+ghost use Rattle.versioned_shard.specs.Shards.{shard_with};
 ghost use Rattle.world_model.specs.Events.{IsLayoutFor};
 ghost use Rattle.gph_world.specs.Worlds.{start_of};
 ghost use Rattle.gph_world.specs.Kept.{ArePlacesBegun};
@@ -70,10 +72,27 @@ fn first_places<const W: usize>(
 {
     let mut places = Vec::new(alloc);
     for number in 0..shards {
-        let own = layout.clone()?;
-        let version = Version::empty(alloc, number, shards, own)?;
-        let shard = Shard::new(alloc, version)?;
+        let shard = first_shard(alloc, shards, number, layout)?;
         places.push(Place { shard, build: None })?;
     }
     Ok(places)
+}
+
+// A shard before the first entry.
+fn first_shard<const W: usize>(
+    alloc: Global,
+    shards: u32,
+    shard: u32,
+    layout: &Arc<Layout>,
+) -> Result<Shard<W>, NoMemory>
+    requires few_words { W ≤ WORDS_MOST }
+    requires words { (arc_value layout.now).bits ≤ 64 * W }
+    requires own { shard < shards }
+    requires few_shards { shards ≤ SHARDS_MOST }
+    ensures { IfOk result (λ first. first ≡ shard_with
+        (empty_of shard shards (arc_value layout.now)) []) }
+{
+    let own = layout.clone()?;
+    let version = Version::empty(alloc, shard, shards, own)?;
+    Shard::new(alloc, version)
 }
