@@ -1,9 +1,9 @@
 -- Queries that are kept, and the fronts that they hold.
-use Rattle.std.proofs.Common.{◌≡◌, ◌≢◌, ◌⊎◌, inl, inr, ℕ, zero, suc, ◌<◌, ◌≤◌, List, [], ◌∷◌, ◌++◌, length, map, Option, Some, None, refl, sym, ap, subst, ◌∙◌}
-use Rattle.std.specs.Prelude.{◌↔◌, option_map, slice_get, slice_set}
-use Rattle.std.proofs.lemmas.Option.{none-some, same_Some, slice_get_past, slice_get-map}
+use Rattle.std.proofs.Common.{◌≡◌, ◌≢◌, ◌⊎◌, inl, inr, ℕ, zero, suc, ◌<◌, ◌≤◌, List, [], ◌∷◌, ◌++◌, length, get_or, map, Option, Some, None, refl, sym, ap, subst, ◌∙◌}
+use Rattle.std.specs.Prelude.{◌↔◌, IfSome, option_map, slice_get, slice_set}
+use Rattle.std.proofs.lemmas.Option.{none-some, same_Some, slice_get_past, slice_get_read, slice_get-map}
 use Rattle.commit_journal.specs.Fronts.{FrontState, StandsAt, position_of, positions_of}
-use Rattle.commit_journal.specs.Journals.{JournalState}
+use Rattle.commit_journal.specs.Journals.{IsLive, JournalState}
 use Rattle.hamming_model.specs.Recoded.{cut_history}
 use Rattle.world_model.specs.WorldState.{WorldQuery, live_fronts, open_position}
 use Rattle.world_model.proofs.Lookups.{get_other, get_same}
@@ -31,6 +31,14 @@ get_apart (x ∷ xs) y (suc i) apart = get_apart xs y i (λ e. apart (ap suc e))
 pub get_last : {A : Type 0} (xs : List A) (y : A) → slice_get (xs ++ y ∷ []) (length xs) ≡ Some y
 get_last [] y = refl
 get_last (x ∷ xs) y = get_last xs y
+
+-- what an index finds stands there
+pub found_there : {A : Type 0} (xs : List A) (i : ℕ) (x : A) → i < length xs → x ≡ get_or xs i x → slice_get xs i ≡ Some x
+found_there xs i x below at = slice_get_read xs (length xs) i x refl below at
+
+-- two look-ups at one place find the same
+pub two_found : {A : Type 0} (xs : List A) (i : ℕ) (x y : A) → i < length xs → x ≡ get_or xs i x → y ≡ get_or xs i y → x ≡ y
+two_found xs i x y below first second = same_Some x y (sym (found_there xs i x below first) ∙ found_there xs i y below second)
 
 -- ---- fronts that queries hold
 module _ {W : ℕ} (queries : List (Held W)) where
@@ -99,3 +107,11 @@ module _ {W : ℕ} (bits room : ℕ) (journal : JournalState) (places : List (Pl
 
   pub seen_past : (number : ℕ) → length queries ≤ number → slice_get (map (query_seen bits) queries) number ≡ None
   seen_past number past = slice_get-map (query_seen bits) queries number ∙ ap (option_map (query_seen bits)) (slice_get_past queries number past)
+
+  -- the front of a query is live, while it is open
+  pub front_is_live : (number : ℕ) (held : Held W) → slice_get queries number ≡ Some held → IfSome held.front (IsLive journal)
+  front_is_live number held there = go held.front refl
+    where
+      go : (front : Option FrontState) → held.front ≡ front → IfSome front (IsLive journal)
+      go None e = tt
+      go (Some front) e = keeps.live.live number front (front_there queries number held there ∙ e)

@@ -47,7 +47,7 @@ is_query found query there = ap (λ (o : Option WorldQuery). cause (is_none o) N
 
 -- the cause that a thing gives
 pub cause_at : {A : Type 0} (found : Option A) (thing : A) (test : A → Option Refused) → found ≡ Some thing → cause_of found test ≡ test thing
-cause_at found thing test there = ap (λ (o : Option A). cause_of o test) there
+cause_at {A} found thing test there = ap (λ (o : Option A). cause_of o test) there
 
 -- a cause whose test holds, or doesn't
 pub cause_if : (test : Bool) (why : Refused) → test ≡ true → cause test why ≡ Some why

@@ -1,5 +1,7 @@
 -- A world begins.
 use Rattle.std.proofs.Common.{◌≡◌, ℕ, zero, suc, ◌+◌, ◌*◌, ◌≤◌, List, [], ◌∷◌, ◌++◌, length, map, Option, Some, None, refl, sym, ap, subst, ◌∙◌, arith}
+use Rattle.std.specs.FinMap.{get-empty}
+use Rattle.std.specs.Ordering.{nat_cmp}
 use Rattle.std.specs.Prelude.{slice_get}
 use Rattle.std.proofs.lemmas.List.{length-map, map-append}
 use Rattle.std.proofs.lemmas.Option.{none-some}
@@ -23,7 +25,7 @@ first_place shard shards layout = record { shard = shard_with (empty_of shard sh
 
 -- one shard more
 empty_more : (z : Setting) (layout : Laid) (first n : ℕ)
-    → empty_places z layout first n ++ first_place (first + n) z.shards layout ∷ [] ≡ empty_places z layout first (n + 1)
+    → empty_places z layout first n ++ first_place (first + n) z.shards layout ∷ [] ≡ empty_places z layout first (suc n)
 empty_more z layout first zero = ap (λ (at : ℕ). first_place at z.shards layout ∷ []) (let e : first + 0 ≡ first = omega arith in e)
 empty_more z layout first (suc n) =
     ap (λ (rest : List ShardWithBuild). first_place first z.shards layout ∷ rest)
@@ -48,7 +50,8 @@ one_more_begun shards layout places number place begun is = record {
       ∙ ap (λ (one : ShardWithBuild). empty_places z layout 0 number ++ one ∷ [])
       (is ∙ ap (λ (n : ℕ). first_place number n layout) (sym same)
       ∙ ap (λ (n : ℕ). first_place n z.shards layout) (let e : number ≡ 0 + number = omega arith in e))
-      ∙ empty_more z layout 0 number;
+      ∙ empty_more z layout 0 number
+      ∙ ap (empty_places z layout 0) (let e : suc number ≡ number + 1 = omega arith in e);
 }
 
 module _ {W : ℕ} (bits shards room limit : ℕ) (layout : Laid) (places : List (Place W)) (begun : ArePlacesBegun shards layout places shards) where
@@ -83,7 +86,7 @@ module _ {W : ℕ} (bits shards room limit : ℕ) (layout : Laid) (places : List
       live = λ holder front holds. absurd (none-some front holds);
       known = λ holder front holds. absurd (none-some front holds);
       once = λ holder other front second holds too same. absurd (none-some front holds);
-      all = λ id pair stands. absurd (none-some pair stands);
+      all = λ id pair stands. absurd (none-some pair (sym (get-empty nat_cmp id) ∙ stands));
     };
     held = λ number held there. absurd (none-some held there);
   }

@@ -1,6 +1,7 @@
 //! Cancellations of queries.
 
-ghost use Rattle.std.specs.Prelude.{◌≡◌, IfSome, None, true};
+ghost use Rattle.std.specs.Prelude.{◌≡◌, ◌≤◌, IfSome};
+ghost use Rattle.hamming_model.specs.declared.limits.TheConstants.{WORDS_MOST};
 ghost use Rattle.commit_journal.specs.Journals.{IsLive, KeepsFronts};
 ghost use Rattle.world_model.specs.Events.{Cancel};
 ghost use Rattle.world_model.specs.WorldStep.{WorldStep};
@@ -26,17 +27,18 @@ impl<const W: usize> World<W> {
         if number >= self.queries.len() {
             return Err(Refused::NoQuery);
         }
-        let held = &mut self.queries[number];
+        let held = &self.queries[number];
         if held.cancelled {
             return Err(Refused::Closed);
         }
-        let count = cancel_query(&mut self.journal, held);
+        let count = cancel_query(&mut self.journal, &mut self.queries[number]);
         Ok(Told::Cancelled { count })
     }
 }
 
 // Closes the front of a query, if it is open, marks the query as cancelled, and tells how many hits it gave.
 fn cancel_query<const W: usize>(journal: &mut Journal<W>, held: &mut Held<W>) -> u64
+    requires few_words { W ≤ WORDS_MOST }
     requires live { IfSome held.old.front (IsLive journal.old) }
     ensures journal { journal.new ≡ without_held journal.old held.old.front }
     ensures cancelled { held.new ≡ cancelled held.old }

@@ -43,7 +43,7 @@ impl<const W: usize> World<W> {
         requires small_room { room ≤ ROOM_MOST }
         requires limited { limit ≤ ENTRIES_MOST }
         ensures { IfOk result (λ world.
-            world ≡ start_of bits shards room limit (arc_value layout.entry)) }
+            world ≡ start_of bits shards room limit (arc_value layout)) }
     {
         let journal = Journal::new(alloc, limit)?;
         let places = first_places(alloc, shards, &layout)?;
