@@ -1,12 +1,12 @@
 -- A query is cancelled, and its front closed.
-use Rattle.std.proofs.Common.{◌≡◌, ◌≢◌, inl, inr, ℕ, Bool, true, false, List, length, map, Option, Some, None, refl, sym, ap, subst, ◌∙◌}
-use Rattle.std.specs.Prelude.{IfSome, Ok, slice_get, slice_set}
+use Rattle.std.proofs.Common.{◌≡◌, inl, inr, ℕ, true, false, List, length, map, Option, Some, None, refl, sym, ap, subst, ◌∙◌}
+use Rattle.std.specs.Prelude.{Ok, slice_get, slice_set}
 use Rattle.std.proofs.lemmas.List.{map-set}
 use Rattle.std.proofs.lemmas.Option.{none-some}
 use Rattle.hamming_model.specs.History.{JournalEntry}
 use Rattle.hamming_model.specs.Recoded.{AreStoredEntries, cut_history}
 use Rattle.commit_journal.specs.Fronts.{FrontState}
-use Rattle.commit_journal.specs.Journals.{IsLive, JournalState, KeepsFronts, without_front}
+use Rattle.commit_journal.specs.Journals.{JournalState, KeepsFronts}
 use Rattle.world_model.specs.declared.refused.Refused.TheVariants.{Closed, NoQuery}
 use Rattle.world_model.specs.declared.told.Told.TheVariants as told
 use Rattle.world_model.specs.Events.{Cancel, Setting}
@@ -76,9 +76,9 @@ module _ {W : ℕ} (bits room : ℕ) (old new : JournalState) (places : List (Pl
       query = query_seen bits held;
       is_query = seen_there bits room old places queries keeps number held there;
       after = ap (λ (history : List JournalEntry). let t : WorldState = record s {
-            history = cut_history bits history;
-            queries = map (query_seen bits) after;
-          } in t) history_same
+        history = cut_history bits history;
+        queries = map (query_seen bits) after;
+      } in t) history_same
           ∙ ap (λ (all : List WorldQuery). let t : WorldState = record s { queries = all } in t)
           (map-set (query_seen bits) queries number (cancelled held));
       said_is = ap told.Cancelled count_is;

@@ -1,5 +1,5 @@
 -- A commit of the journal is one of the world.
-use Rattle.std.proofs.Common.{◌≡◌, ℕ, ◌≤◌, Bool, true, false, cond, List, ◌++◌, ◌∷◌, [], length, map, refl, sym, ap, subst, ◌∙◌}
+use Rattle.std.proofs.Common.{◌≡◌, ℕ, List, length, refl, sym, ap, subst, ◌∙◌}
 use Rattle.std.specs.Prelude.{Ok, slice_get, Some}
 use Rattle.std.proofs.lemmas.List.{length-map}
 use Rattle.hamming_model.specs.History.{JournalEntry, Operation, after_decision, decision_on}
@@ -47,13 +47,16 @@ module _ {W : ℕ} (bits room : ℕ) (old new : JournalState) (places : List (Pl
   limit_same = ap (λ (journal : JournalState). journal.limit) commits.after
 
   pub commit_step : WorldStep z s (Commit who (cut_operation bits operation)) (Ok (told.Decided decided)) (state_seen bits new places queries)
-  commit_step = (refl, record {
-    decided = decided;
-    decision = decision_is;
-    after = ap (λ (history : List JournalEntry). let t : WorldState = record s { history = history } in t) history_is;
-    position = commits.position ∙ sym (length-map new.history (cut_entry bits));
-    said_is = refl;
-  })
+  commit_step = (
+    refl,
+    record {
+      decided = decided;
+      decision = decision_is;
+      after = ap (λ (history : List JournalEntry). let t : WorldState = record s { history = history } in t) history_is;
+      position = commits.position ∙ sym (length-map new.history (cut_entry bits));
+      said_is = refl;
+    },
+  )
 
   held_now : (number : ℕ) (held : Held W) → slice_get queries number ≡ Some held
       → IsHeld (setting_seen bits room new places) (cut_history bits new.history) held

@@ -1,15 +1,14 @@
 -- Queries as the history grows.
-use Rattle.std.proofs.Common.{◌≡◌, ℕ, ◌≤◌, List, ◌++◌, ◌∷◌, [], length, take, Bool, true, false, cond, Option, Some, refl, sym, ap, subst, ◌∙◌}
+use Rattle.std.proofs.Common.{◌≡◌, ℕ, ◌≤◌, List, ◌++◌, ◌∷◌, [], length, take, Bool, true, false, cond, refl, sym, ap, subst, ◌∙◌}
 use Rattle.std.proofs.lemmas.List.{take-append-le}
 use Rattle.hamming_model.specs.History.{Decision, JournalEntry, after_decision, is_accepted, rows_of}
 use Rattle.shard_version.specs.Prefixes.{prefix_of}
 use Rattle.hit_source.specs.Sources.{Asked}
-use Rattle.scatter_gather.specs.Gathering.{Gathered, Gathering}
+use Rattle.scatter_gather.specs.Gathering.{Gathering}
 use Rattle.world_model.specs.Asking.{AsksOf, IsGatheringOf, SourceAsks, most_given}
 use Rattle.world_model.specs.Events.{Setting}
 use Rattle.world_model.specs.WorldState.{WorldQuery}
 use Rattle.gph_world.specs.Kept.{IsGathered, IsHeld, query_seen}
-use Rattle.gph_world.specs.Sources.{Source}
 use Rattle.gph_world.specs.declared.held.Held.{Held}
 
 -- the first so many entries stay where those of a decision come behind

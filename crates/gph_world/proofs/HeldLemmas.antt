@@ -1,13 +1,13 @@
 -- Queries that are kept, and the fronts that they hold.
-use Rattle.std.proofs.Common.{◌≡◌, ◌≢◌, ◌⊎◌, inl, inr, ℕ, zero, suc, ◌<◌, ◌≤◌, List, [], ◌∷◌, ◌++◌, length, get_or, map, Option, Some, None, refl, sym, ap, subst, ◌∙◌}
-use Rattle.std.specs.Prelude.{◌↔◌, IfSome, option_map, slice_get, slice_set}
-use Rattle.std.proofs.lemmas.Option.{none-some, same_Some, slice_get_past, slice_get_read, slice_get-map}
+use Rattle.std.proofs.Common.{◌≡◌, ◌≢◌, ℕ, zero, suc, ◌<◌, ◌≤◌, List, [], ◌∷◌, ◌++◌, length, get_or, map, Option, Some, None, refl, sym, ap, ◌∙◌}
+use Rattle.std.specs.Prelude.{IfSome, option_map, slice_get, slice_set}
+use Rattle.std.proofs.lemmas.Option.{same_Some, slice_get_past, slice_get_read, slice_get-map}
 use Rattle.commit_journal.specs.Fronts.{FrontState, StandsAt, position_of, positions_of}
 use Rattle.commit_journal.specs.Journals.{IsLive, JournalState}
 use Rattle.hamming_model.specs.Recoded.{cut_history}
 use Rattle.world_model.specs.WorldState.{WorldQuery, live_fronts, open_position}
 use Rattle.world_model.proofs.Lookups.{get_other, get_same}
-use Rattle.world_bridge.specs.Held.{HoldsLive, positions_held}
+use Rattle.world_bridge.specs.Held.{positions_held}
 use Rattle.world_bridge.proofs.HeldLemmas.{positions_same}
 use Rattle.gph_world.specs.Kept.{IsHeld, KeepsWorld, front_at, query_seen, setting_seen}
 use Rattle.gph_world.specs.declared.held.Held.{Held}

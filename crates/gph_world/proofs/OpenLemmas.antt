@@ -1,5 +1,5 @@
 -- The opening of a front is that of a query.
-use Rattle.std.proofs.Common.{◌≡◌, ◌≢◌, ◌⊎◌, inl, inr, ℕ, zero, suc, ◌<◌, ◌≤◌, ◌+◌, Bool, true, false, List, [], ◌∷◌, ◌++◌, length, map, replicate, Option, Some, None, refl, sym, ap, subst, ◌∙◌, arith}
+use Rattle.std.proofs.Common.{◌≡◌, inl, inr, ℕ, zero, suc, ◌<◌, Bool, true, false, List, [], ◌∷◌, ◌++◌, length, map, replicate, Option, Some, None, refl, sym, ap, subst, ◌∙◌, arith}
 use Rattle.std.specs.Prelude.{◌==◌, nat_le, Ok, slice_get, option_map}
 use Rattle.std.specs.List.{AllByRecursion}
 use Rattle.std.specs.declared.alloc.Global.{Global}
@@ -11,13 +11,13 @@ use Rattle.hamming_model.specs.History.{JournalEntry}
 use Rattle.hamming_model.specs.Recoded.{AreStoredEntries, cut_entry, cut_history}
 use Rattle.part_layout.specs.Laid.{Laid}
 use Rattle.shard_version.specs.Tables.{Tabled}
-use Rattle.commit_journal.specs.Fronts.{AreOlder, FrontState, StandsAt, has_position, position_of}
+use Rattle.commit_journal.specs.Fronts.{FrontState, has_position, position_of}
 use Rattle.commit_journal.specs.Journals.{IsLive, JournalState, KeepsFronts, KnowsFront, Opens}
 use Rattle.world_model.specs.declared.told.Told.TheVariants as told
 use Rattle.world_model.specs.declared.refused.Refused.TheVariants.{Many}
 use Rattle.world_model.specs.Events.{IsQuestion, Open, Setting}
 use Rattle.world_model.specs.QuerySteps.{ListsOlder}
-use Rattle.world_model.specs.Refusals.{cause, first_cause, refusal}
+use Rattle.world_model.specs.Refusals.{first_cause, refusal}
 use Rattle.world_model.specs.Sound.{IsSound}
 use Rattle.world_model.specs.WorldState.{WorldQuery, WorldState, fresh_query, live_fronts}
 use Rattle.world_model.specs.WorldStep.{WorldStep}
@@ -130,14 +130,16 @@ module _ {W : ℕ} (bits room : ℕ) (old new : JournalState) (places : List (Pl
   pub open_step : (opened position : ℕ) → opened ≡ length queries → position ≡ position_of front → nat_le 65536 opened ≡ false
       → WorldStep z s (Open who (ask_of bits ask)) (Ok (told.Opened opened position)) (state_seen bits new places (queries ++ held ∷ []))
   open_step opened position number_is at few =
-      let number : opened ≡ length s.queries = number_is ∙ sym (length-map queries (query_seen bits)) in
-      (not_many z s who (ask_of bits ask) opened number few, record {
-        older = front.older;
-        lists = lists;
-        after = after_is;
-        said_is = ap (λ (n : ℕ). told.Opened n position) number
-            ∙ ap (told.Opened (length s.queries)) (at ∙ ap length opens.entries ∙ sym long);
-      })
+      let number : opened ≡ length s.queries = number_is ∙ sym (length-map queries (query_seen bits)) in (
+        not_many z s who (ask_of bits ask) opened number few,
+        record {
+          older = front.older;
+          lists = lists;
+          after = after_is;
+          said_is = ap (λ (n : ℕ). told.Opened n position) number
+              ∙ ap (told.Opened (length s.queries)) (at ∙ ap length opens.entries ∙ sym long);
+        },
+      )
 
   -- ---- what is kept
   new_is_held : IsHeld (setting_seen bits room new places) (cut_history bits new.history) held

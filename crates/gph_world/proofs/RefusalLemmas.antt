@@ -1,12 +1,12 @@
 -- Why an event is refused, by each of the causes.
-use Rattle.std.proofs.Common.{◌≡◌, ℕ, ◌<◌, ◌≤◌, Bool, true, false, cond, List, [], ◌∷◌, length, map, Option, Some, None, refl, sym, ap, ◌∙◌}
-use Rattle.std.specs.Prelude.{◌⊎◌, nat_le, is_none, slice_get}
+use Rattle.std.proofs.Common.{◌≡◌, ℕ, ◌<◌, ◌≤◌, Bool, true, false, [], ◌∷◌, Option, Some, None, ap, ◌∙◌}
+use Rattle.std.specs.Prelude.{nat_le, is_none}
 use Rattle.std.proofs.lemmas.Bool.{lt-leb, le-leb}
 use Rattle.world_model.specs.declared.refused.Refused.{Refused}
-use Rattle.world_model.specs.declared.refused.Refused.TheVariants.{Closed, NoQuery, NoShard}
+use Rattle.world_model.specs.declared.refused.Refused.TheVariants.{NoQuery, NoShard}
 use Rattle.world_model.specs.Events.{Event, Setting}
 use Rattle.world_model.specs.Refusals.{building, cause, cause_of, closed, first_cause, lacks_query, lacks_shard, many, moved, no_build, not_pinned, refusal, unfronted, unready}
-use Rattle.world_model.specs.WorldState.{ShardWithBuild, WorldQuery, WorldState}
+use Rattle.world_model.specs.WorldState.{WorldQuery, WorldState}
 
 -- the refusal by what each cause is
 pub refusal_by : (z : Setting) (s : WorldState) (event : Event) (a b c d e f g h i j : Option Refused)

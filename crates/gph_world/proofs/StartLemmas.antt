@@ -1,20 +1,18 @@
 -- A world begins.
-use Rattle.std.proofs.Common.{◌≡◌, ℕ, zero, suc, ◌+◌, ◌*◌, ◌≤◌, List, [], ◌∷◌, ◌++◌, length, map, Option, Some, None, refl, sym, ap, subst, ◌∙◌, arith}
+use Rattle.std.proofs.Common.{◌≡◌, ℕ, zero, suc, ◌+◌, ◌*◌, ◌≤◌, List, [], ◌∷◌, ◌++◌, length, None, refl, sym, ap, subst, ◌∙◌, arith}
 use Rattle.std.specs.FinMap.{get-empty}
 use Rattle.std.specs.Ordering.{nat_cmp}
-use Rattle.std.specs.Prelude.{slice_get}
 use Rattle.std.proofs.lemmas.List.{length-map, map-append}
 use Rattle.std.proofs.lemmas.Option.{none-some}
 use Rattle.hamming_model.specs.declared.limits.TheConstants.{ROOM_MOST, SHARDS_MOST, WORDS_MOST}
 use Rattle.part_layout.specs.Laid.{Laid}
 use Rattle.shard_version.specs.Contents.{empty_of}
-use Rattle.commit_journal.specs.Journals.{JournalState, empty_journal}
-use Rattle.versioned_shard.specs.Shards.{ShardState, shard_with}
+use Rattle.commit_journal.specs.Journals.{empty_journal}
+use Rattle.versioned_shard.specs.Shards.{shard_with}
 use Rattle.world_model.specs.Events.{IsLayoutFor, Setting}
 use Rattle.world_model.specs.Sound.{IsSound}
 use Rattle.world_model.specs.WorldState.{ShardWithBuild, WorldState, empty_places, new_world}
 use Rattle.world_model.proofs.PinLemmas.{new_sound}
-use Rattle.world_bridge.specs.Held.{HoldsLive}
 use Rattle.gph_world.specs.Kept.{ArePlacesBegun, KeepsWorld, place_seen, state_seen, world_seen}
 use Rattle.gph_world.specs.Worlds.{WorldView, setting_of, start_of}
 use Rattle.gph_world.specs.declared.place.Place.{Place}

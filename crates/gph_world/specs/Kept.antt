@@ -1,5 +1,5 @@
 -- How a world is kept. No public clause cites this module.
-use Rattle.std.specs.Prelude.{◌≡◌, ℕ, ◌*◌, ◌<◌, ◌≤◌, true, Bool, List, [], length, map, take, Option, Some, None, slice_get, option_map}
+use Rattle.std.specs.Prelude.{◌≡◌, ℕ, ◌*◌, ◌≤◌, true, List, [], length, map, Option, Some, None, slice_get, option_map}
 use Rattle.std.specs.declared.alloc.Global.{Global}
 use Rattle.std.specs.declared.sync.Arc.{Arc}
 use Rattle.hamming_model.specs.History.{JournalEntry}
@@ -11,7 +11,7 @@ use Rattle.version_draft.specs.Unfinished.{Unfinished}
 use Rattle.hit_source.specs.Sources.{Standing}
 use Rattle.commit_journal.specs.Fronts.{FrontState, position_of}
 use Rattle.commit_journal.specs.Journals.{JournalState, without_front}
-use Rattle.versioned_shard.specs.Shards.{ShardState, contents_at}
+use Rattle.versioned_shard.specs.Shards.{contents_at}
 use Rattle.scatter_gather.specs.Gathering.{Gathered}
 use Rattle.scatter_gather.specs.Kept.{IsGathering}
 use Rattle.world_model.specs.Asking.{IsGatheringOf}

@@ -52,7 +52,8 @@ impl<const W: usize> World<W> {
             gather: None,
             limit: 0,
             cancelled: false,
-        }) else {
+        })
+        else {
             unreachable!()
         };
         Ok(Told::Opened {

@@ -1,5 +1,5 @@
 -- One shard more stands before the first entry.
-use Rattle.std.proofs.Common.{◌++◌, ◌∷◌, [], ◌+◌, List, subst, sym, ap}
+use Rattle.std.proofs.Common.{◌+◌, List, subst, sym, ap}
 use Rattle.std.specs.Arc.{arc_value}
 use Rattle.std.specs.Prelude.{None}
 use Rattle.versioned_shard.specs.Shards.{ShardState}

@@ -1,11 +1,11 @@
 -- A query that goes on is cancelled, and its front is closed.
-use Rattle.std.proofs.Common.{◌≡◌, ℕ, ◌<◌, true, false, inl, List, Some, length, refl, sym, ap, subst, ◌∙◌, arith}
-use Rattle.std.specs.Prelude.{Err, Ok, slice_get, slice_set}
+use Rattle.std.proofs.Common.{inl, refl, sym, ap, subst, ◌∙◌, arith}
+use Rattle.std.specs.Prelude.{Err, Ok, slice_set}
 use Rattle.world_model.specs.declared.refused.Refused.TheVariants.{Closed}
 use Rattle.world_model.specs.declared.told.Told.TheVariants as told
 use Rattle.world_model.specs.Events.{Cancel}
 use Rattle.world_model.specs.WorldStep.{WorldStep}
-use Rattle.gph_world.specs.Kept.{KeepsWorld, cancelled, given_by, query_seen, setting_seen, state_seen}
+use Rattle.gph_world.specs.Kept.{KeepsWorld, query_seen, setting_seen, state_seen}
 use Rattle.gph_world.specs.Worlds.{WorldView}
 use Rattle.gph_world.specs.declared.held.Held.{Held}
 use Rattle.gph_world.proofs.CancelLemmas.{cancel_keeps, cancel_step, was_closed}
@@ -18,9 +18,12 @@ returns-then-held-clause-step g c =
     let held = c.index-held.result.now in
     let there = found_there i.queries.items c.args.query held (omega (arith, c.if-number-len.false, c.len.ensures, i.queries.ok.0)) c.index-held.ensures in
     subst (λ (w : WorldView). WorldStep w.setting w.state (Cancel c.args.query) (Err Closed) w.state) c.self.view_is
-    (inl (was_closed (setting_seen i.bits i.room i.journal i.places.items) (state_seen i.bits i.journal i.places.items i.queries.items) c.args.query
-    (query_seen i.bits held) (seen_there i.bits i.room i.journal i.places.items i.queries.items c.self.invariant c.args.query held there)
-    c.if-held.true, refl))
+    (inl (
+      was_closed (setting_seen i.bits i.room i.journal i.places.items) (state_seen i.bits i.journal i.places.items i.queries.items) c.args.query
+          (query_seen i.bits held) (seen_there i.bits i.room i.journal i.places.items i.queries.items c.self.invariant c.args.query held there)
+          c.if-held.true,
+      refl,
+    ))
 
 pub cancel_query-count-requires : goal.cancel_query-count-requires
 cancel_query-count-requires g c =
