@@ -1,4 +1,5 @@
 pub mod Asks
+pub mod Calls
 pub mod Codes
 pub mod Kept
 pub mod Sources

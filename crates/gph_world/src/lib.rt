@@ -2,6 +2,7 @@
 //! Whatever calls follow one another, the state between two of them is sound, and each answer is that of the definitions.
 #![tactic(auto)]
 
+mod advancing;
 mod ask;
 mod cancelling;
 mod commits;
