@@ -1,0 +1,9 @@
+pub mod AdvanceLemmas
+pub mod CancelLemmas
+pub mod CommitLemmas
+pub mod GrownLemmas
+pub mod HeldLemmas
+pub mod OpenLemmas
+pub mod PlaceLemmas
+pub mod RefusalLemmas
+pub mod StartLemmas

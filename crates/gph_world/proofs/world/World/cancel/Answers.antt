@@ -1,0 +1,71 @@
+-- A query that goes on is cancelled, and its front is closed.
+use Rattle.std.proofs.Common.{inl, refl, sym, ap, subst, ◌∙◌, arith}
+use Rattle.std.specs.Prelude.{Err, Ok, slice_set}
+use Rattle.world_model.specs.declared.refused.Refused.TheVariants.{Closed}
+use Rattle.world_model.specs.declared.told.Told.TheVariants as told
+use Rattle.world_model.specs.Events.{Cancel}
+use Rattle.world_model.specs.WorldStep.{WorldStep}
+use Rattle.gph_world.specs.Kept.{KeepsWorld, query_seen, setting_seen, state_seen}
+use Rattle.gph_world.specs.Worlds.{WorldView}
+use Rattle.gph_world.specs.declared.held.Held.{Held}
+use Rattle.gph_world.proofs.CancelLemmas.{cancel_keeps, cancel_step, was_closed}
+use Rattle.gph_world.proofs.HeldLemmas.{found_there, front_is_live, seen_there, two_found}
+use Rattle.gph_world.proofs.world.World.cancel.Goals as goal
+
+pub returns-then-held-clause-step : goal.returns-then-held-clause-step
+returns-then-held-clause-step g c =
+    let i = c.self.inside in
+    let held = c.index-held.result.now in
+    let there = found_there i.queries.items c.args.query held (omega (arith, c.if-number-len.false, c.len.ensures, i.queries.ok.0)) c.index-held.ensures in
+    subst (λ (w : WorldView). WorldStep w.setting w.state (Cancel c.args.query) (Err Closed) w.state) c.self.view_is
+    (inl (
+      was_closed (setting_seen i.bits i.room i.journal i.places.items) (state_seen i.bits i.journal i.places.items i.queries.items) c.args.query
+          (query_seen i.bits held) (seen_there i.bits i.room i.journal i.places.items i.queries.items c.self.invariant c.args.query held there)
+          c.if-held.true,
+      refl,
+    ))
+
+pub cancel_query-count-requires : goal.cancel_query-count-requires
+cancel_query-count-requires g c =
+    let i = c.self.inside in
+    let held = c.index_mut.result.now in
+    let there = found_there i.queries.items c.args.query held (omega (arith, c.if-number-len.false, c.len.ensures, i.queries.ok.0)) c.index_mut.ensures.value in (
+      omega arith,
+      (
+        omega arith,
+        (
+          c.self.invariant.few_words,
+          front_is_live i.bits i.room i.journal i.places.items i.queries.items c.self.invariant c.args.query held there,
+        ),
+      ),
+    )
+
+pub invariant_of-self : goal.invariant_of-self
+invariant_of-self g c =
+    let i = c.self.inside in
+    let held = c.index_mut.result.now in
+    let there = found_there i.queries.items c.args.query held (omega (arith, c.if-number-len.false, c.len.ensures, i.queries.ok.0)) c.index_mut.ensures.value in
+    let same = two_found i.queries.items c.args.query c.index-held.result.now held (omega (arith, c.if-number-len.false, c.len.ensures, i.queries.ok.0))
+    c.index-held.ensures c.index_mut.ensures.value in
+    subst (λ (after : Held g.row.W). KeepsWorld i.bits i.room c.cancel_query-count.new.journal i.places.items (slice_set i.queries.items c.args.query after))
+    (sym c.cancel_query-count.ensures.cancelled)
+    (cancel_keeps i.bits i.room i.journal c.cancel_query-count.new.journal i.places.items i.queries.items c.self.invariant c.args.query held there
+    c.cancel_query-count.ensures.journal c.cancel_query-count.ensures.fronts (ap (λ (each : Held g.row.W). each.cancelled) (sym same) ∙ c.if-held.false))
+
+pub returns-clause-step : goal.returns-clause-step
+returns-clause-step g c =
+    let i = c.self.inside in
+    let held = c.index_mut.result.now in
+    let there = found_there i.queries.items c.args.query held (omega (arith, c.if-number-len.false, c.len.ensures, i.queries.ok.0)) c.index_mut.ensures.value in
+    let same = two_found i.queries.items c.args.query c.index-held.result.now held (omega (arith, c.if-number-len.false, c.len.ensures, i.queries.ok.0))
+    c.index-held.ensures c.index_mut.ensures.value in
+    subst (λ (w : WorldView). WorldStep w.setting w.state (Cancel c.args.query) (Ok (told.Cancelled c.cancel_query-count.result))
+    (state_seen i.bits c.cancel_query-count.new.journal i.places.items (slice_set i.queries.items c.args.query c.cancel_query-count.new.held)))
+    c.self.view_is
+    (subst (λ (after : Held g.row.W). WorldStep (setting_seen i.bits i.room i.journal i.places.items)
+    (state_seen i.bits i.journal i.places.items i.queries.items) (Cancel c.args.query) (Ok (told.Cancelled c.cancel_query-count.result))
+    (state_seen i.bits c.cancel_query-count.new.journal i.places.items (slice_set i.queries.items c.args.query after)))
+    (sym c.cancel_query-count.ensures.cancelled)
+    (cancel_step i.bits i.room i.journal c.cancel_query-count.new.journal i.places.items i.queries.items c.self.invariant c.args.query held there
+    c.cancel_query-count.ensures.journal c.cancel_query-count.ensures.fronts (ap (λ (each : Held g.row.W). each.cancelled) (sym same) ∙ c.if-held.false)
+    c.cancel_query-count.result c.cancel_query-count.ensures.given))
