@@ -1,8 +1,7 @@
 -- A shard comes to the front of a query.
-use Rattle.std.proofs.Common.{◌≡◌, ℕ, ◌<◌, false, true, inl, inr, List, length, map, take, Option, Some, None, refl, sym, ap, subst, ◌∙◌, arith}
+use Rattle.std.proofs.Common.{◌≡◌, ℕ, ◌+◌, ◌-◌, ◌<◌, ◌≤◌, false, true, inl, inr, List, length, take, Option, Some, None, refl, sym, ap, subst, ◌∙◌, arith}
 use Rattle.std.specs.Prelude.{is_none, nat_le, option_map, Err, Ok, slice_get, slice_set}
 use Rattle.std.proofs.lemmas.List.{length-map}
-use Rattle.hamming_model.specs.History.{JournalEntry}
 use Rattle.hamming_model.specs.Recoded.{AreStoredEntries, cut_entry, cut_history}
 use Rattle.hamming_model.proofs.RecodedLemmas.{first_recoded, stored_first}
 use Rattle.commit_journal.specs.Fronts.{FrontState, front_of, position_of}
@@ -14,19 +13,21 @@ use Rattle.world_model.specs.declared.refused.Refused.TheVariants.{Closed, NoMem
 use Rattle.world_model.specs.declared.told.Told.TheVariants as told
 use Rattle.world_model.specs.Events.{Advance, Setting}
 use Rattle.world_model.specs.Refusals.{cause, refusal}
-use Rattle.world_model.specs.ShardSteps.{Advances, AdvancesTo}
-use Rattle.world_model.specs.Sound.{KeepsOlder, KeepsShard}
+use Rattle.world_model.specs.ShardSteps.{Advances}
+use Rattle.world_model.specs.Sound.{KeepsShard}
 use Rattle.world_model.specs.WorldState.{ShardWithBuild, WorldQuery, WorldState, front_on, live_fronts}
 use Rattle.world_model.specs.WorldStep.{WorldStep}
 use Rattle.world_bridge.specs.Cuts.{cut_front}
 use Rattle.world_bridge.proofs.CutLemmas.{comes_cut, follows_cut}
+use Rattle.gph_world.specs.Behind.{behind_of, entries_behind}
 use Rattle.gph_world.specs.Calls.{come_to}
-use Rattle.gph_world.specs.Kept.{IsHeld, KeepsWorld, front_at, place_seen, query_seen, setting_seen, state_seen}
+use Rattle.gph_world.specs.Kept.{KeepsWorld}
+use Rattle.gph_world.specs.Seen.{place_seen, query_seen, setting_seen, state_seen}
 use Rattle.gph_world.specs.declared.held.Held.{Held}
 use Rattle.gph_world.specs.declared.place.Place.{Place}
-use Rattle.gph_world.proofs.HeldLemmas.{front_there, seen_past, seen_there}
+use Rattle.gph_world.proofs.HeldLemmas.{front_there, seen_there}
 use Rattle.gph_world.proofs.PlaceLemmas.{place_there, placed_is, same_state}
-use Rattle.gph_world.proofs.RefusalLemmas.{cause_at, cause_if, cause_not, is_query, is_shard, no_query, no_shard, refusal_by}
+use Rattle.gph_world.proofs.RefusalLemmas.{cause_at, cause_if, cause_not, is_query, is_shard, no_query, refusal_by}
 
 -- ---- why it may be refused
 module _ (z : Setting) (s : WorldState) (number shard : ℕ) where
@@ -90,7 +91,7 @@ module _ {W : ℕ} (bits room : ℕ) (journal : JournalState) (places : List (Pl
   bits_are : place.shard.current.layout.bits ≡ bits
   bits_are = shard_is.of_shard.layout.bits_are
 
-  pub may_follow : place.shard.current.at < position_of front → Follows front.entries place.shard.current
+  may_follow : place.shard.current.at < position_of front → Follows front.entries place.shard.current
   may_follow behind =
       (follows_cut bits front.entries place.shard.current bits_are).1
       (subst (λ (one : FrontState). Follows one.entries place.shard.current) (sym same_front)
@@ -98,9 +99,13 @@ module _ {W : ℕ} (bits room : ℕ) (journal : JournalState) (places : List (Pl
       (keeps.sound.fronts number query front.older (seen_there bits room journal places queries keeps number held there) fronted).known
       (omega (arith, behind, ap position_of same_front, length-map front.entries (cut_entry bits)))))
 
-  pub stored_there : AreStoredEntries W place.shard.current.layout.bits front.entries
+  stored_there : AreStoredEntries W place.shard.current.layout.bits front.entries
   stored_there = subst (λ (n : ℕ). AreStoredEntries W n front.entries) (sym bits_are)
       (subst (AreStoredEntries W bits) (sym known.begins) (stored_first W bits (position_of front) journal.history keeps.stored))
+
+  pub may_come : (place.shard.current.at < position_of front → Follows front.entries place.shard.current)
+      × AreStoredEntries W place.shard.current.layout.bits front.entries
+  may_come = (may_follow, stored_there)
 
   comes : advanced front place.shard ≡ advanced (front_on s.history query front.older) place.shard
   comes = comes_cut front place.shard
@@ -142,3 +147,14 @@ module _ {W : ℕ} (bits room : ℕ) (journal : JournalState) (places : List (Pl
     not_refused = may_advance z s number shard low query (seen_there bits room journal places queries keeps number held there) front.older goes_on fronted;
     leaves = inl (same_state bits journal places queries shard place new stands same);
   })
+
+  -- it is behind the query by as many entries as it is behind the front
+  pub steps_behind : (before after : ℕ) → after ≤ before + (position_of front - place.shard.current.at)
+      → after ≤ before + entries_behind s number shard
+  steps_behind before after few =
+      let is : entries_behind s number shard ≡ held.position - place.shard.current.at =
+      ap (λ (asked : Option WorldQuery). behind_of asked (slice_get s.places shard))
+      (seen_there bits room journal places queries keeps number held there)
+      ∙ ap (behind_of (Some query)) (place_there places shard place stands) in
+      subst (λ (n : ℕ). after ≤ before + n) (sym is)
+      (subst (λ (n : ℕ). after ≤ before + (n - place.shard.current.at)) ((keeps.held number held there).front front is_open) few)

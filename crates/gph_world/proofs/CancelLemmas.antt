@@ -18,7 +18,8 @@ use Rattle.world_model.proofs.Lookups.{get_set}
 use Rattle.world_model.proofs.StepLemmas.{step_sound}
 use Rattle.world_bridge.specs.Held.{HoldsLive}
 use Rattle.world_bridge.proofs.HeldLemmas.{held_closed, held_same}
-use Rattle.gph_world.specs.Kept.{IsHeld, KeepsWorld, cancelled, front_at, given_by, query_seen, setting_seen, state_seen, without_held}
+use Rattle.gph_world.specs.Kept.{IsQueryHeld, KeepsWorld, cancelled, front_at, without_held}
+use Rattle.gph_world.specs.Seen.{given_by, query_seen, setting_seen, state_seen}
 use Rattle.gph_world.specs.Worlds.{setting_of}
 use Rattle.gph_world.specs.declared.held.Held.{Held}
 use Rattle.gph_world.specs.declared.place.Place.{Place}
@@ -98,12 +99,12 @@ module _ {W : ℕ} (bits room : ℕ) (old new : JournalState) (places : List (Pl
           (front_set queries number held (cancelled held) there)
           (λ other apart. front_other queries number other (cancelled held) apart)
 
-  still_held : (other : Held W) → IsHeld z s.history other → IsHeld (setting_seen bits room new places) (cut_history bits new.history) other
+  still_held : (other : Held W) → IsQueryHeld z s.history other → IsQueryHeld (setting_seen bits room new places) (cut_history bits new.history) other
   still_held other was =
-      subst (λ (limit : ℕ). IsHeld (setting_of bits (length places) room limit) (cut_history bits new.history) other) (sym limit_same)
-      (subst (λ (history : List JournalEntry). IsHeld z (cut_history bits history) other) (sym history_same) was)
+      subst (λ (limit : ℕ). IsQueryHeld (setting_of bits (length places) room limit) (cut_history bits new.history) other) (sym limit_same)
+      (subst (λ (history : List JournalEntry). IsQueryHeld z (cut_history bits history) other) (sym history_same) was)
 
-  cancelled_is_held : IsHeld z s.history (cancelled held)
+  cancelled_is_held : IsQueryHeld z s.history (cancelled held)
   cancelled_is_held = (let was = keeps.held number held there in record {
     stored = was.stored;
     front = λ front is_open. absurd (none-some front is_open);
@@ -135,7 +136,7 @@ module _ {W : ℕ} (bits room : ℕ) (old new : JournalState) (places : List (Pl
         (cancel_step open_still (given_by held.gather) refl));
     live = live_now;
     held = λ n other found. elim (get_set queries number n (cancelled held) other found) [
-      | inl both ↦ still_held other (subst (IsHeld z s.history) (sym both.1) cancelled_is_held)
+      | inl both ↦ still_held other (subst (IsQueryHeld z s.history) (sym both.1) cancelled_is_held)
       | inr before ↦ still_held other (keeps.held n other before)
     ];
   }

@@ -16,7 +16,8 @@ use Rattle.world_model.specs.WorldStep.{WorldStep}
 use Rattle.world_model.proofs.StepLemmas.{step_sound}
 use Rattle.world_bridge.proofs.CutLemmas.{cut_appended, stored_adds}
 use Rattle.world_bridge.proofs.HeldLemmas.{held_grown}
-use Rattle.gph_world.specs.Kept.{IsHeld, KeepsWorld, front_at, query_seen, setting_seen, state_seen}
+use Rattle.gph_world.specs.Kept.{IsQueryHeld, KeepsWorld, front_at}
+use Rattle.gph_world.specs.Seen.{query_seen, setting_seen, state_seen}
 use Rattle.gph_world.specs.Worlds.{setting_of}
 use Rattle.gph_world.specs.declared.held.Held.{Held}
 use Rattle.gph_world.specs.declared.place.Place.{Place}
@@ -59,10 +60,10 @@ module _ {W : ℕ} (bits room : ℕ) (old new : JournalState) (places : List (Pl
   )
 
   held_now : (number : ℕ) (held : Held W) → slice_get queries number ≡ Some held
-      → IsHeld (setting_seen bits room new places) (cut_history bits new.history) held
+      → IsQueryHeld (setting_seen bits room new places) (cut_history bits new.history) held
   held_now number held there =
-      subst (λ (limit : ℕ). IsHeld (setting_of bits (length places) room limit) (cut_history bits new.history) held) (sym limit_same)
-      (subst (λ (history : List JournalEntry). IsHeld z history held) (sym history_is)
+      subst (λ (limit : ℕ). IsQueryHeld (setting_of bits (length places) room limit) (cut_history bits new.history) held) (sym limit_same)
+      (subst (λ (history : List JournalEntry). IsQueryHeld z history held) (sym history_is)
       (held_same_prefix z s.history _ held
       (first_stay s.history (cut_entry bits entry) (decision_of decided.decision) held.position
       (keeps.sound.queries number (query_seen bits held) (seen_there bits room old places queries keeps number held there)).within)

@@ -8,7 +8,8 @@ use Rattle.scatter_gather.specs.Gathering.{Gathering}
 use Rattle.world_model.specs.Asking.{AsksOf, IsGatheringOf, SourceAsks, most_given}
 use Rattle.world_model.specs.Events.{Setting}
 use Rattle.world_model.specs.WorldState.{WorldQuery}
-use Rattle.gph_world.specs.Kept.{IsGathered, IsHeld, query_seen}
+use Rattle.gph_world.specs.Kept.{IsGatheringHeld, IsQueryHeld}
+use Rattle.gph_world.specs.Seen.{query_seen}
 use Rattle.gph_world.specs.declared.held.Held.{Held}
 
 -- the first so many entries stay where those of a decision come behind
@@ -40,12 +41,12 @@ module _ (z : Setting) (old new : List JournalEntry) where
   }
 
   -- a query is kept as before
-  pub held_same_prefix : {W : ℕ} (held : Held W) → take held.position new ≡ take held.position old → IsHeld z old held → IsHeld z new held
+  pub held_same_prefix : {W : ℕ} (held : Held W) → take held.position new ≡ take held.position old → IsQueryHeld z old held → IsQueryHeld z new held
   held_same_prefix {W} held same is = record {
     stored = is.stored;
     front = is.front;
     pins = λ shard version there. is.pins shard version there ∙ ap (prefix_of shard z.shards _) (sym same);
-    gathered = λ g there. (let was : IsGathered z old held g = is.gathered g there in record {
+    gathered = λ g there. (let was : IsGatheringHeld z old held g = is.gathered g there in record {
       gathers = gathering_same (query_seen z.bits held) _ same was.gathers;
       holds = was.holds;
       limit = was.limit;

@@ -9,7 +9,8 @@ use Rattle.world_model.specs.WorldState.{WorldQuery, live_fronts, open_position}
 use Rattle.world_model.proofs.Lookups.{get_other, get_same}
 use Rattle.world_bridge.specs.Held.{positions_held}
 use Rattle.world_bridge.proofs.HeldLemmas.{positions_same}
-use Rattle.gph_world.specs.Kept.{IsHeld, KeepsWorld, front_at, query_seen, setting_seen}
+use Rattle.gph_world.specs.Kept.{IsQueryHeld, KeepsWorld, front_at}
+use Rattle.gph_world.specs.Seen.{query_seen, setting_seen}
 use Rattle.gph_world.specs.declared.held.Held.{Held}
 use Rattle.gph_world.specs.declared.place.Place.{Place}
 
@@ -64,7 +65,7 @@ module _ {W : ℕ} (queries : List (Held W)) where
 module _ {W : ℕ} (bits room : ℕ) (journal : JournalState) (places : List (Place W)) (queries : List (Held W))
     (keeps : KeepsWorld bits room journal places queries) where
   -- the position of an open front is that of its query
-  position_there : (held : Held W) → IsHeld (setting_seen bits room journal places) (cut_history bits journal.history) held
+  position_there : (held : Held W) → IsQueryHeld (setting_seen bits room journal places) (cut_history bits journal.history) held
       → option_map position_of held.front ≡ open_position (query_seen bits held)
   position_there held is = go held.front refl
     where

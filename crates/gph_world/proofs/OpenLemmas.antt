@@ -24,8 +24,9 @@ use Rattle.world_model.specs.WorldStep.{WorldStep}
 use Rattle.world_model.proofs.Lookups.{get_snoc, none_there}
 use Rattle.world_model.proofs.StepLemmas.{step_sound}
 use Rattle.world_bridge.proofs.HeldLemmas.{held_opened}
-use Rattle.gph_world.specs.Asks.{IsStoredAsk, ask_of}
-use Rattle.gph_world.specs.Kept.{IsHeld, KeepsWorld, front_at, layout_pinned, query_seen, setting_seen, state_seen}
+use Rattle.gph_world.specs.Asks.{IsStoredAsk, ask_seen}
+use Rattle.gph_world.specs.Kept.{IsQueryHeld, KeepsWorld, front_at}
+use Rattle.gph_world.specs.Seen.{layout_pinned, query_seen, setting_seen, state_seen}
 use Rattle.gph_world.specs.Worlds.{setting_of}
 use Rattle.gph_world.specs.declared.ask.Ask.{Ask}
 use Rattle.gph_world.specs.declared.held.Held.{Held}
@@ -62,7 +63,7 @@ not_many z s who ask opened same few =
 module _ {W : ℕ} (bits room : ℕ) (old new : JournalState) (places : List (Place W)) (queries : List (Held W))
     (keeps : KeepsWorld bits room old places queries) (who : ℕ) (front : FrontState) (opens : Opens old new who front)
     (live : IsLive new front) (knows : KnowsFront new front) (fronts : KeepsFronts old new) (ask : Ask W)
-    (formed : IsQuestion bits (ask_of bits ask)) (stored : IsStoredAsk bits ask) (held : Held W) (ask_is : held.ask ≡ ask)
+    (formed : IsQuestion bits (ask_seen bits ask)) (stored : IsStoredAsk bits ask) (held : Held W) (ask_is : held.ask ≡ ask)
     (position_is : held.position ≡ position_of front) (front_is : held.front ≡ Some front)
     (pins_are : held.pins.items ≡ replicate (length places) None) (gather_is : held.gather ≡ None) (goes_on : held.cancelled ≡ false) where
   abbrev z : Setting
@@ -83,27 +84,27 @@ module _ {W : ℕ} (bits room : ℕ) (old new : JournalState) (places : List (Pl
   at_end : held.position ≡ length s.history
   at_end = position_is ∙ ap length opens.entries ∙ sym long
 
-  seen : query_seen bits held ≡ fresh_query z (ask_of bits ask) (length s.history) front.older
+  seen : query_seen bits held ≡ fresh_query z (ask_seen bits ask) (length s.history) front.older
   seen =
-      ap (λ (a : Ask W). let q : WorldQuery = record (query_seen bits held) { ask = ask_of bits a } in q) ask_is
-      ∙ ap (λ (n : ℕ). let q : WorldQuery = record (query_seen bits held) { ask = ask_of bits ask; position = n } in q) at_end
+      ap (λ (a : Ask W). let q : WorldQuery = record (query_seen bits held) { ask = ask_seen bits a } in q) ask_is
+      ∙ ap (λ (n : ℕ). let q : WorldQuery = record (query_seen bits held) { ask = ask_seen bits ask; position = n } in q) at_end
       ∙ ap (λ (f : Option FrontState). let q : WorldQuery = record (query_seen bits held) {
-        ask = ask_of bits ask;
+        ask = ask_seen bits ask;
         position = length s.history;
         front = option_map (λ one. one.older) f;
       } in q) front_is
       ∙ ap (λ (pinned : List (Option Laid)). let q : WorldQuery = record (query_seen bits held) {
-        ask = ask_of bits ask;
+        ask = ask_seen bits ask;
         position = length s.history;
         front = Some front.older;
         pinned = pinned;
       } in q) (ap (map layout_pinned) pins_are ∙ none_pinned (length places))
-      ∙ ap (λ (g : Option _). let q : WorldQuery = record (fresh_query z (ask_of bits ask) (length s.history) front.older) {
-        sources = Rattle.gph_world.specs.Kept.standings_in g;
-        given = Rattle.gph_world.specs.Kept.given_by g;
+      ∙ ap (λ (g : Option _). let q : WorldQuery = record (fresh_query z (ask_seen bits ask) (length s.history) front.older) {
+        sources = Rattle.gph_world.specs.Seen.standings_held g;
+        given = Rattle.gph_world.specs.Seen.given_by g;
         cancelled = held.cancelled;
       } in q) gather_is
-      ∙ ap (λ (b : Bool). let q : WorldQuery = record (fresh_query z (ask_of bits ask) (length s.history) front.older) { cancelled = b } in q) goes_on
+      ∙ ap (λ (b : Bool). let q : WorldQuery = record (fresh_query z (ask_seen bits ask) (length s.history) front.older) { cancelled = b } in q) goes_on
 
   lists : ListsOlder (live_fronts s.queries) (length s.history) front.older
   lists = record {
@@ -118,7 +119,7 @@ module _ {W : ℕ} (bits room : ℕ) (old new : JournalState) (places : List (Pl
   }
 
   after_is : state_seen bits new places (queries ++ held ∷ [])
-      ≡ record s { queries = s.queries ++ fresh_query z (ask_of bits ask) (length s.history) front.older ∷ [] }
+      ≡ record s { queries = s.queries ++ fresh_query z (ask_seen bits ask) (length s.history) front.older ∷ [] }
   after_is =
       ap (λ (history : List JournalEntry). let t : WorldState = record s {
         history = cut_history bits history;
@@ -128,10 +129,10 @@ module _ {W : ℕ} (bits room : ℕ) (old new : JournalState) (places : List (Pl
       (map-append (query_seen bits) queries (held ∷ []) ∙ ap (λ (q : WorldQuery). s.queries ++ q ∷ []) seen)
 
   pub open_step : (opened position : ℕ) → opened ≡ length queries → position ≡ position_of front → nat_le 65536 opened ≡ false
-      → WorldStep z s (Open who (ask_of bits ask)) (Ok (told.Opened opened position)) (state_seen bits new places (queries ++ held ∷ []))
+      → WorldStep z s (Open who (ask_seen bits ask)) (Ok (told.Opened opened position)) (state_seen bits new places (queries ++ held ∷ []))
   open_step opened position number_is at few =
       let number : opened ≡ length s.queries = number_is ∙ sym (length-map queries (query_seen bits)) in (
-        not_many z s who (ask_of bits ask) opened number few,
+        not_many z s who (ask_seen bits ask) opened number few,
         record {
           older = front.older;
           lists = lists;
@@ -142,7 +143,7 @@ module _ {W : ℕ} (bits room : ℕ) (old new : JournalState) (places : List (Pl
       )
 
   -- ---- what is kept
-  new_is_held : IsHeld (setting_seen bits room new places) (cut_history bits new.history) held
+  new_is_held : IsQueryHeld (setting_seen bits room new places) (cut_history bits new.history) held
   new_is_held = record {
     stored = subst (IsStoredAsk bits) (sym ask_is) stored;
     front = λ other there. ap position_of (same_Some other front (sym there ∙ front_is)) ∙ sym position_is;
@@ -151,10 +152,10 @@ module _ {W : ℕ} (bits room : ℕ) (old new : JournalState) (places : List (Pl
     gathered = λ g there. absurd (none-some g (sym gather_is ∙ there));
   }
 
-  held_before : (other : Held W) → IsHeld z s.history other → IsHeld (setting_seen bits room new places) (cut_history bits new.history) other
+  held_before : (other : Held W) → IsQueryHeld z s.history other → IsQueryHeld (setting_seen bits room new places) (cut_history bits new.history) other
   held_before other was =
-      subst (λ (limit : ℕ). IsHeld (setting_of bits (length places) room limit) (cut_history bits new.history) other) (sym limit_same)
-      (subst (λ (history : List JournalEntry). IsHeld z (cut_history bits history) other) (sym history_same) was)
+      subst (λ (limit : ℕ). IsQueryHeld (setting_of bits (length places) room limit) (cut_history bits new.history) other) (sym limit_same)
+      (subst (λ (history : List JournalEntry). IsQueryHeld z (cut_history bits history) other) (sym history_same) was)
 
   pub open_keeps : nat_le 65536 (length queries) ≡ false → KeepsWorld bits room new places (queries ++ held ∷ [])
   open_keeps few = record {
@@ -166,13 +167,13 @@ module _ {W : ℕ} (bits room : ℕ) (old new : JournalState) (places : List (Pl
     small_room = keeps.small_room;
     stored = subst (AreStoredEntries W bits) (sym history_same) keeps.stored;
     sound = subst (λ (limit : ℕ). IsSound (setting_of bits (length places) room limit) (state_seen bits new places (queries ++ held ∷ []))) (sym limit_same)
-        (step_sound z s keeps.sound (Open who (ask_of bits ask)) (Ok (told.Opened (length queries) (position_of front)))
+        (step_sound z s keeps.sound (Open who (ask_seen bits ask)) (Ok (told.Opened (length queries) (position_of front)))
         (state_seen bits new places (queries ++ held ∷ [])) formed (open_step (length queries) (position_of front) refl refl few));
     live = held_opened old new (front_at queries) (front_at (queries ++ held ∷ [])) (length queries) who front keeps.live
         (front_past queries (length queries) (omega arith)) opens live knows fronts (front_last queries held ∙ front_is)
         (λ other apart. front_apart queries held other apart);
     held = λ number other there. elim (get_snoc queries number held other there) [
-      | inl both ↦ subst (IsHeld (setting_seen bits room new places) (cut_history bits new.history)) (sym both.1) new_is_held
+      | inl both ↦ subst (IsQueryHeld (setting_seen bits room new places) (cut_history bits new.history)) (sym both.1) new_is_held
       | inr before ↦ held_before other (keeps.held number other before)
     ];
   }

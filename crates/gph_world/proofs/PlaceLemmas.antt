@@ -1,5 +1,5 @@
 -- Shards with their builds, as one of them changes.
-use Rattle.std.proofs.Common.{◌≡◌, ℕ, zero, suc, ◌<◌, List, [], ◌∷◌, length, map, Option, Some, refl, sym, ap, subst, ◌∙◌, arith}
+use Rattle.std.proofs.Common.{◌≡◌, ℕ, zero, suc, List, [], ◌∷◌, map, Some, refl, sym, ap, subst, ◌∙◌, arith}
 use Rattle.std.specs.Prelude.{option_map, Result, slice_get, slice_set}
 use Rattle.std.proofs.lemmas.List.{length-set, map-set}
 use Rattle.std.proofs.lemmas.Option.{same_Some, slice_get-map}
@@ -8,12 +8,13 @@ use Rattle.commit_journal.specs.Journals.{JournalState}
 use Rattle.world_model.specs.declared.refused.Refused.{Refused}
 use Rattle.world_model.specs.declared.told.Told.{Told}
 use Rattle.world_model.specs.Events.{Event, IsFormed, Setting}
-use Rattle.world_model.specs.Sound.{IsSound, KeepsShard}
+use Rattle.world_model.specs.Sound.{IsSound}
 use Rattle.world_model.specs.WorldState.{ShardWithBuild, WorldState, with_place}
 use Rattle.world_model.specs.WorldStep.{WorldStep}
 use Rattle.world_model.proofs.StepLemmas.{step_sound}
-use Rattle.gph_world.specs.Kept.{IsHeld, KeepsWorld, place_seen, query_seen, setting_seen, state_seen}
-use Rattle.gph_world.specs.Worlds.{WorldView, setting_of}
+use Rattle.gph_world.specs.Kept.{IsQueryHeld, KeepsWorld}
+use Rattle.gph_world.specs.Seen.{place_seen, setting_seen, state_seen}
+use Rattle.gph_world.specs.Worlds.{setting_of}
 use Rattle.gph_world.specs.declared.held.Held.{Held}
 use Rattle.gph_world.specs.declared.place.Place.{Place}
 
@@ -59,7 +60,8 @@ module _ {W : ℕ} (bits room : ℕ) (journal : JournalState) (places : List (Pl
     stored = keeps.stored;
     sound = subst (λ (z : Setting). IsSound z (state_seen bits journal (slice_set places shard new) queries)) (sym setting_stays) sound;
     live = keeps.live;
-    held = λ number held there. subst (λ (z : Setting). IsHeld z (cut_history bits journal.history) held) (sym setting_stays) (keeps.held number held there);
+    held = λ number held there. subst (λ (z : Setting). IsQueryHeld z (cut_history bits journal.history) held) (sym setting_stays)
+        (keeps.held number held there);
   }
 
   -- and after any event that changes this shard alone

@@ -11,9 +11,9 @@ stored_code (Range tau code) = code
 stored_code (Near number code) = code
 
 -- a question with the first so many bits of its code
-abbrev pub ask_of : {W : ℕ} → ℕ → Ask W → scan.Ask
-ask_of bits (Range tau code) = scan.Range tau (take bits code)
-ask_of bits (Near number code) = scan.Near number (take bits code)
+abbrev pub ask_seen : {W : ℕ} → ℕ → Ask W → scan.Ask
+ask_seen bits (Range tau code) = scan.Range tau (take bits code)
+ask_seen bits (Near number code) = scan.Near number (take bits code)
 
 -- the words of a question stand for a code of so many bits
 abbrev pub IsStoredAsk : {W : ℕ} → ℕ → Ask W → Type 0

@@ -5,9 +5,9 @@ use Rattle.std.specs.Coded.{Coded, code_by, coded×, coded⊎, coded_bool, coded
 use Rattle.hamming_model.specs.Coding.{history_code}
 use Rattle.hamming_model.specs.History.{JournalEntry}
 use Rattle.hamming_model.specs.Scan.{Ask, Range, Near}
-use Rattle.hamming_model.specs.declared.hit.Hit.{Hit}
 use Rattle.part_layout.specs.Laid.{Laid, laid_code}
 use Rattle.shard_version.specs.Contents.{Contents, contents_code}
+use Rattle.hit_source.specs.Codes.{standing_code}
 use Rattle.hit_source.specs.Sources.{Standing}
 use Rattle.versioned_shard.specs.Shards.{ShardState, shard_code}
 use Rattle.world_model.specs.Events.{Setting}
@@ -34,29 +34,6 @@ ask_code =
     code_by ((ℕ × List ℕ) ⊎ (ℕ × List ℕ))
     (coded⊎ (coded× coded_ℕ (coded_list coded_ℕ)) (coded× coded_ℕ (coded_list coded_ℕ)))
     split_ask joined_ask joined-split
-
--- a hit as a pair
-abbrev pub hit_code : Coded Hit
-hit_code =
-    code_by (ℕ × ℕ) (coded× coded_ℕ coded_ℕ) (λ hit. (hit.dist, hit.key))
-    (λ pair. record { dist = pair.0; key = pair.1 }) (λ _. refl)
-
--- where a source stands, as a tuple
-abbrev pub standing_code : Coded Standing
-standing_code =
-    code_by (ℕ × (List Hit × (Option ℕ × (ℕ × (Bool × (Option ℕ × ℕ))))))
-    (coded× coded_ℕ (coded× (coded_list hit_code) (coded× (coded_option coded_ℕ)
-    (coded× coded_ℕ (coded× coded_bool (coded× (coded_option coded_ℕ) coded_ℕ))))))
-    (λ s. (s.given, (s.waiting, (s.floor, (s.reads, (s.ended, (s.begun, s.units)))))))
-    (λ t. record {
-      given = t.0;
-      waiting = t.1.0;
-      floor = t.1.1.0;
-      reads = t.1.1.1.0;
-      ended = t.1.1.1.1.0;
-      begun = t.1.1.1.1.1.0;
-      units = t.1.1.1.1.1.1;
-    }) (λ _. refl)
 
 -- a build as a pair
 abbrev pub rebuild_code : Coded Rebuild

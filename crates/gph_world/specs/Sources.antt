@@ -11,19 +11,19 @@ use Rattle.scatter_gather.specs.Gathering.{Gathered, Gathering, seen}
 use Rattle.scatter_gather.specs.declared.either.Either.{Either}
 
 -- a source of either kind
-abbrev pub Source : ℕ → Type 0
-Source W = Either (RangeTask W) (NearTask W)
+abbrev pub QuerySource : ℕ → Type 0
+QuerySource W = Either (RangeTask W) (NearTask W)
 
 -- what a source is asked
-abbrev pub source_asked : {W : ℕ} → Source W → Asked
-source_asked {W} source =
+abbrev pub question_asked : {W : ℕ} → QuerySource W → Asked
+question_asked {W} source =
     of_either (range.ghosts (number W)).asked (near.ghosts (number W)).asked source
 
 -- where a source stands
-abbrev pub source_standing : {W : ℕ} → Source W → Standing
-source_standing {W} source =
+abbrev pub standing_told : {W : ℕ} → QuerySource W → Standing
+standing_told {W} source =
     of_either (range.ghosts (number W)).standing (near.ghosts (number W)).standing source
 
 -- a gathering of such sources, by what they are seen as
-abbrev pub gathering_seen : {W : ℕ} → Gathered (Source W) → Gathering
-gathering_seen g = seen source_asked source_standing g
+abbrev pub gathering_seen : {W : ℕ} → Gathered (QuerySource W) → Gathering
+gathering_seen g = seen question_asked standing_told g

@@ -6,6 +6,7 @@ ghost use Rattle.commit_journal.specs.Fronts.{position_of};
 ghost use Rattle.versioned_shard.specs.Along.{Follows};
 ghost use Rattle.world_model.specs.Events.{Advance};
 ghost use Rattle.world_model.specs.WorldStep.{WorldStep};
+ghost use Rattle.gph_world.specs.Behind.{entries_behind};
 ghost use Rattle.gph_world.specs.Calls.{come_to};
 
 use crate::place::Place;
@@ -29,6 +30,7 @@ impl<const W: usize> World<W> {
         ensures setting { self.new.setting ≡ self.old.setting }
         ensures step { WorldStep self.old.setting self.old.state
             (Advance query shard) result self.new.state }
+        ensures bound { steps.new ≤ steps.old + entries_behind self.old.state query shard }
     {
         let place = shard as usize;
         if place >= self.places.len() {

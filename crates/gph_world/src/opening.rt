@@ -3,7 +3,7 @@
 ghost use Rattle.std.specs.Prelude.{◌≡◌, replicate, IfOk, None};
 ghost use Rattle.world_model.specs.Events.{IsQuestion, Open};
 ghost use Rattle.world_model.specs.WorldStep.{WorldStep};
-ghost use Rattle.gph_world.specs.Asks.{IsStoredAsk, ask_of};
+ghost use Rattle.gph_world.specs.Asks.{IsStoredAsk, ask_seen};
 
 use crate::ask::Ask;
 use crate::held::Held;
@@ -24,11 +24,11 @@ impl<const W: usize> World<W> {
     ///
     /// `Many` exactly where 65,536 queries were opened. Else `NoMemory` where there is none for the query or its front.
     pub fn open(&mut self, who: u32, ask: Ask<W>) -> Result<Told, Refused>
-        requires question { IsQuestion self.old.setting.bits (ask_of self.old.setting.bits ask) }
+        requires question { IsQuestion self.old.setting.bits (ask_seen self.old.setting.bits ask) }
         requires stored { IsStoredAsk self.old.setting.bits ask }
         ensures setting { self.new.setting ≡ self.old.setting }
         ensures step { WorldStep self.old.setting self.old.state
-            (Open who (ask_of self.old.setting.bits ask.entry)) result self.new.state }
+            (Open who (ask_seen self.old.setting.bits ask.entry)) result self.new.state }
     {
         let number = self.queries.len();
         if number >= OPENED_MOST {

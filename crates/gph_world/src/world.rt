@@ -20,7 +20,8 @@ pub struct World<const W: usize> {
 
 impl<const W: usize> Model for World<W> {
     ghost use Rattle.gph_world.specs.Worlds.{WorldView, world_code};
-    ghost use Rattle.gph_world.specs.Kept.{KeepsWorld, world_seen};
+    ghost use Rattle.gph_world.specs.Kept.{KeepsWorld};
+    ghost use Rattle.gph_world.specs.Seen.{world_seen};
 
     ghost Value = { WorldView };
 

@@ -5,7 +5,8 @@ use Rattle.world_model.specs.declared.refused.Refused.TheVariants.{Closed}
 use Rattle.world_model.specs.declared.told.Told.TheVariants as told
 use Rattle.world_model.specs.Events.{Cancel}
 use Rattle.world_model.specs.WorldStep.{WorldStep}
-use Rattle.gph_world.specs.Kept.{KeepsWorld, query_seen, setting_seen, state_seen}
+use Rattle.gph_world.specs.Kept.{KeepsWorld}
+use Rattle.gph_world.specs.Seen.{query_seen, setting_seen, state_seen}
 use Rattle.gph_world.specs.Worlds.{WorldView}
 use Rattle.gph_world.specs.declared.held.Held.{Held}
 use Rattle.gph_world.proofs.CancelLemmas.{cancel_keeps, cancel_step, was_closed}
@@ -14,31 +15,33 @@ use Rattle.gph_world.proofs.world.World.cancel.Goals as goal
 
 pub returns-then-held-clause-step : goal.returns-then-held-clause-step
 returns-then-held-clause-step g c =
-    let i = c.self.inside in
-    let held = c.index-held.result.now in
-    let there = found_there i.queries.items c.args.query held (omega (arith, c.if-number-len.false, c.len.ensures, i.queries.ok.0)) c.index-held.ensures in
     subst (λ (w : WorldView). WorldStep w.setting w.state (Cancel c.args.query) (Err Closed) w.state) c.self.view_is
     (inl (
-      was_closed (setting_seen i.bits i.room i.journal i.places.items) (state_seen i.bits i.journal i.places.items i.queries.items) c.args.query
-          (query_seen i.bits held) (seen_there i.bits i.room i.journal i.places.items i.queries.items c.self.invariant c.args.query held there)
+      was_closed (setting_seen c.self.inside.bits c.self.inside.room c.self.inside.journal c.self.inside.places.items)
+          (state_seen c.self.inside.bits c.self.inside.journal c.self.inside.places.items c.self.inside.queries.items) c.args.query
+          (query_seen c.self.inside.bits c.index-held.result.now)
+          (seen_there c.self.inside.bits c.self.inside.room c.self.inside.journal c.self.inside.places.items c.self.inside.queries.items
+          c.self.invariant c.args.query c.index-held.result.now
+          (found_there c.self.inside.queries.items c.args.query c.index-held.result.now
+          (omega (arith, c.if-number-len.false, c.len.ensures, c.self.inside.queries.ok.0)) c.index-held.ensures))
           c.if-held.true,
       refl,
     ))
 
 pub cancel_query-count-requires : goal.cancel_query-count-requires
-cancel_query-count-requires g c =
-    let i = c.self.inside in
-    let held = c.index_mut.result.now in
-    let there = found_there i.queries.items c.args.query held (omega (arith, c.if-number-len.false, c.len.ensures, i.queries.ok.0)) c.index_mut.ensures.value in (
-      omega arith,
-      (
-        omega arith,
-        (
-          c.self.invariant.few_words,
-          front_is_live i.bits i.room i.journal i.places.items i.queries.items c.self.invariant c.args.query held there,
-        ),
-      ),
-    )
+cancel_query-count-requires g c = (
+  omega arith,
+  (
+    omega arith,
+    (
+      c.self.invariant.few_words,
+      front_is_live c.self.inside.bits c.self.inside.room c.self.inside.journal c.self.inside.places.items c.self.inside.queries.items
+          c.self.invariant c.args.query c.index_mut.result.now
+          (found_there c.self.inside.queries.items c.args.query c.index_mut.result.now
+          (omega (arith, c.if-number-len.false, c.len.ensures, c.self.inside.queries.ok.0)) c.index_mut.ensures.value),
+    ),
+  ),
+)
 
 pub invariant_of-self : goal.invariant_of-self
 invariant_of-self g c =

@@ -6,7 +6,7 @@ use Rattle.entry_log.specs.Entries.{kept_operation, operation_of}
 use Rattle.world_model.specs.declared.told.Told.TheVariants as told
 use Rattle.world_model.specs.Events.{Commit}
 use Rattle.world_model.specs.WorldStep.{WorldStep}
-use Rattle.gph_world.specs.Kept.{state_seen}
+use Rattle.gph_world.specs.Seen.{state_seen}
 use Rattle.gph_world.specs.Worlds.{WorldView}
 use Rattle.gph_world.proofs.CommitLemmas.{commit_keeps, commit_step}
 use Rattle.gph_world.proofs.world.World.commit.Goals as goal

@@ -5,8 +5,9 @@ use Rattle.std.proofs.lemmas.Bool.{lt-leb}
 use Rattle.world_model.specs.declared.told.Told.TheVariants as told
 use Rattle.world_model.specs.Events.{IsQuestion, Open}
 use Rattle.world_model.specs.WorldStep.{WorldStep}
-use Rattle.gph_world.specs.Asks.{IsStoredAsk, ask_of}
-use Rattle.gph_world.specs.Kept.{KeepsWorld, setting_seen, state_seen}
+use Rattle.gph_world.specs.Asks.{IsStoredAsk, ask_seen}
+use Rattle.gph_world.specs.Kept.{KeepsWorld}
+use Rattle.gph_world.specs.Seen.{setting_seen, state_seen}
 use Rattle.gph_world.specs.Worlds.{WorldView}
 use Rattle.gph_world.specs.declared.held.Held.{Held}
 use Rattle.gph_world.proofs.OpenLemmas.{open_keeps, open_step}
@@ -33,8 +34,8 @@ module _ (g : _) (c : goal.In-Ok-push g) where
   long : c.len-number.result ≡ length c.self.inside.queries.items
   long = omega (arith, c.len-number.ensures, c.self.inside.queries.ok.0)
 
-  formed : IsQuestion c.self.inside.bits (ask_of c.self.inside.bits c.args.ask)
-  formed = subst (λ (w : WorldView). IsQuestion w.setting.bits (ask_of w.setting.bits c.args.ask)) (sym c.self.view_is) c.requires.question
+  formed : IsQuestion c.self.inside.bits (ask_seen c.self.inside.bits c.args.ask)
+  formed = subst (λ (w : WorldView). IsQuestion w.setting.bits (ask_seen w.setting.bits c.args.ask)) (sym c.self.view_is) c.requires.question
 
   stored : IsStoredAsk c.self.inside.bits c.args.ask
   stored = subst (λ (w : WorldView). IsStoredAsk w.setting.bits c.args.ask) (sym c.self.view_is) c.requires.stored
@@ -56,12 +57,12 @@ invariant_of-self-2 g c =
 pub returns-clause-step : goal.returns-clause-step
 returns-clause-step g c =
     let i = c.self.inside in
-    subst (λ (w : WorldView). WorldStep w.setting w.state (Open c.args.who (ask_of w.setting.bits c.args.ask))
+    subst (λ (w : WorldView). WorldStep w.setting w.state (Open c.args.who (ask_seen w.setting.bits c.args.ask))
     (Ok (told.Opened c.len-number.result c.position-position.result))
     (state_seen i.bits c.open_front.new.self i.places.items c.push.new.self.items)) c.self.view_is
     (subst (λ (queries : List (Held g.row.W)). WorldStep (setting_seen i.bits i.room i.journal i.places.items)
     (state_seen i.bits i.journal i.places.items i.queries.items)
-    (Open c.args.who (ask_of i.bits c.args.ask)) (Ok (told.Opened c.len-number.result c.position-position.result))
+    (Open c.args.who (ask_seen i.bits c.args.ask)) (Ok (told.Opened c.len-number.result c.position-position.result))
     (state_seen i.bits c.open_front.new.self i.places.items queries)) (sym (items g c))
     (open_step i.bits i.room i.journal c.open_front.new.self i.places.items i.queries.items c.self.invariant c.args.who c.in-Ok-open_front.front
     c.in-Ok-open_front.ensures.opened c.in-Ok-open_front.ensures.live c.in-Ok-open_front.ensures.known c.in-Ok-open_front.ensures.fronts
