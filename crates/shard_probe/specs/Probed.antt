@@ -42,10 +42,13 @@ abbrev pub KeepsCode : ℕ → Tabled → List ℕ → Type 0
 KeepsCode words version stored =
     StandsFor words version.contents.layout.bits stored (code_in version stored)
 
+-- the rows whose codes entries keep
+abbrev pub rows_in : Tabled → List (ℕ × List ℕ) → List (ℕ × List ℕ)
+rows_in version entries = map (unpadded version.contents.layout.bits) entries
+
 -- the rows in the posting list of a part's value, in the order of the list
 abbrev pub probed_list : Tabled → ℕ → ℕ → List (ℕ × List ℕ)
-probed_list version part value =
-    map (unpadded version.contents.layout.bits) (posting_list (table_at version part) value)
+probed_list version part value = rows_in version (posting_list (table_at version part) value)
 
 -- how many of a version's rows are nearer to a query at a part than so many units
 abbrev pub counts_round : Tabled → List ℕ → ℕ → ℕ → ℕ
