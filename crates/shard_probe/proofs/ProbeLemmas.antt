@@ -1,16 +1,12 @@
 -- What a query on a version keeps: its values at the parts, and the masks of the parts.
 use Rattle.std.proofs.Common.{◌≡◌, ℕ, ◌+◌, ◌-◌, ◌*◌, ◌^◌, ◌<◌, ◌≤◌, List, [], length, replicate}
-use Rattle.std.proofs.Common.{map, take, drop, set, get_or, sym, ap, ◌∙◌, subst, arith}
-use Rattle.std.specs.Prelude.{All}
-use Rattle.std.proofs.lemmas.List.{drop_more, drop_all, get_or-map, length-append, length-replicate, take-map, drop-map}
-use Rattle.std.proofs.lemmas.List.Elements.{All-same, All-take, All-drop, All-from_recursion}
+use Rattle.std.proofs.Common.{drop, set, get_or, sym, ap, ◌∙◌, subst, arith}
+use Rattle.std.proofs.lemmas.List.{drop_more, drop_all, get_or-map, length-append, length-replicate}
 use Rattle.hamming_model.specs.Codes.{IsCode, StandsFor}
 use Rattle.hamming_model.specs.Layouts.{part_value, part_distance}
 use Rattle.gph_codes.specs.Masks.{with_ones}
 use Rattle.threshold_model.specs.Finding.{part_distances}
 use Rattle.search_model.proofs.PostingLemmas.{value_below}
-use Rattle.search_model.specs.Reading.{unpadded}
-use Rattle.shard_version.specs.Tables.{AreStored}
 use Rattle.shard_probe.specs.Kept.{AreValues}
 
 -- the value of a code at a part, below the bound of its width
@@ -59,22 +55,3 @@ alike_at layout part stored other code query less same =
     sym (get_or-map (λ positions. part_distance positions stored other) layout part [] 0 less)
     ∙ ap (λ ns. get_or ns part 0) same
     ∙ get_or-map (λ positions. part_distance positions code query) layout part [] 0 less
-
--- a run of the entries of a list keeps a run of its rows
-pub run_cut : (bits from count : ℕ) (entries run all : List (ℕ × List ℕ)) → all ≡ entries → run ≡ take count (drop from all)
-    → map (unpadded bits) run ≡ take count (drop from (map (unpadded bits) entries))
-run_cut bits from count entries run all same is =
-    ap (map (unpadded bits)) (is ∙ ap (λ xs. take count (drop from xs)) same)
-    ∙ sym (take-map (unpadded bits) count (drop from entries))
-    ∙ ap (take count) (sym (drop-map (unpadded bits) from entries))
-
--- and each of its codes is kept
-pub run_kept : (words bits from count : ℕ) (run all : List (ℕ × List ℕ)) → AreStored words bits all
-    → run ≡ take count (drop from all)
-    → All (λ entry. StandsFor words bits entry.1 (take bits entry.1)) run
-run_kept words bits from count run all kept is =
-    All-same Keeps run (take count (drop from all)) is
-    (All-take Keeps count (drop from all) (All-drop Keeps from all (All-from_recursion Keeps all kept)))
-  where
-    abbrev Keeps : ℕ × List ℕ → Type 0
-    Keeps entry = StandsFor words bits entry.1 (take bits entry.1)

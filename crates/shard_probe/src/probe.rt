@@ -1,6 +1,6 @@
 //! A query on a version.
 
-ghost use Rattle.std.specs.Prelude.{◌≡◌, ◌+◌, ◌^◌, ◌<◌, ◌≤◌, negsuc, ◌≤ℤ◌, All, IfOk};
+ghost use Rattle.std.specs.Prelude.{◌≡◌, ℕ, ◌+◌, ◌^◌, ◌<◌, ◌≤◌, negsuc, ◌≤ℤ◌, All, IfOk};
 ghost use Rattle.std.specs.Prelude.{length, take, drop, slice_index};
 ghost use Rattle.std.specs.Arc.{arc_value};
 ghost use Rattle.hamming_model.specs.Codes.{distance};
@@ -8,7 +8,7 @@ ghost use Rattle.hamming_model.specs.declared.limits.TheConstants.{PARTS_MOST, W
 ghost use Rattle.hamming_model.specs.Layouts.{part_distance, part_value};
 ghost use Rattle.ball_walk.specs.Balls.{ball, ring};
 ghost use Rattle.threshold_model.specs.Vectors.{units_of};
-ghost use Rattle.shard_probe.specs.Probed.{KeepsCode, IsProbed, probed_of};
+ghost use Rattle.shard_probe.specs.Probed.{KeepsCode, KeepCodes, IsProbed, probed_of};
 ghost use Rattle.shard_probe.specs.Probed.{parts_in, part_in, code_in, counts_round, probed_list, rows_in};
 
 use crate::part_masks::masks_of;
@@ -160,7 +160,7 @@ impl<const W: usize> Probe<W> {
         requires places { from + count ≤ length (probed_list self.now.version part value) }
         ensures rows { rows_in self.now.version result.now
             ≡ take count (drop from (probed_list self.now.version part value)) }
-        ensures stored { All (λ entry. KeepsCode W self.now.version entry.1) result.now }
+        ensures stored { KeepCodes W self.now.version result.now }
         ensures steps { steps.new ≡ steps.old + count }
     {
         self.version
