@@ -1,5 +1,5 @@
 -- Which rows of a ring are new, and the steps of a walk over it.
-use Rattle.std.proofs.Common.{◌≡◌, ℕ, zero, suc, ◌+◌, ◌<◌, ◌≤◌, ◌==◌, nat_lt, Bool, true, false, cond, List, [], ◌∷◌, ◌++◌}
+use Rattle.std.proofs.Common.{◌≡◌, ℕ, zero, suc, ◌+◌, ◌-◌, ◌<◌, ◌≤◌, ◌==◌, min, nat_lt, Bool, true, false, cond, List, [], ◌∷◌, ◌++◌}
 use Rattle.std.proofs.Common.{length, replicate, map, filter, take, drop, get_or, sum, refl, sym, ap, ◌∙◌, subst, arith}
 use Rattle.std.specs.Prelude.{◌||◌, not, Some, None}
 use Rattle.std.specs.Option.{option_to_list}
@@ -13,7 +13,7 @@ use Rattle.std.proofs.lemmas.Bool.{ne_eqb}
 use Rattle.std.proofs.lemmas.Nat.{pow_pos}
 use Rattle.search_model.specs.Reading.{HasSame, unpadded}
 use Rattle.shard_probe.specs.Probed.{rows_in}
-use Rattle.shard_probe.proofs.RunLemmas.{passed_joined, rest_cut}
+use Rattle.shard_probe.proofs.RunLemmas.{passed_joined, rest_cut, run_size}
 use Rattle.ring_model.proofs.RingLemmas.{ring_same, ring_number, raised_sum, start_sum, met_by_none}
 use Rattle.hamming_model.specs.declared.limits.TheConstants.{PARTS_MOST}
 use Rattle.hamming_model.specs.Codes.{distance}
@@ -87,6 +87,31 @@ module _ (p : NearPlanned) (w : RingPlace) (place : IsRingPlace p w) where
         let joined = length-append (rows_in p.version run) (rows_of_ring p (record w { next = w.next + count })) in
         let mapped = length-map run (unpadded (near_bits p)) in
         omega arith
+
+-- a run of postings was read, so many
+pub record ReadsRun (p : NearPlanned) (old new : RingPlace) (run : List (ℕ × List ℕ)) (count : ℕ) : Type 0 where
+  pub place : IsRingPlace p new
+  pub hits : hits_of_ring p old ≡ new_of p old.units run ++ hits_of_ring p new
+  pub reads : length (rows_of_ring p old) ≡ length (rows_of_ring p new) + length run
+  pub size : length run ≡ count
+
+pub reads_run : (p : NearPlanned) (own : RingPlace) → IsRingPlace p own → (inside : RingPlace) → inside ≡ own
+    → (count most : ℕ) → count ≡ min (inside.size - inside.next) most → (run : List (ℕ × List ℕ))
+    → rows_in p.version run ≡ take count (drop inside.next (near_list p inside.part inside.value))
+    → ReadsRun p own (record inside { next = inside.next + count }) run count
+reads_run p own place inside same count most least run rows =
+    let next = ap (λ (w : RingPlace). w.next) same in
+    let size = ap (λ (w : RingPlace). w.size) same in
+    let behind = place.next in
+    let among = place.size in
+    let within : own.next + count ≤ own.size = omega arith in
+    let is_run = rows ∙ ap (λ (w : RingPlace). take count (drop w.next (near_list p w.part w.value))) same in
+    subst (λ (w : RingPlace). ReadsRun p own (record w { next = w.next + count }) run count) (sym same) (record {
+      place = run_place p own place count within;
+      hits = ring_hits_read p own place count run within is_run;
+      reads = ring_reads_read p own place count run within is_run;
+      size = run_size (near_bits p) own.next count run (near_list p own.part own.value) (omega arith) is_run;
+    })
 
 or_true : (a b : Bool) → a ≡ true → (a || b) ≡ true
 or_true a b e = rw e refl
