@@ -26,7 +26,8 @@ Steps limit count p q old new radii more hits window mark to reads more_reads fr
     × IsUnder limit window to
 
 -- the same search and number of radii, by other names
-pub steps_as : (limit count : ℕ) (p q : Search) (old new : Ring) (radii more other : ℕ) (hits window : Window) (mark to : Mark) (reads more_reads from after : ℕ)
+pub steps_as : (limit count : ℕ) (p q : Search) (old new : Ring) (radii more other : ℕ) (hits window : Window) (mark to : Mark)
+    (reads more_reads from after : ℕ)
     → q ≡ p → other ≡ more
     → Steps limit count p p old new radii more hits window mark to reads more_reads from after
     → Steps limit count p q old new radii other hits window mark to reads more_reads from after

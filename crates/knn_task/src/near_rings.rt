@@ -94,12 +94,7 @@ impl<const W: usize> NearRings<W> {
 
     // Reads postings of the list of a value, so many at most, for one step each, and adds the hits that are
     // new of them to those that were found. It answers how many it read.
-    pub(crate) fn read<L>(
-        &mut self,
-        most: u32,
-        window: &mut HitWindow,
-        steps: &mut Steps<L>,
-    ) -> u32
+    pub(crate) fn read<L>(&mut self, most: u32, window: &mut HitWindow, steps: &mut Steps<L>) -> u32
         requires some { 1 ≤ most }
         requires posting { (ring_at self.old.plan self.old.walk).in_list ≡ true }
         requires room { length window.old.found

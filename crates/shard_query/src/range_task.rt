@@ -153,12 +153,7 @@ impl<const W: usize> RangeTask<W> {
 }
 
 // Adds the hits that a part keeps of a run of postings behind those that were found.
-fn keep<const W: usize>(
-    window: &mut HitWindow,
-    plan: &Plan<W>,
-    part: usize,
-    run: &[(u64, Code<W>)],
-)
+fn keep<const W: usize>(window: &mut HitWindow, plan: &Plan<W>, part: usize, run: &[(u64, Code<W>)])
     requires stored { AreStoredRows W plan.now run.now }
     requires room { length window.old.found + length (kept_of plan.now part run.now)
         ≤ window.old.capacity }

@@ -5,8 +5,8 @@ use Rattle.knn_task.proofs.NearLemmas.{room_left}
 use Rattle.knn_task.proofs.StepLemmas.{read_as}
 use Rattle.knn_task.proofs.near_task.NearTask.read.Goals as goal
 
-pub read-requires : goal.read-requires
-read-requires g c =
+pub read-count-requires : goal.read-count-requires
+read-count-requires g c =
     let own = c.args.self.now in (
       search rules,
       (

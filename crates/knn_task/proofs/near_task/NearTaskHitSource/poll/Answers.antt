@@ -35,18 +35,15 @@ loop-left-init g c =
 
 pub returns-then-done-eq0-clause-polls : goal.returns-then-done-eq0-clause-polls
 returns-then-done-eq0-clause-polls g c =
-    let e = c.work-done.ensures in
-    let before = c.loop-left.invariant in
     polls_by_near_work c.args.budget (c.args.budget - c.loop-left.left + c.work-done.result) c.in-Some.limit _ _ _ _ _ _ _ c.requires.budget
     c.requires.none_waits (sym c.floor.ensures ∙ c.in-Some.is)
-    (asked_alike _ _ _ _ (e.search ∙ before.0) (e.room ∙ before.1))
-    (works_again (Some c.in-Some.limit) (c.args.budget - c.loop-left.left) c.work-done.result _ _ _ _ _ _ before.3 e.works)
-    (omega (arith, e.few, before.2)) (inr (e.stops c.if-done-eq0.true)) c.judged.ensures
+    (asked_alike _ _ _ _ (c.work-done.ensures.search ∙ c.loop-left.invariant.0) (c.work-done.ensures.room ∙ c.loop-left.invariant.1))
+    (works_again (Some c.in-Some.limit) (c.args.budget - c.loop-left.left) c.work-done.result _ _ _ _ _ _ c.loop-left.invariant.3 c.work-done.ensures.works)
+    (omega (arith, c.work-done.ensures.few, c.loop-left.invariant.2)) (inr (c.work-done.ensures.stops c.if-done-eq0.true)) c.judged.ensures
 
 pub returns-then-done-eq0-clause-asked : goal.returns-then-done-eq0-clause-asked
 returns-then-done-eq0-clause-asked g c =
-    let e = c.work-done.ensures in
-    asked_alike _ _ _ _ (e.search ∙ c.loop-left.invariant.0) (e.room ∙ c.loop-left.invariant.1)
+    asked_alike _ _ _ _ (c.work-done.ensures.search ∙ c.loop-left.invariant.0) (c.work-done.ensures.room ∙ c.loop-left.invariant.1)
 
 pub returns-then-done-eq0-clause-lawful : goal.returns-then-done-eq0-clause-lawful
 returns-then-done-eq0-clause-lawful g c =
@@ -55,29 +52,26 @@ returns-then-done-eq0-clause-lawful g c =
 
 pub loop-left-preserved : goal.loop-left-preserved
 loop-left-preserved g c =
-    let e = c.work-done.ensures in
-    let before = c.loop-left.invariant in
     let own = c.args.self.now in
     let new = c.work-done.new.self in
     let count : c.args.budget - c.loop-left.left + c.work-done.result ≡ c.args.budget - (c.loop-left.left - c.work-done.result) =
-    omega (arith, e.few, before.2) in (
-      e.search ∙ before.0,
-      e.room ∙ before.1,
-      omega (arith, before.2),
+    omega (arith, c.work-done.ensures.few, c.loop-left.invariant.2) in (
+      c.work-done.ensures.search ∙ c.loop-left.invariant.0,
+      c.work-done.ensures.room ∙ c.loop-left.invariant.1,
+      omega (arith, c.loop-left.invariant.2),
       subst (λ n. Works (Some c.in-Some.limit) n
           (near_standing own.rings.plan own.rings.walk own.window own.mark own.reads)
           (near_standing new.rings.plan new.rings.walk new.window new.mark new.reads) c.args.steps.now c.work-done.new.steps) count
-          (works_again (Some c.in-Some.limit) (c.args.budget - c.loop-left.left) c.work-done.result _ _ _ _ _ _ before.3 e.works),
-      e.under,
+          (works_again (Some c.in-Some.limit) (c.args.budget - c.loop-left.left) c.work-done.result _ _ _ _ _ _ c.loop-left.invariant.3 c.work-done.ensures.works),
+      c.work-done.ensures.under,
     )
 
 pub returns-clause-polls : goal.returns-clause-polls
 returns-clause-polls g c =
-    let before = c.loop-left.invariant in
     polls_by_near_work c.args.budget (c.args.budget - c.loop-left.left) c.in-Some.limit _ _ _ _ _ _ _ c.requires.budget c.requires.none_waits
     (sym c.floor.ensures ∙ c.in-Some.is)
-    (asked_alike _ _ _ _ before.0 before.1) before.3 (omega arith)
-    (inl (omega (arith, c.loop-left-test.false, before.2))) c.judged-2.ensures
+    (asked_alike _ _ _ _ c.loop-left.invariant.0 c.loop-left.invariant.1) c.loop-left.invariant.3 (omega arith)
+    (inl (omega (arith, c.loop-left-test.false, c.loop-left.invariant.2))) c.judged-2.ensures
 
 pub returns-clause-asked : goal.returns-clause-asked
 returns-clause-asked g c = asked_alike _ _ _ _ c.loop-left.invariant.0 c.loop-left.invariant.1
