@@ -52,17 +52,17 @@ returns-then-done-eq0-clause-lawful g c =
 
 pub loop-left-preserved : goal.loop-left-preserved
 loop-left-preserved g c =
-    let own = c.args.self.now in
-    let new = c.work-done.new.self in
     let count : c.args.budget - c.loop-left.left + c.work-done.result ≡ c.args.budget - (c.loop-left.left - c.work-done.result) =
     omega (arith, c.work-done.ensures.few, c.loop-left.invariant.2) in (
       c.work-done.ensures.search ∙ c.loop-left.invariant.0,
       c.work-done.ensures.room ∙ c.loop-left.invariant.1,
       omega (arith, c.loop-left.invariant.2),
       subst (λ n. Works (Some c.in-Some.limit) n
-          (near_standing own.rings.plan own.rings.walk own.window own.mark own.reads)
-          (near_standing new.rings.plan new.rings.walk new.window new.mark new.reads) c.args.steps.now c.work-done.new.steps) count
-          (works_again (Some c.in-Some.limit) (c.args.budget - c.loop-left.left) c.work-done.result _ _ _ _ _ _ c.loop-left.invariant.3 c.work-done.ensures.works),
+          (near_standing c.args.self.now.rings.plan c.args.self.now.rings.walk c.args.self.now.window c.args.self.now.mark c.args.self.now.reads)
+          (near_standing c.work-done.new.self.rings.plan c.work-done.new.self.rings.walk c.work-done.new.self.window c.work-done.new.self.mark
+          c.work-done.new.self.reads) c.args.steps.now c.work-done.new.steps) count
+          (works_again (Some c.in-Some.limit) (c.args.budget - c.loop-left.left) c.work-done.result _ _ _ _ _ _ c.loop-left.invariant.3
+          c.work-done.ensures.works),
       c.work-done.ensures.under,
     )
 
