@@ -18,7 +18,8 @@ use Rattle.world_model.proofs.Lookups.{get_set}
 use Rattle.world_model.proofs.StepLemmas.{step_sound}
 use Rattle.world_bridge.specs.Held.{HoldsLive}
 use Rattle.world_bridge.proofs.HeldLemmas.{held_closed, held_same}
-use Rattle.gph_world.specs.Kept.{IsHeld, KeepsWorld, cancelled, front_at, given_by, query_seen, setting_seen, state_seen, without_held}
+use Rattle.gph_world.specs.Calls.{cancelled, without_held}
+use Rattle.gph_world.specs.Kept.{IsHeld, KeepsWorld, front_at, given_by, query_seen, setting_seen, state_seen}
 use Rattle.gph_world.specs.Worlds.{setting_of}
 use Rattle.gph_world.specs.declared.held.Held.{Held}
 use Rattle.gph_world.specs.declared.place.Place.{Place}

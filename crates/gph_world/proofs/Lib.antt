@@ -1,7 +1,10 @@
+pub mod AdvanceLemmas
+pub mod BuildLemmas
 pub mod CancelLemmas
 pub mod CommitLemmas
 pub mod GrownLemmas
 pub mod HeldLemmas
 pub mod OpenLemmas
+pub mod PlaceLemmas
 pub mod RefusalLemmas
 pub mod StartLemmas

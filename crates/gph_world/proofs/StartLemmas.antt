@@ -13,7 +13,8 @@ use Rattle.world_model.specs.Events.{IsLayoutFor, Setting}
 use Rattle.world_model.specs.Sound.{IsSound}
 use Rattle.world_model.specs.WorldState.{ShardWithBuild, WorldState, empty_places, new_world}
 use Rattle.world_model.proofs.PinLemmas.{new_sound}
-use Rattle.gph_world.specs.Kept.{ArePlacesBegun, KeepsWorld, place_seen, state_seen, world_seen}
+use Rattle.gph_world.specs.Calls.{ArePlacesBegun}
+use Rattle.gph_world.specs.Kept.{KeepsWorld, place_seen, state_seen, world_seen}
 use Rattle.gph_world.specs.Worlds.{WorldView, setting_of, start_of}
 use Rattle.gph_world.specs.declared.place.Place.{Place}
 

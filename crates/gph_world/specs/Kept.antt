@@ -123,20 +123,3 @@ pub record KeepsWorld {W : ℕ} (bits room : ℕ) (journal : JournalState) (plac
   pub live : HoldsLive journal (front_at queries)
   pub held : (number : ℕ) (held : Held W) → slice_get queries number ≡ Some held
       → IsHeld (setting_seen bits room journal places) (cut_history bits journal.history) held
-
--- ---- what private calls do
-
--- a query whose front is closed and that is cancelled
-abbrev pub cancelled : {W : ℕ} → Held W → Held W
-cancelled held = record held { front = None; cancelled = true }
-
--- the journal without a query's front, if that was open
-abbrev pub without_held : JournalState → Option FrontState → JournalState
-without_held journal None = journal
-without_held journal (Some front) = without_front journal front.id
-
--- the first so many shards are seen as those before the first entry
-pub record ArePlacesBegun {W : ℕ} (shards : ℕ) (layout : Laid) (places : List (Place W))
-    (number : ℕ) : Type 0 where
-  pub are : (z : Setting) → z.shards ≡ shards
-      → map place_seen places ≡ empty_places z layout 0 number

@@ -5,7 +5,8 @@ ghost use Rattle.hamming_model.specs.declared.limits.TheConstants.{WORDS_MOST};
 ghost use Rattle.commit_journal.specs.Journals.{IsLive, KeepsFronts};
 ghost use Rattle.world_model.specs.Events.{Cancel};
 ghost use Rattle.world_model.specs.WorldStep.{WorldStep};
-ghost use Rattle.gph_world.specs.Kept.{cancelled, given_by, without_held};
+ghost use Rattle.gph_world.specs.Calls.{cancelled, without_held};
+ghost use Rattle.gph_world.specs.Kept.{given_by};
 
 use crate::held::Held;
 use crate::world::World;

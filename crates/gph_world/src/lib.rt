@@ -2,12 +2,15 @@
 //! Whatever calls follow one another, the state between two of them is sound, and each answer is that of the definitions.
 #![tactic(auto)]
 
+mod advancing;
 mod ask;
+mod building;
 mod cancelling;
 mod commits;
 mod held;
 mod opening;
 mod place;
+mod rebuild;
 mod starting;
 mod world;
 

@@ -7,7 +7,7 @@ ghost use Rattle.shard_version.specs.Contents.{empty_of};
 ghost use Rattle.versioned_shard.specs.Shards.{shard_with};
 ghost use Rattle.world_model.specs.Events.{IsLayoutFor};
 ghost use Rattle.gph_world.specs.Worlds.{start_of};
-ghost use Rattle.gph_world.specs.Kept.{ArePlacesBegun};
+ghost use Rattle.gph_world.specs.Calls.{ArePlacesBegun};
 
 use crate::place::Place;
 use crate::world::World;

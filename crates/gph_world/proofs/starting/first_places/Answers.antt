@@ -4,7 +4,7 @@ use Rattle.std.specs.Arc.{arc_value}
 use Rattle.std.specs.Prelude.{None}
 use Rattle.versioned_shard.specs.Shards.{ShardState}
 use Rattle.world_model.specs.WorldState.{ShardWithBuild}
-use Rattle.gph_world.specs.Kept.{ArePlacesBegun}
+use Rattle.gph_world.specs.Calls.{ArePlacesBegun}
 use Rattle.gph_world.specs.declared.place.Place.{Place}
 use Rattle.gph_world.proofs.StartLemmas.{one_more_begun}
 use Rattle.gph_world.proofs.starting.first_places.Goals as goal

@@ -1,6 +1,6 @@
 -- What the loop keeps: the first shards stand before the first entry.
 use Rattle.std.specs.Arc.{arc_value}
-use Rattle.gph_world.specs.Kept.{ArePlacesBegun}
+use Rattle.gph_world.specs.Calls.{ArePlacesBegun}
 use Rattle.gph_world.proofs.starting.first_places.Given as goal
 
 abbrev pub invariant-loop-number : goal.invariant-loop-number
