@@ -10,7 +10,7 @@ use Rattle.commit_journal.specs.Journals.{JournalState, KnowsFront}
 use Rattle.versioned_shard.specs.Along.{Follows}
 use Rattle.versioned_shard.specs.Shards.{ShardState, advanced}
 use Rattle.versioned_shard.proofs.RuleLemmas.{follows_front}
-use Rattle.world_model.specs.declared.refused.Refused.TheVariants.{Closed, NoQuery, NoShard, Unfronted}
+use Rattle.world_model.specs.declared.refused.Refused.TheVariants.{Closed, NoMemory, NoQuery, NoShard, Unfronted}
 use Rattle.world_model.specs.declared.told.Told.TheVariants as told
 use Rattle.world_model.specs.Events.{Advance, Setting}
 use Rattle.world_model.specs.Refusals.{cause, refusal}
@@ -18,7 +18,6 @@ use Rattle.world_model.specs.ShardSteps.{Advances, AdvancesTo}
 use Rattle.world_model.specs.Sound.{KeepsOlder, KeepsShard}
 use Rattle.world_model.specs.WorldState.{ShardWithBuild, WorldQuery, WorldState, front_on, live_fronts}
 use Rattle.world_model.specs.WorldStep.{WorldStep}
-use Rattle.world_model.proofs.StepLemmas.{step_sound}
 use Rattle.world_bridge.specs.Cuts.{cut_front}
 use Rattle.world_bridge.proofs.CutLemmas.{comes_cut, follows_cut}
 use Rattle.gph_world.specs.Calls.{come_to}
@@ -26,7 +25,7 @@ use Rattle.gph_world.specs.Kept.{IsHeld, KeepsWorld, front_at, place_seen, query
 use Rattle.gph_world.specs.declared.held.Held.{Held}
 use Rattle.gph_world.specs.declared.place.Place.{Place}
 use Rattle.gph_world.proofs.HeldLemmas.{front_there, seen_past, seen_there}
-use Rattle.gph_world.proofs.PlaceLemmas.{place_keeps, place_there, placed_is}
+use Rattle.gph_world.proofs.PlaceLemmas.{place_there, placed_is, same_state}
 use Rattle.gph_world.proofs.RefusalLemmas.{cause_at, cause_if, cause_not, is_query, is_shard, no_query, no_shard, refusal_by}
 
 -- ---- why it may be refused
@@ -126,8 +125,20 @@ module _ {W : ℕ} (bits room : ℕ) (journal : JournalState) (places : List (Pl
     record { after = place_seen (come_to front place); advances = came; said_is = ap told.Advanced at_is },
   )
 
-  pub advance_keeps : shard < length places → held.cancelled ≡ false → KeepsWorld bits room journal (slice_set places shard (come_to front place)) queries
-  advance_keeps low goes_on = place_keeps bits room journal places queries shard (come_to front place) keeps
-      (step_sound z s keeps.sound (Advance number shard) (Ok (told.Advanced (come_to front place).shard.current.at))
-      (state_seen bits journal (slice_set places shard (come_to front place)) queries) tt
-      (advance_step low goes_on (come_to front place).shard.current.at refl))
+  -- the shard as it was left
+  pub advance_ok : shard < length places → held.cancelled ≡ false → (new : Place W) → new ≡ come_to front place → (at : ℕ) → at ≡ new.shard.current.at
+      → WorldStep z s (Advance number shard) (Ok (told.Advanced at)) (state_seen bits journal (slice_set places shard new) queries)
+  advance_ok low goes_on new same at at_is =
+      subst (λ (one : Place W). at ≡ one.shard.current.at
+      → WorldStep z s (Advance number shard) (Ok (told.Advanced at)) (state_seen bits journal (slice_set places shard one) queries)) (sym same)
+      (advance_step low goes_on at) at_is
+
+  -- there was no memory
+  pub advance_lacks : shard < length places → held.cancelled ≡ false → (new : Place W) → new ≡ place
+      → WorldStep z s (Advance number shard) (Err NoMemory) (state_seen bits journal (slice_set places shard new) queries)
+  advance_lacks low goes_on new same = inr (record {
+    why_is = refl;
+    takes = refl;
+    not_refused = may_advance z s number shard low query (seen_there bits room journal places queries keeps number held there) front.older goes_on fronted;
+    leaves = inl (same_state bits journal places queries shard place new stands same);
+  })

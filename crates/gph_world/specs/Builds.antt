@@ -1,5 +1,5 @@
 -- What private calls do with a shard and its build. No public clause cites this module.
-use Rattle.std.specs.Prelude.{◌≡◌, ◌≢◌, ◌⊎◌, ℕ, ◌-◌, ◌<◌, length, false, true, is_some, Some, None, Result, Ok, Err}
+use Rattle.std.specs.Prelude.{◌≡◌, ◌≢◌, ◌⊎◌, ℕ, ◌-◌, ◌<◌, IfSome, length, false, true, is_some, Some, None, Result, Ok, Err}
 use Rattle.part_layout.specs.Laid.{Laid}
 use Rattle.version_draft.specs.Unfinished.{Unfinished, begun, with_placed}
 use Rattle.versioned_shard.specs.Shards.{MayStandIn, with_layout}
@@ -55,3 +55,30 @@ pub record LacksBuild {W : ℕ} (old : Place W) (why : Refused) : Type 0 where
 abbrev pub PlacesAs : {W : ℕ} → ℕ → Place W → Place W → Result Told Refused → Type 0
 PlacesAs rows old new (Ok said) = Places rows old new said
 PlacesAs rows old new (Err why) = (new ≡ old) × LacksBuild old why
+
+-- a build of the shard may stand in for it
+abbrev pub MayBeSwapped : {W : ℕ} → Place W → Type 0
+MayBeSwapped place = IfSome place.build (λ build. MayStandIn place.shard build.contents)
+
+-- the build's layout is the shard's, and the build is gone
+pub record Swapped {W : ℕ} (old new : Place W) (said : Told) : Type 0 where
+  pub build : Unfinished
+  pub is_build : old.build ≡ Some build
+  pub placed : build.left ≡ 0
+  pub one_place : build.contents.at ≡ old.shard.current.at
+  pub after : new ≡ swapped_in old build
+  pub said_is : said ≡ told.Swapped old.shard.current.at
+
+-- a build isn't swapped in: rows are left, or it stands apart from its shard, or there was no memory
+pub record IsNotSwapped {W : ℕ} (old : Place W) (why : Refused) : Type 0 where
+  pub build : Unfinished
+  pub is_build : old.build ≡ Some build
+  pub causes : ((0 < build.left) × (why ≡ Unready build.left))
+      ⊎ (((build.left ≡ 0) × (build.contents.at ≢ old.shard.current.at)
+      × (why ≡ Moved old.shard.current.at))
+      ⊎ ((build.left ≡ 0) × (build.contents.at ≡ old.shard.current.at) × (why ≡ NoMemory)))
+
+-- a build is swapped in, or why not
+abbrev pub SwapsAs : {W : ℕ} → Place W → Place W → Result Told Refused → Type 0
+SwapsAs old new (Ok said) = Swapped old new said
+SwapsAs old new (Err why) = (new ≡ old) × (LacksBuild old why ⊎ IsNotSwapped old why)

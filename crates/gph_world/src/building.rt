@@ -2,10 +2,10 @@
 
 ghost use Rattle.std.specs.Prelude.{◌≡◌};
 ghost use Rattle.std.specs.Arc.{arc_value};
-ghost use Rattle.world_model.specs.Events.{BuildStart, BuildStep, IsLayoutFor};
+ghost use Rattle.world_model.specs.Events.{BuildStart, BuildStep, IsLayoutFor, Swap};
 ghost use Rattle.world_model.specs.WorldStep.{WorldStep};
 
-use crate::rebuild::{place_rows, start_build};
+use crate::rebuild::{place_rows, start_build, swap_in};
 use crate::world::World;
 use part_layout::Layout;
 use read_meter::Steps;
@@ -56,5 +56,22 @@ impl<const W: usize> World<W> {
             return Err(Refused::NoShard);
         }
         place_rows(&mut self.places[number], rows, steps)
+    }
+
+    /// Gives a shard the layout of its build, where both stand at one position, and tells which.
+    ///
+    /// # Errors
+    ///
+    /// `NoShard`, `NoBuild`, `Unready` or `Moved`, the first that holds. Else `NoMemory` where there is none for the version.
+    pub fn swap(&mut self, shard: u32) -> Result<Told, Refused>
+        ensures setting { self.new.setting ≡ self.old.setting }
+        ensures step { WorldStep self.old.setting self.old.state
+            (Swap shard) result self.new.state }
+    {
+        let number = shard as usize;
+        if number >= self.places.len() {
+            return Err(Refused::NoShard);
+        }
+        swap_in(&mut self.places[number])
     }
 }

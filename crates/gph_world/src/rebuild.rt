@@ -4,12 +4,12 @@ ghost use Rattle.std.specs.Prelude.{◌≡◌, ◌≤◌};
 ghost use Rattle.std.specs.Arc.{arc_value};
 ghost use Rattle.hamming_model.specs.declared.limits.TheConstants.{WORDS_MOST};
 ghost use Rattle.part_layout.specs.Laid.{IsLaid};
-ghost use Rattle.gph_world.specs.Builds.{PlacesAs, StartsAs};
+ghost use Rattle.gph_world.specs.Builds.{MayBeSwapped, PlacesAs, StartsAs, SwapsAs};
 
 use crate::place::Place;
 use part_layout::Layout;
 use read_meter::Steps;
-use repartitioner::Build;
+use repartitioner::{Build, Unready};
 use std::alloc::Global;
 use std::sync::Arc;
 use world_model::{Refused, Told};
@@ -51,4 +51,36 @@ pub fn place_rows<const W: usize, M>(
     let _state = build.step(rows, steps);
     let left = build.left();
     Ok(Told::Built { left })
+}
+
+// Gives the shard the layout of its build, where all rows are placed and both stand at one position.
+pub fn swap_in<const W: usize>(place: &mut Place<W>) -> Result<Told, Refused>
+    requires { MayBeSwapped place.old }
+    ensures { SwapsAs place.old place.new result }
+{
+    let shard_at = place.shard.at();
+    let Some(build) = place.build.take() else {
+        return Err(Refused::NoBuild);
+    };
+    let left = build.left();
+    if left > 0 {
+        place.build = Some(build);
+        return Err(Refused::Unready { left });
+    }
+    if build.at() != shard_at {
+        place.build = Some(build);
+        return Err(Refused::Moved { shard_at });
+    }
+    match build.finish() {
+        Ok(prepared) => {
+            let Ok(()) = place.shard.swap(prepared) else {
+                unreachable!()
+            };
+            Ok(Told::Swapped { at: shard_at })
+        }
+        Err(Unready::Left { build, .. } | Unready::NoMemory { build }) => {
+            place.build = Some(build);
+            Err(Refused::NoMemory)
+        }
+    }
 }
