@@ -166,63 +166,63 @@ module _ {W : ℕ} {config : Config} {start : Start} {old : Moment W} {taken : �
     module _ (count : ℕ) (room : List ℕ) (zero : count ≡ 0)
         (read : Consumes source1.bytes source2.bytes (take count room)) (at_end : IsAtEnd source2.bytes)
         (result : Result Turn Failed) (flows : EndsOn result config old new begun sink1.bytes sink2.bytes) where
-        -- nothing was read
-        none : Consumes source1.bytes source2.bytes []
-        none = subst (λ n. Consumes source1.bytes source2.bytes (take n room)) zero read
+      -- nothing was read
+      none : Consumes source1.bytes source2.bytes []
+      none = subst (λ n. Consumes source1.bytes source2.bytes (take n room)) zero read
 
-        ends : (more : List ℕ) × Appends sink1.bytes sink2.bytes more
-            × EndIs result config start new serves.bytes (serves.output ++ more)
-        ends = flows start serves.bytes serves.output serves.goes
+      ends : (more : List ℕ) × Appends sink1.bytes sink2.bytes more
+          × EndIs result config start new serves.bytes (serves.output ++ more)
+      ends = flows start serves.bytes serves.output serves.goes
 
-        moved_all : Transfers config.input (up_to source2 sink2 new) serves.bytes (serves.output ++ ends.0)
-        moved_all = record {
-          read = subst (Consumes source0.bytes source2.bytes) (append-nil serves.bytes)
-              (Consumes-trans source0.bytes source1.bytes source2.bytes serves.bytes [] serves.read none);
-          few = omega (arith, serves.long, serves.few);
-          wrote = Appends-trans sink0.bytes sink1.bytes sink2.bytes serves.output ends.0 serves.wrote ends.1;
-        }
+      moved_all : Transfers config.input (up_to source2 sink2 new) serves.bytes (serves.output ++ ends.0)
+      moved_all = record {
+        read = subst (Consumes source0.bytes source2.bytes) (append-nil serves.bytes)
+            (Consumes-trans source0.bytes source1.bytes source2.bytes serves.bytes [] serves.read none);
+        few = omega (arith, serves.long, serves.few);
+        wrote = Appends-trans sink0.bytes sink1.bytes sink2.bytes serves.output ends.0 serves.wrote ends.1;
+      }
 
-        pub done_at_end : {turn : Turn} → result ≡ Ok turn → sink2.faults ≡ sink1.faults
-            → EndsWith (IsDone (Served new) config) (up_to source2 sink2 new)
-        done_at_end {turn} is steady =
-            let last = subst (λ r. EndIs r config start new serves.bytes (serves.output ++ ends.0)) is ends.2 in
-            record {
-              rise = last.rise;
-              rises = last.rises;
-              ended = record {
-                no_read_failed = no_read_failed ∙ serves.no_read_failed;
-                no_write_failed = steady ∙ serves.no_write_failed;
-                bytes = serves.bytes;
-                output = serves.output ++ ends.0;
-                moved = moved_all;
-                ended = inl at_end;
-                goes_on = subst (λ l. has_quit config (ended_lines [] (before_last l)) ≡ false)
-                    (append-nil serves.bytes) (no_quit_before config serves.bytes [] (omega arith) goes);
-                answered = last.answered;
-              };
-            }
+      pub done_at_end : {turn : Turn} → result ≡ Ok turn → sink2.faults ≡ sink1.faults
+          → EndsWith (IsDone (Served new) config) (up_to source2 sink2 new)
+      done_at_end {turn} is steady =
+          let last = subst (λ r. EndIs r config start new serves.bytes (serves.output ++ ends.0)) is ends.2 in
+          record {
+            rise = last.rise;
+            rises = last.rises;
+            ended = record {
+              no_read_failed = no_read_failed ∙ serves.no_read_failed;
+              no_write_failed = steady ∙ serves.no_write_failed;
+              bytes = serves.bytes;
+              output = serves.output ++ ends.0;
+              moved = moved_all;
+              ended = inl at_end;
+              goes_on = subst (λ l. has_quit config (ended_lines [] (before_last l)) ≡ false)
+                  (append-nil serves.bytes) (no_quit_before config serves.bytes [] (omega arith) goes);
+              answered = last.answered;
+            };
+          }
 
-        pub refused_at_end : {failed : Failed} → result ≡ Err failed → Rose sink1.faults sink2.faults
-            → EndsWith (IsWriteFault (Served new) config) (up_to source2 sink2 new)
-        refused_at_end {failed} is rose =
-            let last = subst (λ r. EndIs r config start new serves.bytes (serves.output ++ ends.0)) is ends.2 in
-            let few = subst (λ l. length (ended_lines [] (before_last l)) ≤ length (ended_lines [] serves.bytes))
-            (append-nil serves.bytes) (no_more_before serves.bytes [] (omega arith)) in
-            record {
-              rise = last.rise;
-              rises = last.rises;
-              ended = record {
-                no_read_failed = no_read_failed ∙ serves.no_read_failed;
-                rose = rose_from sink0.faults sink1.faults sink2.faults serves.no_write_failed rose;
-                bytes = serves.bytes;
-                output = serves.output ++ ends.0;
-                moved = moved_all;
-                ended = true;
-                ended_at = λ _. at_end;
-                refused = last.refused;
-                all_before = omega (arith, few, last.all_before);
-              };
-            }
+      pub refused_at_end : {failed : Failed} → result ≡ Err failed → Rose sink1.faults sink2.faults
+          → EndsWith (IsWriteFault (Served new) config) (up_to source2 sink2 new)
+      refused_at_end {failed} is rose =
+          let last = subst (λ r. EndIs r config start new serves.bytes (serves.output ++ ends.0)) is ends.2 in
+          let few = subst (λ l. length (ended_lines [] (before_last l)) ≤ length (ended_lines [] serves.bytes))
+          (append-nil serves.bytes) (no_more_before serves.bytes [] (omega arith)) in
+          record {
+            rise = last.rise;
+            rises = last.rises;
+            ended = record {
+              no_read_failed = no_read_failed ∙ serves.no_read_failed;
+              rose = rose_from sink0.faults sink1.faults sink2.faults serves.no_write_failed rose;
+              bytes = serves.bytes;
+              output = serves.output ++ ends.0;
+              moved = moved_all;
+              ended = true;
+              ended_at = λ _. at_end;
+              refused = last.refused;
+              all_before = omega (arith, few, last.all_before);
+            };
+          }
 
     -- ---- one more block
 

@@ -23,14 +23,36 @@ serve-status-requires-after_bounds g c κs within =
     let config : now.config ≡ c.args.config.now = ap (λ (d : DeskState). d.config) same ∙ c.requires.config in
     let made = c.new_session-begun.ensures in
     let new = new_of c.length-position.result c.in-Ok-Ok.is-0 made.queries made.opened made.told made.samples made.build
-    made.cutter made.requests made.position in
-    (search rules, (c.requires.sync, (is_ready g.row.W c.args.config.now now is config, (alone, (config,
-    (subst (HaveShards {W = g.row.W} c.args.config.now.shards) (sym new.queries) tt,
-    (subst (AreSamples c.args.config.now.bits) (sym new.samples) (no_samples g.row.W c.args.config.now.bits),
-    (subst (IsBuildOfDesk now) (sym new.build) tt, (search rules,
-    begun_session g.row.W c.args.config.now (moment_of now session c.args.meters.now c.args.upkeep.now) session.cutter.held is
-    alone config new.queries new.opened (ap (map told_layout) new.told) new.samples new.build new.requests
-    (new.position ∙ c.length-position.ensures.length) new.cutter)))))))))
+    made.cutter made.requests made.position in (
+      search rules,
+      (
+        c.requires.sync,
+        (
+          is_ready g.row.W c.args.config.now now is config,
+          (
+            alone,
+            (
+              config,
+              (
+                subst (HaveShards {W = g.row.W} c.args.config.now.shards) (sym new.queries) tt,
+                (
+                  subst (AreSamples c.args.config.now.bits) (sym new.samples) (no_samples g.row.W c.args.config.now.bits),
+                  (
+                    subst (IsBuildOfDesk now) (sym new.build) tt,
+                    (
+                      search rules,
+                      begun_session g.row.W c.args.config.now (moment_of now session c.args.meters.now c.args.upkeep.now) session.cutter.held is
+                          alone config new.queries new.opened (ap (map told_layout) new.told) new.samples new.build new.requests
+                          (new.position ∙ c.length-position.ensures.length) new.cutter,
+                    ),
+                  ),
+                ),
+              ),
+            ),
+          ),
+        ),
+      ),
+    )
 
 pub returns-clause-done : goal.returns-clause-done
 returns-clause-done g c = λ is.
