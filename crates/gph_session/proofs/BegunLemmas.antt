@@ -1,19 +1,21 @@
 -- Lemmas on a session before its first byte, and on its ending by its status.
 use Rattle.std.proofs.Common.{◌≡◌, ℕ, ◌+◌, true, Option, None, List, [], ◌++◌, length, map}
-use Rattle.std.proofs.Common.{Result, Ok, IfOk, refl, sym, ap, subst, inl, arith, append-nil}
+use Rattle.std.proofs.Common.{Result, Ok, IfOk, refl, sym, ap, ◌∙◌, subst, inl, arith, append-nil}
 use Rattle.std.proofs.lemmas.Result.{IfOk-at_ok}
 use Rattle.byte_lines.specs.Cut.{held_of}
 use Rattle.part_layout.specs.declared.config.Config.{Config}
 use Rattle.session_desk.specs.Calls.{OnlyLearns}
 use Rattle.session_desk.specs.Desks.{DeskState, IsDesk, seen_history}
 use Rattle.layout_search.specs.Improves.{AreSamples, plain_sample}
+use Rattle.session_model.specs.declared.limits.TheConstants.{BLOCK_MOST}
 use Rattle.session_model.specs.Outside.{Call}
 use Rattle.gph_session.specs.Sessions.{Told, state_of}
 use Rattle.open_session.specs.declared.open_session.Session.{Session}
 use Rattle.open_session.specs.declared.shard_build.ShardBuild.{ShardBuild}
-use Rattle.open_session.specs.KeptBuild.{MeansBuild, StandsFrom, left_in}
-use Rattle.open_session.specs.Moments.{Moment, Spends}
-use Rattle.open_session.specs.Meaning.{AllKeep, IsReady, Means}
+use Rattle.open_session.specs.KeptBuild.{IsBuildOfDesk, MeansBuild, StandsFrom, left_in}
+use Rattle.open_session.specs.Pinned.{told_layout}
+use Rattle.open_session.specs.Moments.{Moment, Spends, moment_of}
+use Rattle.open_session.specs.Meaning.{AllKeep, HaveShards, IsReady, Means}
 use Rattle.gph_session.specs.Flow.{HasBegunWith}
 use Rattle.gph_session.specs.declared.report.Status.{Status}
 use Rattle.gph_session.specs.Serving.{EndsAs}
@@ -27,7 +29,7 @@ use Rattle.open_session.proofs.WholeLemmas.{leaves}
 spent_none : {W : ℕ} {build : Option (ShardBuild W)} {steps : ℕ} → build ≡ None → steps ≡ steps + left_in build
 spent_none {build = build} none = omega (arith, ap left_in none)
 
-pub begun_session : {W : ℕ} (words : ℕ) (config : Config) (now : Moment W) (begun : Option (List ℕ))
+begun_session : {W : ℕ} (words : ℕ) (config : Config) (now : Moment W) (begun : Option (List ℕ))
     → IsDesk words now.desk → now.desk.alone ≡ true → now.desk.config ≡ config → now.cursors ≡ []
     → now.pinned.opened ≡ 0 → now.pinned.told ≡ [] → now.samples ≡ [] → now.build ≡ None → now.requests ≡ 0 → now.position ≡ length now.desk.seen
     → begun ≡ held_of [] → HasBegunWith config now begun
@@ -70,10 +72,10 @@ begun_session {W} words config now begun is alone same none opened told no_sampl
     }
 
 -- no sample is one
-pub no_samples : (W bits : ℕ) → AreSamples {W = W} bits []
+no_samples : (W bits : ℕ) → AreSamples {W = W} bits []
 no_samples W bits = record { few = omega arith; each = λ k other inside. absurd (omega (arith, inside)) }
 
-pub is_ready : (words : ℕ) (config : Config) (desk : DeskState) → IsDesk words desk → desk.config ≡ config
+is_ready : (words : ℕ) (config : Config) (desk : DeskState) → IsDesk words desk → desk.config ≡ config
     → IsReady words config
 is_ready words config desk is same = subst (IsReady words) same (record {
   few_words = is.few_words;
@@ -111,6 +113,23 @@ new_of {W} at ok queries opened told samples build cutter requests position = re
   requests = IfOk-at_ok (λ (session : Session W). session.requests ≡ 0) ok requests;
   position = IfOk-at_ok (λ (session : Session W). session.position ≡ at) ok position;
 }
+
+-- what serving a session asks before its first byte
+pub begun_needs : {W : ℕ} (config : Config) (now : DeskState) (session : Session W) (reads : List ℕ) (upkeep at : ℕ)
+    (block : List ℕ) → IsNew session at → at ≡ length now.seen → IsDesk W now → now.alone ≡ true → now.config ≡ config
+    → length block ≡ BLOCK_MOST
+    → IsReady W config × ((now.alone ≡ true) × ((now.config ≡ config) × (HaveShards {W = W} config.shards session.queries
+    × (AreSamples config.bits session.samples × (IsBuildOfDesk now session.build × ((length block ≡ BLOCK_MOST)
+    × HasBegunWith config (moment_of now session reads upkeep) session.cutter.held))))))
+begun_needs {W} config now session reads upkeep at block new is_last is alone same room =
+    let shards : HaveShards {W = W} config.shards session.queries =
+    subst (HaveShards {W = W} config.shards) (sym new.queries) tt in
+    let samples : AreSamples config.bits session.samples =
+    subst (AreSamples config.bits) (sym new.samples) (no_samples W config.bits) in
+    let build : IsBuildOfDesk now session.build = subst (IsBuildOfDesk now) (sym new.build) tt in
+    let begun = begun_session W config (moment_of now session reads upkeep) session.cutter.held is alone same
+    new.queries new.opened (ap (map told_layout) new.told) new.samples new.build new.requests (new.position ∙ is_last) new.cutter in
+    (is_ready W config now is same, (alone, (same, (shards, (samples, (build, (room, begun)))))))
 
 -- the ending by the status, over the same desk
 ended_as : (status expected : Status) → status ≡ expected → (config : Config) (desk before desk' : DeskState)

@@ -1,14 +1,9 @@
 -- A session begins with nothing answered, and ends as it was served.
-use Rattle.std.proofs.Common.{◌≡◌, sym, ap, ◌∙◌, map, subst, rules, true}
+use Rattle.std.proofs.Common.{◌≡◌, sym, ap, ◌∙◌, subst, rules, true}
 use Rattle.session_desk.specs.Desks.{DeskState, IsDesk}
 use Rattle.gph_session.specs.declared.report.Status.TheVariants as status
-use Rattle.layout_search.specs.Improves.{AreSamples}
-use Rattle.open_session.specs.KeptBuild.{IsBuildOfDesk}
-use Rattle.open_session.specs.Meaning.{HaveShards}
-use Rattle.open_session.specs.Moments.{moment_of}
-use Rattle.open_session.specs.Pinned.{told_layout}
 use Rattle.open_session.proofs.MomentLemmas.{learns_nothing}
-use Rattle.gph_session.proofs.BegunLemmas.{begun_session, ended_over, is_ready, new_of, no_samples}
+use Rattle.gph_session.proofs.BegunLemmas.{begun_needs, ended_over, new_of}
 use Rattle.gph_session.proofs.session_call.session.Goals as goal
 
 pub serve-status-requires-after_bounds : goal.serve-status-requires-after_bounds
@@ -27,30 +22,8 @@ serve-status-requires-after_bounds g c κs within =
       search rules,
       (
         c.requires.sync,
-        (
-          is_ready g.row.W c.args.config.now now is config,
-          (
-            alone,
-            (
-              config,
-              (
-                subst (HaveShards {W = g.row.W} c.args.config.now.shards) (sym new.queries) tt,
-                (
-                  subst (AreSamples c.args.config.now.bits) (sym new.samples) (no_samples g.row.W c.args.config.now.bits),
-                  (
-                    subst (IsBuildOfDesk now) (sym new.build) tt,
-                    (
-                      search rules,
-                      begun_session g.row.W c.args.config.now (moment_of now session c.args.meters.now c.args.upkeep.now) session.cutter.held is
-                          alone config new.queries new.opened (ap (map told_layout) new.told) new.samples new.build new.requests
-                          (new.position ∙ c.length-position.ensures.length) new.cutter,
-                    ),
-                  ),
-                ),
-              ),
-            ),
-          ),
-        ),
+        begun_needs {W = g.row.W} c.args.config.now now session c.args.meters.now c.args.upkeep.now
+            c.length-position.result c.as_mut_slice.result.now new c.length-position.ensures.length is alone config (search rules),
       ),
     )
 
