@@ -90,3 +90,21 @@ fn entries_come_and_go_one_at_a_time(rt: HostRuntime) -> Result<(), Fail> {
     compare(&rt, &copy, 15, &[10], &code, &mut steps);
     Ok(())
 }
+
+#[test]
+fn a_block_is_a_run_of_a_list(rt: HostRuntime) -> Result<(), Fail> {
+    let mut steps: Steps<Reads> = upkeep(&rt);
+    let code: Code<1> = Code::from_hex(8, b"0f")?;
+    let mut table = Postings::new(rt.alloc(), 4)?;
+    insert_new(&rt, &mut table, 3, 10, code);
+    insert_new(&rt, &mut table, 3, 11, code);
+    insert_new(&rt, &mut table, 3, 12, code);
+    insert_new(&rt, &mut table, 3, 13, code);
+    assert!(rt; table.len(3) == 4);
+    let run = table.block(3, 1, 2, &mut steps);
+    assert!(rt; run.len() == 2);
+    assert!(rt; run[0].0 == 11 && run[1].0 == 12 && run[1].1 == code);
+    assert!(rt; table.block(3, 0, 4, &mut steps).len() == 4);
+    assert!(rt; table.block(3, 4, 0, &mut steps).is_empty());
+    Ok(())
+}

@@ -1,3 +1,4 @@
+pub mod KeepLemmas
 pub mod NearLemmas
 pub mod NearWorkLemmas
 pub mod OpenLemmas

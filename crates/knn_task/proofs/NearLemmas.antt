@@ -3,7 +3,6 @@ use Rattle.std.proofs.Common.{◌≡◌, ◌≢◌, ℕ, zero, suc, ◌+◌, ◌
 use Rattle.std.proofs.Common.{◌∷◌, ◌++◌, length, take, drop, get_or, sum, sum_by, refl, sym, ap, ◌∙◌, subst, ⊎_elim}
 use Rattle.std.proofs.Common.{arith, Option, Some, None}
 use Rattle.std.specs.Prelude.{All, IfSome, nat_le, not}
-use Rattle.std.specs.Option.{option_to_list}
 use Rattle.std.specs.List.{AllByRecursion}
 use Rattle.std.proofs.lemmas.Bool.{ltb-true, cases_lt, cases_eq, eq-eqb, ne_eqb, lt-ltb, le-ltb}
 use Rattle.std.proofs.lemmas.Bool.Decides.{nat_tests}
@@ -122,33 +121,23 @@ settled_more few many ready found all le front back same =
         let given = same.sums f in
         omega arith
 
+-- there is room for the new hits of a ring that are left
+pub room_left : (p : Search) (w : Ring) (radii : ℕ) (hits : Window) (mark : Mark) (reads : ℕ) → KeepsHits p w radii hits mark reads
+    → IsRing p radii w → length hits.found + length w.hits ≤ hits.capacity
+room_left p w radii hits mark reads is ring =
+    omega (arith, length-append hits.found w.hits, same_length (hits.found ++ w.hits) w.total is.found, ring.few, is.reserved)
+
 module _ (p : Search) (old new : Ring) (radii : ℕ) (hits : Window) (mark : Mark) (reads : ℕ)
-    (is : KeepsHits p old radii hits mark reads) (ring : IsRing p radii old) (kept : Option Hit)
-    (of_hits : old.hits ≡ option_to_list kept ++ new.hits) where
-  one_at_most : length (option_to_list kept) ≤ 1
-  one_at_most = go kept
-    where
-      go : (one : Option Hit) → length (option_to_list one) ≤ 1
-      go None = omega arith
-      go (Some hit) = omega arith
-
-  -- there is room for a new hit
-  pub room_left : IfSome kept (λ hit. length hits.found < hits.capacity)
-  room_left = go kept of_hits
-    where
-      go : (one : Option Hit) → old.hits ≡ option_to_list one ++ new.hits → IfSome one (λ hit. length hits.found < hits.capacity)
-      go None e = tt
-      go (Some hit) e =
-          omega (arith, ap length e, length-append hits.found old.hits, same_length (hits.found ++ old.hits) old.total is.found, ring.few, is.reserved)
-
-  -- a posting was read
-  pub after_read : old.reads ≡ new.reads + 1 → new.total ≡ old.total → KeepsHits p new radii (with_new hits kept) mark (reads + 1)
+    (is : KeepsHits p old radii hits mark reads) (ring : IsRing p radii old) (kept : List Hit)
+    (count : ℕ) (kept_few : length kept ≤ count) (of_hits : old.hits ≡ kept ++ new.hits) where
+  -- so many postings were read
+  pub after_read : old.reads ≡ new.reads + count → new.total ≡ old.total → KeepsHits p new radii (with_new hits kept) mark (reads + count)
   after_read of_reads of_total =
-      let far : AllByRecursion (λ hit. mark.settled ≤ hit.dist) (option_to_list kept ++ new.hits) =
+      let far : AllByRecursion (λ hit. mark.settled ≤ hit.dist) (kept ++ new.hits) =
       subst (AllByRecursion (λ hit. mark.settled ≤ hit.dist)) of_hits
       (recursion_from_All (λ hit. mark.settled ≤ hit.dist) old.hits is.far) in
-      let joined = length-append hits.found (option_to_list kept) in
-      let one = one_at_most in
+      let joined = length-append hits.found kept in
+      let few = kept_few in
       record {
         window = record { behind = is.window.behind; among = omega (arith, is.window.among); fits = is.window.fits };
         some_room = is.some_room;
@@ -157,17 +146,17 @@ module _ (p : Search) (old new : Ring) (radii : ℕ) (hits : Window) (mark : Mar
         ready = omega (arith, is.ready);
         few = omega (arith, is.few);
         bounded = omega (arith, is.bounded);
-        found = same_again ((hits.found ++ option_to_list kept) ++ new.hits) (hits.found ++ old.hits) new.total
-            (same_of ((hits.found ++ option_to_list kept) ++ new.hits) (hits.found ++ old.hits)
-            (append_assoc hits.found (option_to_list kept) new.hits ∙ ap (λ xs. hits.found ++ xs) (sym of_hits)))
+        found = same_again ((hits.found ++ kept) ++ new.hits) (hits.found ++ old.hits) new.total
+            (same_of ((hits.found ++ kept) ++ new.hits) (hits.found ++ old.hits)
+            (append_assoc hits.found kept new.hits ∙ ap (λ xs. hits.found ++ xs) (sym of_hits)))
             (same_again (hits.found ++ old.hits) old.total new.total is.found (same_of old.total new.total (sym of_total)));
-        front = take-append-le mark.ready hits.found (option_to_list kept) is.ready ∙ is.front;
-        back = All-from_recursion (λ hit. mark.settled ≤ hit.dist) (drop mark.ready (hits.found ++ option_to_list kept))
-            (subst (AllByRecursion (λ hit. mark.settled ≤ hit.dist)) (sym (drop-append-le mark.ready hits.found (option_to_list kept) is.ready))
-            (all_both (λ hit. mark.settled ≤ hit.dist) (drop mark.ready hits.found) (option_to_list kept)
+        front = take-append-le mark.ready hits.found kept is.ready ∙ is.front;
+        back = All-from_recursion (λ hit. mark.settled ≤ hit.dist) (drop mark.ready (hits.found ++ kept))
+            (subst (AllByRecursion (λ hit. mark.settled ≤ hit.dist)) (sym (drop-append-le mark.ready hits.found kept is.ready))
+            (all_both (λ hit. mark.settled ≤ hit.dist) (drop mark.ready hits.found) kept
             (recursion_from_All (λ hit. mark.settled ≤ hit.dist) (drop mark.ready hits.found) is.back)
-            (all_front (λ hit. mark.settled ≤ hit.dist) (option_to_list kept) new.hits far)));
-        far = All-from_recursion (λ hit. mark.settled ≤ hit.dist) new.hits (all_back (λ hit. mark.settled ≤ hit.dist) (option_to_list kept) new.hits far);
+            (all_front (λ hit. mark.settled ≤ hit.dist) kept new.hits far)));
+        far = All-from_recursion (λ hit. mark.settled ≤ hit.dist) new.hits (all_back (λ hit. mark.settled ≤ hit.dist) kept new.hits far);
         most = is.most;
       }
     where

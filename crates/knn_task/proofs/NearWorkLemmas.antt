@@ -89,7 +89,7 @@ drop_more_far units (suc from) (suc more) (hit ∷ hits) le all = drop_more_far 
 pub bound_most : (p : Search) (radii : ℕ) → bound_of p radii ≤ sum p.leasts
 bound_most p radii = sum_by-take-le (λ n. n) p.leasts radii
 
--- a step of a ring, or its begin, is one unit of work
+-- a step of a ring is units of work: a value taken, so many postings read, or its begin
 module _ (p : Search) (old new : Ring) (radii more_radii : ℕ) (hits more_hits : Window) (mark more_mark : Mark) (reads more_reads : ℕ)
     (is : IsNear p old radii hits mark reads) (ring : IsRing p radii old)
     (then : IsNear p new more_radii more_hits more_mark more_reads) (after : IsRing p more_radii new)
@@ -115,14 +115,15 @@ module _ (p : Search) (old new : Ring) (radii more_radii : ℕ) (hits more_hits 
       go true = tt
       go false = farther
 
-  pub ring_works : (limit from to : ℕ) → reads ≤ more_reads → radii ≤ more_radii → more_reads + more_radii ≤ reads + radii + 1
+  pub ring_works : (limit from to count : ℕ) → 1 ≤ count → reads ≤ more_reads → radii ≤ more_radii
+      → more_reads + more_radii ≤ reads + radii + count
       → to + reads ≡ from + more_reads → BeginsWithin (Some limit) (last_of radii) (last_of more_radii)
-      → (p.bits + 1 - more_radii) * (p.values + 1) + new.values + (sum p.leasts - more_reads) + 1
+      → (p.bits + 1 - more_radii) * (p.values + 1) + new.values + (sum p.leasts - more_reads) + count
       ≤ (p.bits + 1 - radii) * (p.values + 1) + old.values + (sum p.leasts - reads)
-      → (more_radii ≡ radii → (p.bits + 1 - more_radii) * (p.values + 1) + new.values + (sum p.leasts - more_reads) + 1
+      → (more_radii ≡ radii → (p.bits + 1 - more_radii) * (p.values + 1) + new.values + (sum p.leasts - more_reads) + count
       ≡ (p.bits + 1 - radii) * (p.values + 1) + old.values + (sum p.leasts - reads))
-      → Works (Some limit) 1 (search_standing p old radii hits mark reads) (search_standing p new more_radii more_hits more_mark more_reads) from to
-  ring_works limit from to rises farther_radii fewer ledger begun units exact =
+      → Works (Some limit) count (search_standing p old radii hits mark reads) (search_standing p new more_radii more_hits more_mark more_reads) from to
+  ring_works limit from to count some rises farther_radii fewer ledger begun units exact =
       let own = waits hits is.kept.window in
       let others = waits more_hits then.kept.window in
       let last = last_radii radii in

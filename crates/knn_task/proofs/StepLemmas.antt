@@ -1,7 +1,6 @@
 -- The steps of a near query: reading a posting, going on to a value, and beginning a radius.
-use Rattle.std.proofs.Common.{◌≡◌, ℕ, ◌+◌, ◌-◌, ◌*◌, ◌<◌, ◌≤◌, ◌==◌, Bool, true, false, cond, ◌++◌}
+use Rattle.std.proofs.Common.{◌≡◌, ℕ, ◌+◌, ◌-◌, ◌*◌, ◌<◌, ◌≤◌, ◌==◌, Bool, true, false, cond, List, ◌++◌}
 use Rattle.std.proofs.Common.{length, refl, sym, ap, ◌∙◌, subst, ⊎_elim, arith, inl, inr, Option, Some, None}
-use Rattle.std.specs.Option.{option_to_list}
 use Rattle.std.specs.Prelude.{sum_by, All}
 use Rattle.std.proofs.lemmas.Bool.{cases_lt, ne_eqb, eq-eqb}
 use Rattle.hamming_model.specs.declared.hit.Hit.{Hit}
@@ -14,26 +13,27 @@ use Rattle.hit_source.specs.Moves.{BeginsWithin}
 use Rattle.hit_source.specs.Windows.{Window}
 use Rattle.knn_task.specs.Rings.{Search, Ring, IsRing, Begins, all_hits}
 use Rattle.hit_source.specs.Work.{Works}
-use Rattle.knn_task.specs.Near.{IsOpen, IsNear, IsUnder, SettlesRing, search_standing, with_new, units_to_settle, last_of}
+use Rattle.knn_task.specs.Near.{IsOpen, IsNear, IsUnder, KeepsNew, SettlesRing, search_standing, with_new, units_to_settle, last_of}
 use Rattle.knn_task.specs.declared.near_task.Mark.{Mark}
 use Rattle.knn_task.proofs.NearLemmas.{after_read, after_ring, after_begin, units_least}
 use Rattle.knn_task.proofs.NearWorkLemmas.{ring_works, bound_most}
 
--- a step left a near query, and was one unit of work
-abbrev pub Steps : ℕ → Search → Search → Ring → Ring → ℕ → ℕ → Window → Window → Mark → Mark → ℕ → ℕ → ℕ → ℕ → Type 0
-Steps limit p q old new radii more hits window mark to reads more_reads from after =
+-- a step left a near query, and was so many units of work
+abbrev pub Steps : ℕ → ℕ → Search → Search → Ring → Ring → ℕ → ℕ → Window → Window → Mark → Mark → ℕ → ℕ → ℕ → ℕ → Type 0
+Steps limit count p q old new radii more hits window mark to reads more_reads from after =
     IsNear q new more window to more_reads
-    × Works (Some limit) 1 (search_standing p old radii hits mark reads) (search_standing q new more window to more_reads) from after
+    × Works (Some limit) count (search_standing p old radii hits mark reads) (search_standing q new more window to more_reads) from after
     × IsUnder limit window to
 
 -- the same search and number of radii, by other names
-pub steps_as : (limit : ℕ) (p q : Search) (old new : Ring) (radii more other : ℕ) (hits window : Window) (mark to : Mark) (reads more_reads from after : ℕ)
+pub steps_as : (limit count : ℕ) (p q : Search) (old new : Ring) (radii more other : ℕ) (hits window : Window) (mark to : Mark)
+    (reads more_reads from after : ℕ)
     → q ≡ p → other ≡ more
-    → Steps limit p p old new radii more hits window mark to reads more_reads from after
-    → Steps limit p q old new radii other hits window mark to reads more_reads from after
-steps_as limit p q old new radii more other hits window mark to reads more_reads from after same number steps =
-    subst (λ n. Steps limit p q old new radii n hits window mark to reads more_reads from after) (sym number)
-    (subst (λ s. Steps limit p s old new radii more hits window mark to reads more_reads from after) (sym same) steps)
+    → Steps limit count p p old new radii more hits window mark to reads more_reads from after
+    → Steps limit count p q old new radii other hits window mark to reads more_reads from after
+steps_as limit count p q old new radii more other hits window mark to reads more_reads from after same number steps =
+    subst (λ n. Steps limit count p q old new radii n hits window mark to reads more_reads from after) (sym number)
+    (subst (λ s. Steps limit count p s old new radii more hits window mark to reads more_reads from after) (sym same) steps)
 
 pub ring_as : (p q : Search) (w : Ring) (radii other : ℕ) → q ≡ p → other ≡ radii → IsRing q other w → IsRing p radii w
 ring_as p q w radii other same number ring = subst (λ n. IsRing p n w) number (subst (λ s. IsRing s other w) same ring)
@@ -83,26 +83,27 @@ beyond p radii limit hits less most = go (length hits.found == length p.rows)
 
 module _ (p : Search) (old new : Ring) (radii : ℕ) (hits window : Window) (mark to : Mark) (reads : ℕ)
     (is : IsNear p old radii hits mark reads) (ring : IsRing p radii old) (after : IsRing p radii new) (some : 0 < old.reads) where
-  -- a posting was read
-  pub read_step : (limit from steps : ℕ) (kept : Option Hit) → IsUnder limit hits mark → old.hits ≡ option_to_list kept ++ new.hits
-      → old.reads ≡ new.reads + 1 → new.total ≡ old.total → new.values ≡ old.values → steps ≡ from + 1
+  -- so many postings were read
+  pub read_step : (limit from steps count : ℕ) (kept : List Hit) → 1 ≤ count → length kept ≤ count → IsUnder limit hits mark
+      → old.hits ≡ kept ++ new.hits
+      → old.reads ≡ new.reads + count → new.total ≡ old.total → new.values ≡ old.values → steps ≡ from + count
       → SettlesRing (units_to_settle p radii (with_new hits kept)) new.reads (with_new hits kept) window mark to
-      → Steps limit p p old new radii radii hits window mark to reads (reads + 1) from steps
-  read_step limit from steps kept under of_hits of_reads of_total of_values step settles =
+      → Steps limit count p p old new radii radii hits window mark to reads (reads + count) from steps
+  read_step limit from steps count kept some_count few under of_hits of_reads of_total of_values step settles =
       let held = is.search some in
-      let mid = after_read p old new radii hits mark reads is.kept ring kept of_hits of_reads of_total in
+      let mid = after_read p old new radii hits mark reads is.kept ring kept count few of_hits of_reads of_total in
       let opened : IsOpen p radii (with_new hits kept) mark = record { given = held.given; more = held.more; settled = held.settled } in
-      let near = after_ring p new radii (with_new hits kept) mark (reads + 1) mid after opened window to settles in
+      let near = after_ring p new radii (with_new hits kept) mark (reads + count) mid after opened window to settles in
       let below : mark.settled ≤ radii = omega (arith, held.settled) in
-      let least = units_least p new radii (with_new hits kept) mark (reads + 1) mid after below in
+      let least = units_least p new radii (with_new hits kept) mark (reads + count) mid after below in
       let bound = bound_most p radii in (
         near,
-        ring_works p old new radii radii hits window mark to reads (reads + 1) is ring near after held.given held.more
+        ring_works p old new radii radii hits window mark to reads (reads + count) is ring near after held.given held.more
             (same_given (units_to_settle p radii (with_new hits kept)) new.reads (with_new hits kept) window mark to settles)
             (same_moved (units_to_settle p radii (with_new hits kept)) new.reads (with_new hits kept) window mark to settles)
             (settled_rises (units_to_settle p radii (with_new hits kept)) new.reads (with_new hits kept) window mark to settles least)
             (ready_rises (units_to_settle p radii (with_new hits kept)) new.reads (with_new hits kept) window mark to settles)
-            limit from steps (omega arith) (omega arith) (omega arith) (omega arith) (inl refl) (omega (arith, is.kept.bounded))
+            limit from steps count some_count (omega arith) (omega arith) (omega arith) (omega arith) (inl refl) (omega (arith, is.kept.bounded))
             (λ same. omega (arith, is.kept.bounded)),
         under_rises (units_to_settle p radii (with_new hits kept)) new.reads (with_new hits kept) window mark to settles limit
             (beyond p radii limit (with_new hits kept) (omega (arith, under.most, held.settled)) ring.begun)
@@ -112,7 +113,7 @@ module _ (p : Search) (old new : Ring) (radii : ℕ) (hits window : Window) (mar
   -- a value of the ring was taken
   pub value_step : (limit from : ℕ) → IsUnder limit hits mark → new.hits ≡ old.hits → new.reads ≡ old.reads → new.total ≡ old.total
       → old.values ≡ new.values + 1
-      → Steps limit p p old new radii radii hits hits mark mark reads reads from from
+      → Steps limit 1 p p old new radii radii hits hits mark mark reads reads from from
   value_step limit from under of_hits of_reads of_total of_values =
       let held = is.search some in
       let kept = is.kept in
@@ -136,7 +137,7 @@ module _ (p : Search) (old new : Ring) (radii : ℕ) (hits window : Window) (mar
       } in (
         near,
         ring_works p old new radii radii hits hits mark mark reads reads is ring near after held.given held.more refl refl (omega arith) (omega arith)
-            limit from from (omega arith) (omega arith) (omega arith) (omega arith) (inl refl) (omega (arith, is.kept.bounded))
+            limit from from 1 (omega arith) (omega arith) (omega arith) (omega arith) (omega arith) (inl refl) (omega (arith, is.kept.bounded))
             (λ same. omega (arith, is.kept.bounded)),
         under,
       )
@@ -157,7 +158,7 @@ pub begin_step : (p : Search) (old new : Ring) (radii : ℕ) (hits window : Wind
     → IsRing p radii old → IsRing p (radii + 1) new → (limit from : ℕ) → IsUnder limit hits mark
     → old.reads ≡ 0 → radii ≤ p.bits → hits.given ≡ mark.ready → mark.ready < length p.rows → mark.settled ≤ limit → Begins p radii old new
     → SettlesRing (units_to_settle p (radii + 1) hits) new.reads hits window mark to
-    → Steps limit p p old new radii (radii + 1) hits window mark to reads reads from from
+    → Steps limit 1 p p old new radii (radii + 1) hits window mark to reads reads from from
 begin_step p old new radii hits window mark to reads is ring after limit from under none below given more near_limit begins settles =
     let both = after_begin p old new radii hits mark reads is ring none below given more begins in
     let near = after_ring p new (radii + 1) hits mark reads both.0 after both.1 window to settles in
@@ -170,7 +171,7 @@ begin_step p old new radii hits window mark to reads is ring after limit from un
           (same_moved (units_to_settle p (radii + 1) hits) new.reads hits window mark to settles)
           (settled_rises (units_to_settle p (radii + 1) hits) new.reads hits window mark to settles least)
           (ready_rises (units_to_settle p (radii + 1) hits) new.reads hits window mark to settles)
-          limit from from (omega arith) (omega arith) (omega arith) (omega arith) (last_begun limit radii (omega arith))
+          limit from from 1 (omega arith) (omega arith) (omega arith) (omega arith) (omega arith) (last_begun limit radii (omega arith))
           (omega (arith, begins.few_values)) (λ same. absurd (omega (arith, same))),
       under_rises (units_to_settle p (radii + 1) hits) new.reads hits window mark to settles limit
           (beyond p (radii + 1) limit hits (omega (arith, under.most)) (omega arith)) under,
@@ -224,21 +225,22 @@ given_ready hits mark limit behind moved under near =
     ⊎_elim (λ (low : hits.given < mark.ready). absurd (omega (arith, under.above low)))
     (λ (high : mark.ready ≤ hits.given). omega arith) (cases_lt hits.given mark.ready)
 
--- a posting was read and the ring settled, by the names that the calls gave
+-- so many postings were read and the ring settled, by the names that the calls gave
 pub read_as : (p q : Search) (old new : Ring) (radii number : ℕ) (hits mid window : Window) (mark to : Mark) (reads : ℕ) → q ≡ p → number ≡ radii
     → IsNear p old radii hits mark reads → IsRing p radii old → IsRing q number new → 0 < old.reads
-    → (limit from steps : ℕ) (kept : Option Hit) → IsUnder limit hits mark → old.hits ≡ option_to_list kept ++ new.hits
-    → old.reads ≡ new.reads + 1 → new.total ≡ old.total → new.values ≡ old.values → steps ≡ from + 1
-    → (rows bits begun left : ℕ) → rows ≡ length q.rows → bits ≡ q.bits → begun ≡ number → left ≡ new.reads → mid ≡ with_new hits kept
+    → (limit from steps count amount : ℕ) → 1 ≤ count → amount ≡ count → IsUnder limit hits mark → KeepsNew count hits mid old.hits new.hits
+    → old.reads ≡ new.reads + count → new.total ≡ old.total → new.values ≡ old.values → steps ≡ from + count
+    → (rows bits begun left : ℕ) → rows ≡ length q.rows → bits ≡ q.bits → begun ≡ number → left ≡ new.reads
     → SettlesRing (cond (length mid.found == rows) (bits + 1) begun) left mid window mark to
-    → Steps limit p q old new radii number hits window mark to reads (reads + 1) from steps
-read_as p q old new radii number hits mid window mark to reads same radii_are is ring after some limit from steps kept under of_hits of_reads of_total
-    of_values step rows bits begun left of_rows of_bits of_begun of_left of_mid settles =
-    steps_as limit p q old new radii radii number hits window mark to reads (reads + 1) from steps same radii_are
+    → Steps limit count p q old new radii number hits window mark to reads (reads + amount) from steps
+read_as p q old new radii number hits mid window mark to reads same radii_are is ring after some limit from steps count amount some_count amount_is under
+    keeps of_reads of_total of_values step rows bits begun left of_rows of_bits of_begun of_left settles =
+    subst (λ n. Steps limit count p q old new radii number hits window mark to reads (reads + n) from steps) (sym amount_is)
+    (steps_as limit count p q old new radii radii number hits window mark to reads (reads + count) from steps same radii_are
     (read_step p old new radii hits window mark to reads is ring (ring_as p q new radii number same radii_are after) some
-    limit from steps kept under of_hits of_reads of_total of_values step
-    (settles_as p q radii rows bits begun number new.reads left mid (with_new hits kept) window mark to
-    same radii_are of_rows of_bits of_begun of_left of_mid settles))
+    limit from steps count keeps.kept some_count keeps.few under keeps.hits of_reads of_total of_values step
+    (settles_as p q radii rows bits begun number new.reads left mid (with_new hits keeps.kept) window mark to
+    same radii_are of_rows of_bits of_begun of_left keeps.window settles)))
 
 -- a radius was begun and its ring settled, by the names that the calls gave
 pub begin_as : (p q : Search) (old new : Ring) (radii number : ℕ) (hits window : Window) (mark to : Mark) (reads : ℕ) → q ≡ p → number ≡ radii + 1
@@ -246,10 +248,10 @@ pub begin_as : (p q : Search) (old new : Ring) (radii number : ℕ) (hits window
     → (limit from : ℕ) → IsUnder limit hits mark → old.reads ≡ 0 → mark.ready < length p.rows → mark.settled ≤ limit → Begins p radii old new
     → (rows bits begun left : ℕ) → rows ≡ length q.rows → bits ≡ q.bits → begun ≡ number → left ≡ new.reads
     → SettlesRing (cond (length hits.found == rows) (bits + 1) begun) left hits window mark to
-    → Steps limit p q old new radii number hits window mark to reads reads from from
+    → Steps limit 1 p q old new radii number hits window mark to reads reads from from
 begin_as p q old new radii number hits window mark to reads same radii_are is ring after limit from under none more near_limit begins
     rows bits begun left of_rows of_bits of_begun of_left settles =
-    steps_as limit p q old new radii (radii + 1) number hits window mark to reads reads from from same radii_are
+    steps_as limit 1 p q old new radii (radii + 1) number hits window mark to reads reads from from same radii_are
     (begin_step p old new radii hits window mark to reads is ring (ring_as p q new (radii + 1) number same radii_are after) limit from under none
     (radius_left p old radii hits mark reads is ring none more)
     (given_ready hits mark limit is.kept.window.behind is.kept.moved under near_limit) more near_limit begins

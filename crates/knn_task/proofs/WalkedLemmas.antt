@@ -5,7 +5,7 @@ use Rattle.std.specs.Prelude.{not}
 use Rattle.std.specs.List.{AllByRecursion, range_with_len}
 use Rattle.std.proofs.lemmas.Bool.{ne_eqb, eq-eqb, le-ltb}
 use Rattle.std.proofs.lemmas.Bool.Decides.{nat_tests}
-use Rattle.std.proofs.lemmas.List.{length-map, length-set}
+use Rattle.std.proofs.lemmas.List.{length-append, length-map, length-set}
 use Rattle.std.proofs.lemmas.List.FromFn.{length-range_with_len}
 use Rattle.std.proofs.lemmas.List.Sums.{sum_by-cons, length-filter, count_by-le-length}
 use Rattle.hamming_model.specs.declared.hit.Hit.{Hit}
@@ -22,7 +22,7 @@ use Rattle.ring_model.specs.Rings.{is_met, hits_met, hits_new, units_raised, row
 use Rattle.ring_model.proofs.RingLemmas.{near_hits_met, new_hits_far, met_few, met_all, ring_finds, cheapest_within}
 use Rattle.ring_model.proofs.SplitLemmas.{scan_all, all_nearer}
 use Rattle.ring_walk.specs.NearPlanned.{NearPlanned, IsNearPlanned, near_rows, near_bits, near_parts, near_part, near_query, near_counts, near_all}
-use Rattle.ring_walk.specs.RingWalks.{RingPlace, IsRingPlace, StartsRings, BeginsRing, rows_of_ring, hits_of_ring, found_after, units_after}
+use Rattle.ring_walk.specs.RingWalks.{RingPlace, IsRingPlace, StartsRings, BeginsRing, rows_of_ring, hits_of_ring, new_of, found_after, units_after}
 use Rattle.hit_source.specs.Sources.{IsLawful}
 use Rattle.hit_source.specs.Windows.{Window}
 use Rattle.knn_task.specs.NearLaw.{near_lawful}
@@ -150,6 +150,16 @@ begins_is p old new reads query place begins below rises =
         one_of_all (near_parts p) new.part within,
       );
     }
+
+-- where there is room for the new hits that are left, there is for those of a run
+pub run_fits : (p : NearPlanned) (old new : RingPlace) (run : List (ℕ × List ℕ)) (found capacity : ℕ) → new.units ≡ old.units
+    → hits_of_ring p old ≡ new_of p old.units run ++ hits_of_ring p new → found + length (hits_of_ring p old) ≤ capacity
+    → found + length (new_of p new.units run) ≤ capacity
+run_fits p old new run found capacity same of_hits room =
+    let units = ap (λ us. length (new_of p us run)) same in
+    let cut = ap length of_hits in
+    let joined = length-append (new_of p old.units run) (hits_of_ring p new) in
+    omega arith
 
 -- what is planned is a query
 pub query_is : (words : ℕ) (p : NearPlanned) → IsNearPlanned words p → IsNearQuery p

@@ -1,8 +1,7 @@
 -- What a near query keeps: hits of which the first, those nearer than so many units, are settled
 -- and are given.
 use Rattle.std.specs.Prelude.{◌≡◌, ℕ, ◌+◌, ◌-◌, ◌*◌, ◌<◌, ◌≤◌, ◌==◌, ◌⊎◌, nat_lt}
-use Rattle.std.specs.Prelude.{if◌then◌else◌, ◌++◌, length, take, drop, sum, Option, Some, None, All}
-use Rattle.std.specs.Option.{option_to_list}
+use Rattle.std.specs.Prelude.{if◌then◌else◌, List, ◌++◌, length, take, drop, sum, Option, Some, None, All}
 use Rattle.hamming_model.specs.declared.hit.Hit.{Hit}
 use Rattle.hamming_model.specs.Scan.{in_order}
 use Rattle.search_model.specs.Reading.{HasSame}
@@ -97,7 +96,15 @@ pub record SettlesRing (units left : ℕ) (old new : Window) (from to : Mark) : 
   pub more : 0 < left → (new ≡ old) × (to ≡ from)
   pub done : left ≡ 0 → Settles from.ready units old new to.ready × (to.settled ≡ units)
 
--- the window after a posting was read, with its hit if it was new
-abbrev pub with_new : Window → Option Hit → Window
+-- the window after a run of postings was read, with the hits that were new of it
+abbrev pub with_new : Window → List Hit → Window
 with_new hits kept =
-    window_at (hits.found ++ option_to_list kept) hits.capacity hits.room hits.given hits.moved
+    window_at (hits.found ++ kept) hits.capacity hits.room hits.given hits.moved
+
+-- of so many postings the new hits were put behind those that were found: they are the first of
+-- those that were left of the ring
+pub record KeepsNew (count : ℕ) (old new : Window) (left rest : List Hit) : Type 0 where
+  pub kept : List Hit
+  pub few : length kept ≤ count
+  pub window : new ≡ with_new old kept
+  pub hits : left ≡ kept ++ rest

@@ -1,18 +1,19 @@
 //! The rings of a near query on a version.
 
-ghost use Rattle.std.specs.Prelude.{◌≡◌, ◌+◌, ◌<◌, ◌≤◌, ◌++◌, true, false, [], length, IfOk};
+ghost use Rattle.std.specs.Prelude.{◌≡◌, ◌+◌, ◌<◌, ◌≤◌, true, false, [], length, IfOk};
 ghost use Rattle.std.specs.Prelude.{slice_index, slice_index_or};
 ghost use Rattle.std.specs.Arc.{arc_value};
-ghost use Rattle.std.specs.Option.{option_to_list};
 ghost use Rattle.hamming_model.specs.declared.limits.TheConstants.{WORDS_MOST};
 ghost use Rattle.ring_walk.specs.NearPlanned.{PlansNear};
 ghost use Rattle.shard_probe.specs.Probed.{KeepsCode};
 ghost use Rattle.ring_walk.specs.RingWalks.{StartsRings};
+ghost use Rattle.knn_task.specs.Near.{KeepsNew};
 ghost use Rattle.knn_task.specs.Rings.{Begins, bound_of};
 ghost use Rattle.knn_task.specs.Walked.{IsNearQuery, IsWalked, search_of, ring_at};
 
+use crate::settling::keep;
 use gph_codes::Code;
-use hamming_model::Hit;
+use hit_source::HitWindow;
 use read_meter::{NoMemory, Steps};
 use ring_walk::{NearPlan, RingWalk};
 use shard_version::Version;
@@ -91,24 +92,32 @@ impl<const W: usize> NearRings<W> {
         self.walk.is_in_list()
     }
 
-    // Reads a posting, for one step, and gives its hit if it is new.
-    pub(crate) fn read<L>(&mut self, steps: &mut Steps<L>) -> Option<Hit>
+    // Reads postings of the list of a value, so many at most, for one step each, and adds the hits that are
+    // new of them to those that were found. It answers how many it read.
+    pub(crate) fn read<L>(&mut self, most: u32, window: &mut HitWindow, steps: &mut Steps<L>) -> u32
+        requires some { 1 ≤ most }
         requires posting { (ring_at self.old.plan self.old.walk).in_list ≡ true }
-        requires some_left { 0 < (ring_at self.old.plan self.old.walk).reads }
+        requires room { length window.old.found
+            + length (ring_at self.old.plan self.old.walk).hits ≤ window.old.capacity }
         ensures search { search_of self.new.plan ≡ search_of self.old.plan }
         ensures begun { self.new.walk.begun ≡ self.old.walk.begun }
         ensures total { (ring_at self.new.plan self.new.walk).total
             ≡ (ring_at self.old.plan self.old.walk).total }
-        ensures hits { (ring_at self.old.plan self.old.walk).hits
-            ≡ option_to_list result ++ (ring_at self.new.plan self.new.walk).hits }
+        ensures hits { KeepsNew result window.old window.new
+            (ring_at self.old.plan self.old.walk).hits (ring_at self.new.plan self.new.walk).hits }
         ensures reads { (ring_at self.old.plan self.old.walk).reads
-            ≡ (ring_at self.new.plan self.new.walk).reads + 1 }
+            ≡ (ring_at self.new.plan self.new.walk).reads + result }
         ensures values { (ring_at self.new.plan self.new.walk).values
             ≡ (ring_at self.old.plan self.old.walk).values }
-        ensures step { steps.new ≡ steps.old + 1 }
+        ensures some { 1 ≤ result }
+        ensures few { result ≤ most }
+        ensures steps { steps.new ≡ steps.old + result }
     {
-        self.left -= 1;
-        self.walk.read(&self.plan, steps)
+        let run = self.walk.read(&self.plan, most, steps);
+        let count = run.len() as u32;
+        self.left -= u64::from(count);
+        keep(window, &self.plan, &self.walk, run);
+        count
     }
 
     // Goes on to the next value of the ring.

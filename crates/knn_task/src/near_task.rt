@@ -1,6 +1,6 @@
 //! A near query on one version.
 
-ghost use Rattle.std.specs.Prelude.{◌≡◌, ◌<◌, ◌≤◌, true, false, length, if◌then◌else◌, Some, IfOk};
+ghost use Rattle.std.specs.Prelude.{◌≡◌, ◌<◌, ◌≤◌, true, false, length, Some, IfOk};
 ghost use Rattle.std.specs.Arc.{arc_value};
 ghost use Rattle.hamming_model.specs.Codes.{StandsFor};
 ghost use Rattle.hamming_model.specs.declared.limits.TheConstants.{ROOM_MOST, WORDS_MOST};
@@ -11,7 +11,7 @@ ghost use Rattle.knn_task.specs.Opening.{AsksNear, BeginsNear, near_code};
 ghost use Rattle.knn_task.specs.Walked.{IsNearTask, near_asked, near_standing, search_of, ring_at};
 
 use crate::near_rings::NearRings;
-use crate::settling::{keep, radii_up_to, settle_ring};
+use crate::settling::{radii_up_to, settle_ring};
 use gph_codes::Code;
 use hamming_model::Hit;
 use hit_source::{HitSource, HitWindow, Polled};
@@ -80,52 +80,57 @@ impl<const W: usize> NearTask<W> {
         })
     }
 
-    // Does one unit of work: takes a value of a ring, reads a posting, moves a hit into the room, or
-    // begins the next radius. It answers whether it could, with no radius above the limit.
-    fn work<L>(&mut self, limit: u32, steps: &mut Steps<L>) -> bool
+    // Does units of work, so many at most: takes a value of a ring, reads a run of postings, moves a hit
+    // into the room, or begins the next radius. It answers how many it did: none only where none can be
+    // done with no radius above the limit.
+    fn work<L>(&mut self, limit: u32, most: u32, steps: &mut Steps<L>) -> u32
+        requires some { 1 ≤ most }
         requires under { IsUnder limit self.old.window self.old.mark }
         ensures search { search_of self.new.rings.plan ≡ search_of self.old.rings.plan }
         ensures room { self.new.window.room ≡ self.old.window.room }
-        ensures works { Works (Some limit) (if result then 1 else 0)
+        ensures few { result ≤ most }
+        ensures works { Works (Some limit) result
             (near_standing self.old.rings.plan self.old.rings.walk
             self.old.window self.old.mark self.old.reads)
             (near_standing self.new.rings.plan self.new.rings.walk
             self.new.window self.new.mark self.new.reads)
             steps.old steps.new }
         ensures under { IsUnder limit self.new.window self.new.mark }
-        ensures stops { result ≡ false → IsHeld limit
+        ensures stops { result ≡ 0 → IsHeld limit
             (near_asked self.new.rings.plan self.new.window.room)
             (near_standing self.new.rings.plan self.new.rings.walk
             self.new.window self.new.mark self.new.reads) }
     {
         if self.rings.left() > 0 {
-            self.search(limit, steps);
-            return true;
+            return self.search(limit, most, steps);
         }
         if self.window.is_full() {
-            return false;
+            return 0;
         }
         if self.window.moved() < self.mark.ready {
             self.window.advance();
-            return true;
+            return 1;
         }
         if self.mark.ready as u64 == self.rings.rows() {
-            return false;
+            return 0;
         }
         if self.mark.settled > limit {
-            return false;
+            return 0;
         }
         self.begin(limit, steps);
-        true
+        1
     }
 
-    // Takes a value of the ring, or reads a posting.
-    fn search<L>(&mut self, limit: u32, steps: &mut Steps<L>)
+    // Takes a value of the ring, or reads postings of its list, so many at most.
+    fn search<L>(&mut self, limit: u32, most: u32, steps: &mut Steps<L>) -> u32
+        requires some { 1 ≤ most }
         requires more { 0 < (ring_at self.old.rings.plan self.old.rings.walk).reads }
         requires under { IsUnder limit self.old.window self.old.mark }
         ensures search { search_of self.new.rings.plan ≡ search_of self.old.rings.plan }
         ensures room { self.new.window.room ≡ self.old.window.room }
-        ensures works { Works (Some limit) 1
+        ensures some { 1 ≤ result }
+        ensures few { result ≤ most }
+        ensures works { Works (Some limit) result
             (near_standing self.old.rings.plan self.old.rings.walk
             self.old.window self.old.mark self.old.reads)
             (near_standing self.new.rings.plan self.new.rings.walk
@@ -134,20 +139,23 @@ impl<const W: usize> NearTask<W> {
         ensures under { IsUnder limit self.new.window self.new.mark }
     {
         if self.rings.is_in_list() {
-            self.read(limit, steps);
-            return;
+            return self.read(limit, most, steps);
         }
         self.rings.next_value();
+        1
     }
 
-    // Reads a posting of the ring. With the last one the ring is settled.
-    fn read<L>(&mut self, limit: u32, steps: &mut Steps<L>)
+    // Reads postings of the ring, so many at most. With the last one the ring is settled.
+    fn read<L>(&mut self, limit: u32, most: u32, steps: &mut Steps<L>) -> u32
+        requires some { 1 ≤ most }
         requires more { 0 < (ring_at self.old.rings.plan self.old.rings.walk).reads }
         requires posting { (ring_at self.old.rings.plan self.old.rings.walk).in_list ≡ true }
         requires under { IsUnder limit self.old.window self.old.mark }
         ensures search { search_of self.new.rings.plan ≡ search_of self.old.rings.plan }
         ensures room { self.new.window.room ≡ self.old.window.room }
-        ensures works { Works (Some limit) 1
+        ensures some { 1 ≤ result }
+        ensures few { result ≤ most }
+        ensures works { Works (Some limit) result
             (near_standing self.old.rings.plan self.old.rings.walk
             self.old.window self.old.mark self.old.reads)
             (near_standing self.new.rings.plan self.new.rings.walk
@@ -155,9 +163,8 @@ impl<const W: usize> NearTask<W> {
             steps.old steps.new }
         ensures under { IsUnder limit self.new.window self.new.mark }
     {
-        let kept = self.rings.read(steps);
-        self.reads += 1;
-        keep(&mut self.window, kept);
+        let count = self.rings.read(most, &mut self.window, steps);
+        self.reads += u64::from(count);
         self.mark = settle_ring(
             &mut self.window,
             self.mark,
@@ -166,6 +173,7 @@ impl<const W: usize> NearTask<W> {
             self.rings.bits(),
             self.rings.begun(),
         );
+        count
     }
 
     // Begins the next radius. Where its ring has nothing to read it is settled at once.
@@ -230,10 +238,13 @@ impl<const W: usize> HitSource for NearTask<W> {
         let Some(limit) = self.floor() else {
             return Polled::Ended;
         };
-        for _done in 0..budget {
-            if !self.work(limit, steps) {
+        let mut left = budget;
+        while left > 0 {
+            let done = self.work(limit, left, steps);
+            if done == 0 {
                 return self.judged();
             }
+            left -= done;
         }
         self.judged()
     }

@@ -3,11 +3,14 @@
 ghost use Rattle.std.specs.Prelude.{◌+◌, ◌<◌, ◌≤◌, ◌==◌, length, if◌then◌else◌, IfSome};
 ghost use Rattle.std.specs.Prelude.{◌≡◌};
 ghost use Rattle.hit_source.specs.Sources.{radii_begun};
+ghost use Rattle.ring_walk.specs.RingWalks.{IsRingPlace, new_of};
+ghost use Rattle.shard_probe.specs.Probed.{KeepCodes};
 ghost use Rattle.knn_task.specs.Near.{SettlesRing, with_new};
 
 use crate::near_task::Mark;
-use hamming_model::Hit;
+use gph_codes::Code;
 use hit_source::HitWindow;
+use ring_walk::{NearPlan, RingWalk};
 
 // How many radii there are up to one.
 pub(crate) fn radii_up_to(given: Option<u32>, bits: u32) -> u32
@@ -21,13 +24,23 @@ pub(crate) fn radii_up_to(given: Option<u32>, bits: u32) -> u32
     }
 }
 
-// Adds a hit, if there is one.
-pub(crate) fn keep(window: &mut HitWindow, kept: Option<Hit>)
-    requires reserved { IfSome kept (λ hit. length window.old.found < window.old.capacity) }
-    ensures { window.new ≡ with_new window.old kept }
+// Adds the hits that are new of a run of postings behind those that were found.
+pub(crate) fn keep<const W: usize>(
+    window: &mut HitWindow,
+    plan: &NearPlan<W>,
+    walk: &RingWalk,
+    run: &[(u64, Code<W>)],
+)
+    requires place { IsRingPlace plan.now walk.now }
+    requires stored { KeepCodes W plan.now.version run.now }
+    requires room { length window.old.found + length (new_of plan.now walk.now.units run.now)
+        ≤ window.old.capacity }
+    ensures { window.new ≡ with_new window.old (new_of plan.now walk.now.units run.now) }
 {
-    if let Some(hit) = kept {
-        window.push(hit);
+    for posting in run {
+        if let Some(hit) = walk.new_hit(plan, posting.0, &posting.1) {
+            window.push(hit);
+        }
     }
 }
 

@@ -1,6 +1,6 @@
 //! The posting lists of one part.
 
-ghost use Rattle.std.specs.Prelude.{◌≡◌, ◌+◌, ◌^◌, ◌<◌, ◌≤◌, true, false, length, slice_index_or, IfOk, OnOk, OnErr, Ok};
+ghost use Rattle.std.specs.Prelude.{◌≡◌, ◌+◌, ◌^◌, ◌<◌, ◌≤◌, true, false, length, take, drop, slice_index_or, IfOk, OnOk, OnErr, Ok};
 ghost use Rattle.hamming_model.specs.declared.limits.TheConstants.{ENTRIES_MOST, PART_WIDTH_MOST};
 ghost use Rattle.posting_table.specs.KeptLists.{AreKeptLists, reserved_of};
 ghost use Rattle.posting_table.specs.Tables.{LosesEntry, no_postings, has_key, posting_list, with_posting, with_list};
@@ -172,7 +172,34 @@ impl<const W: usize> Postings<W> {
         ensures entry { result ≡ slice_index_or (posting_list self.now value) place result }
         ensures step { steps.new ≡ steps.old + 1 }
     {
-        steps.tick();
-        self.buckets[value as usize % BUCKETS].list(value as usize / BUCKETS)[place as usize]
+        self.block(value, place, 1, steps)[0]
+    }
+
+    /// So many entries of the list of a value, from a place on, for one step each.
+    pub fn block<L>(
+        &self,
+        value: u16,
+        from: u32,
+        count: u32,
+        steps: &mut Steps<L>,
+    ) -> &[(u64, Code<W>)]
+        requires in_width { value < 2 ^ self.now.width }
+        requires in_list { from + count ≤ length (posting_list self.now value) }
+        ensures entries { result.now ≡ take count (drop from (posting_list self.now value)) }
+        ensures steps { steps.new ≡ steps.old + count }
+    {
+        for _entry in 0..count {
+            steps.tick();
+        }
+        &self.entries(value)[from as usize..from as usize + count as usize]
+    }
+
+    // The entries of a value.
+    fn entries(&self, value: u16) -> &[(u64, Code<W>)]
+        requires { value < 2 ^ self.now.width }
+        ensures entries { result.now ≡ posting_list self.now value }
+        ensures short { length result.now ≤ ENTRIES_MOST }
+    {
+        self.buckets[value as usize % BUCKETS].list(value as usize / BUCKETS)
     }
 }

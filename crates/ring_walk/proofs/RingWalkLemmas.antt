@@ -1,5 +1,5 @@
 -- Which rows of a ring are new, and the steps of a walk over it.
-use Rattle.std.proofs.Common.{◌≡◌, ℕ, zero, suc, ◌+◌, ◌<◌, ◌≤◌, ◌==◌, nat_lt, Bool, true, false, cond, List, [], ◌∷◌, ◌++◌}
+use Rattle.std.proofs.Common.{◌≡◌, ℕ, zero, suc, ◌+◌, ◌-◌, ◌<◌, ◌≤◌, ◌==◌, min, nat_lt, Bool, true, false, cond, List, [], ◌∷◌, ◌++◌}
 use Rattle.std.proofs.Common.{length, replicate, map, filter, take, drop, get_or, sum, refl, sym, ap, ◌∙◌, subst, arith}
 use Rattle.std.specs.Prelude.{◌||◌, not, Some, None}
 use Rattle.std.specs.Option.{option_to_list}
@@ -7,11 +7,13 @@ use Rattle.std.specs.Prelude.{All, ◌^◌}
 use Rattle.std.proofs.lemmas.List.Elements.{All-head, All-tail}
 use Rattle.std.specs.List.{flat_map}
 use Rattle.std.proofs.lemmas.List.{drop_more, drop_all, get_or-take, get_or-map, length-map, length-set, length-take-le}
-use Rattle.std.proofs.lemmas.List.{length-replicate}
+use Rattle.std.proofs.lemmas.List.{length-replicate, length-append, append_assoc}
 use Rattle.std.proofs.lemmas.List.Sums.{sum_by-cons}
 use Rattle.std.proofs.lemmas.Bool.{ne_eqb}
 use Rattle.std.proofs.lemmas.Nat.{pow_pos}
-use Rattle.search_model.specs.Reading.{HasSame}
+use Rattle.search_model.specs.Reading.{HasSame, unpadded}
+use Rattle.shard_probe.specs.Probed.{rows_in}
+use Rattle.shard_probe.proofs.RunLemmas.{passed_joined, rest_cut, run_size}
 use Rattle.ring_model.proofs.RingLemmas.{ring_same, ring_number, raised_sum, start_sum, met_by_none}
 use Rattle.hamming_model.specs.declared.limits.TheConstants.{PARTS_MOST}
 use Rattle.hamming_model.specs.Codes.{distance}
@@ -21,7 +23,7 @@ use Rattle.threshold_model.specs.Finding.{part_distances}
 use Rattle.ring_model.specs.Rings.{is_below_some, is_met, hits_new, units_raised, rows_apart, ring_read, ring_cost, IsCheapest}
 use Rattle.ring_walk.specs.NearPlanned.{NearPlanned, IsNearPlanned, near_rows, near_bits, near_parts, near_part, near_query, near_list}
 use Rattle.ring_walk.specs.NearPlanned.{near_counts, near_ring}
-use Rattle.ring_walk.specs.RingWalks.{RingPlace, IsRingPlace, StartsRings, BeginsRing, rows_of_ring, hits_of_ring, new_hit}
+use Rattle.ring_walk.specs.RingWalks.{RingPlace, IsRingPlace, StartsRings, BeginsRing, rows_of_ring, hits_of_ring, new_hit, new_of}
 use Rattle.ring_walk.specs.RingWalks.{units_after}
 
 below_cut : (us ds : List ℕ) (i u d : ℕ) (later_us later_ds : List ℕ) → drop i us ≡ u ∷ later_us → drop i ds ≡ d ∷ later_ds
@@ -49,31 +51,67 @@ pub new_is : (p : NearPlanned) (units : List ℕ) (row : ℕ × List ℕ) (met :
     → new_hit p units row ≡ cond met None (Some (hit_of (near_query p) row))
 new_is p units row met is = ap (λ b. cond b None (Some (hit_of (near_query p) row))) is
 
-new_or_met : {X Y : Type 0} (b : Bool) (h : X → Y) (x : X) (xs : List X)
-    → map h (cond (not b) (x ∷ xs) xs) ≡ option_to_list (cond b None (Some (h x))) ++ map h xs
-new_or_met true h x xs = refl
-new_or_met false h x xs = refl
-
 module _ (p : NearPlanned) (w : RingPlace) (place : IsRingPlace p w) where
-  after : RingPlace
-  after = record w { next = w.next + 1 }
+  -- a run of the postings that are next was read
+  pub run_place : (count : ℕ) → w.next + count ≤ w.size → IsRingPlace p (record w { next = w.next + count })
+  run_place count within = record {
+    few_parts = place.few_parts;
+    units_are = place.units_are;
+    total = place.total;
+    part = place.part;
+    ball = place.ball;
+    value = place.value;
+    next = within;
+    size = place.size;
+  }
 
-  module _ (more : w.next < w.size) (row : ℕ × List ℕ) (is_row : get_or (near_list p w.part w.value) w.next row ≡ row) where
-    rest_cut : rows_of_ring p w ≡ row ∷ rows_of_ring p (record w { next = w.next + 1 })
-    rest_cut =
-        let size = length-take-le w.size (near_list p w.part w.value) place.size in
-        ap (λ rest. rest ++ flat_map (near_list p w.part) w.ball) (drop_more (take w.size (near_list p w.part w.value)) w.next row (omega arith)
-        ∙ ap (λ x. x ∷ drop (w.next + 1) (take w.size (near_list p w.part w.value))) (get_or-take w.size (near_list p w.part w.value) w.next row more ∙ is_row))
+  module _ (count : ℕ) (run : List (ℕ × List ℕ)) (within : w.next + count ≤ w.size)
+      (is_run : rows_in p.version run ≡ take count (drop w.next (near_list p w.part w.value))) where
+    rows_cut : rows_of_ring p w ≡ rows_in p.version run ++ rows_of_ring p (record w { next = w.next + count })
+    rows_cut =
+        let list = near_list p w.part w.value in
+        ap (λ rest. rest ++ flat_map (near_list p w.part) w.ball)
+        (rest_cut list w.next w.size count within
+        ∙ ap (λ rows. rows ++ drop (w.next + count) (take w.size list)) (sym is_run))
+        ∙ append_assoc (rows_in p.version run) (drop (w.next + count) (take w.size list)) (flat_map (near_list p w.part) w.ball)
 
-    pub ring_hits_read : hits_of_ring p w ≡ option_to_list (new_hit p w.units row) ++ hits_of_ring p (record w { next = w.next + 1 })
+    pub ring_hits_read : hits_of_ring p w ≡ new_of p w.units run ++ hits_of_ring p (record w { next = w.next + count })
     ring_hits_read =
-        ap (hits_new (near_parts p) w.units (near_query p)) rest_cut
-        ∙ new_or_met (is_met (near_parts p) w.units (near_query p) row) (hit_of (near_query p)) row
-        (filter (λ other. not (is_met (near_parts p) w.units (near_query p) other))
-        (rows_of_ring p (record w { next = w.next + 1 })))
+        ap (hits_new (near_parts p) w.units (near_query p)) rows_cut
+        ∙ passed_joined (hit_of (near_query p)) (λ row. not (is_met (near_parts p) w.units (near_query p) row))
+        (rows_in p.version run) (rows_of_ring p (record w { next = w.next + count }))
 
-    pub ring_reads_read : length (rows_of_ring p w) ≡ length (rows_of_ring p (record w { next = w.next + 1 })) + 1
-    ring_reads_read = (let cut = ap length rest_cut in omega arith)
+    pub ring_reads_read : length (rows_of_ring p w) ≡ length (rows_of_ring p (record w { next = w.next + count })) + length run
+    ring_reads_read =
+        let cut = ap length rows_cut in
+        let joined = length-append (rows_in p.version run) (rows_of_ring p (record w { next = w.next + count })) in
+        let mapped = length-map run (unpadded (near_bits p)) in
+        omega arith
+
+-- a run of postings was read, so many
+pub record ReadsRun (p : NearPlanned) (old new : RingPlace) (run : List (ℕ × List ℕ)) (count : ℕ) : Type 0 where
+  pub place : IsRingPlace p new
+  pub hits : hits_of_ring p old ≡ new_of p old.units run ++ hits_of_ring p new
+  pub reads : length (rows_of_ring p old) ≡ length (rows_of_ring p new) + length run
+  pub size : length run ≡ count
+
+pub reads_run : (p : NearPlanned) (own : RingPlace) → IsRingPlace p own → (inside : RingPlace) → inside ≡ own
+    → (count most : ℕ) → count ≡ min (inside.size - inside.next) most → (run : List (ℕ × List ℕ))
+    → rows_in p.version run ≡ take count (drop inside.next (near_list p inside.part inside.value))
+    → ReadsRun p own (record inside { next = inside.next + count }) run count
+reads_run p own place inside same count most least run rows =
+    let next = ap (λ (w : RingPlace). w.next) same in
+    let size = ap (λ (w : RingPlace). w.size) same in
+    let behind = place.next in
+    let among = place.size in
+    let within : own.next + count ≤ own.size = omega arith in
+    let is_run = rows ∙ ap (λ (w : RingPlace). take count (drop w.next (near_list p w.part w.value))) same in
+    subst (λ (w : RingPlace). ReadsRun p own (record w { next = w.next + count }) run count) (sym same) (record {
+      place = run_place p own place count within;
+      hits = ring_hits_read p own place count run within is_run;
+      reads = ring_reads_read p own place count run within is_run;
+      size = run_size (near_bits p) own.next count run (near_list p own.part own.value) (omega arith) is_run;
+    })
 
 or_true : (a b : Bool) → a ≡ true → (a || b) ≡ true
 or_true a b e = rw e refl

@@ -1,12 +1,12 @@
 //! The plans of a near query on a version.
 
 ghost use Rattle.std.specs.Prelude.{◌≡◌, ℕ, ◌+◌, ◌^◌, ◌<◌, ◌≤◌, ◌⊎◌, List, [], All, IfOk};
-ghost use Rattle.std.specs.Prelude.{length, take, sum, slice_index, slice_index_or};
+ghost use Rattle.std.specs.Prelude.{length, take, drop, sum, slice_index, slice_index_or};
 ghost use Rattle.std.specs.Arc.{arc_value};
 ghost use Rattle.hamming_model.specs.declared.limits.TheConstants.{PARTS_MOST, WORDS_MOST};
 ghost use Rattle.threshold_model.specs.Finding.{part_distances};
 ghost use Rattle.ring_model.specs.Rings.{IsCheapest, is_below_some, ring_cost};
-ghost use Rattle.shard_probe.specs.Probed.{KeepsCode, code_in};
+ghost use Rattle.shard_probe.specs.Probed.{KeepsCode, KeepCodes, code_in, rows_in};
 ghost use Rattle.ring_walk.specs.NearPlanned.{IsNearPlanned, PlansNear, near_rows, near_bits};
 ghost use Rattle.ring_walk.specs.NearPlanned.{near_parts, near_part, near_query, near_counts};
 ghost use Rattle.ring_walk.specs.NearPlanned.{near_list, near_ring};
@@ -155,23 +155,24 @@ impl<const W: usize> NearPlan<W> {
         self.probe.list_len(part, value)
     }
 
-    // A posting, for one step.
-    pub(crate) fn posting<L>(
+    // So many postings of a part's value, from a place on, for one step each.
+    pub(crate) fn block<L>(
         &self,
         part: usize,
         value: u16,
-        place: u32,
+        from: u32,
+        count: u32,
         steps: &mut Steps<L>,
-    ) -> (u64, Code<W>)
+    ) -> &[(u64, Code<W>)]
         requires part { part < length (near_parts self.now) }
         requires value { value < 2 ^ length (near_part self.now part) }
-        requires place { place < length (near_list self.now part value) }
-        ensures row { (default : ℕ × List ℕ) → (result.0, code_in self.now.version result.1)
-            ≡ slice_index_or (near_list self.now part value) place default }
-        ensures stored { KeepsCode W self.now.version result.1 }
-        ensures step { steps.new ≡ steps.old + 1 }
+        requires places { from + count ≤ length (near_list self.now part value) }
+        ensures rows { rows_in self.now.version result.now
+            ≡ take count (drop from (near_list self.now part value)) }
+        ensures stored { KeepCodes W self.now.version result.now }
+        ensures steps { steps.new ≡ steps.old + count }
     {
-        self.probe.posting(part, value, place, steps)
+        self.probe.block(part, value, from, count, steps)
     }
 
     // The hit of a row, if no part finds it at these units.

@@ -1,13 +1,14 @@
 //! A walk over the rings of a near query, the cheapest next one for each radius.
 
-ghost use Rattle.std.specs.Prelude.{◌≡◌, ◌+◌, ◌<◌, ◌≤◌, ◌++◌, ◌↔◌, IsTrue, length, IfOk};
-ghost use Rattle.std.specs.Option.{option_to_list};
+ghost use Rattle.std.specs.Prelude.{◌≡◌, ◌+◌, ◌-◌, ◌<◌, ◌≤◌, ◌++◌, ◌↔◌, IsTrue, min, length, IfOk};
+ghost use Rattle.shard_probe.specs.Probed.{KeepsCode, KeepCodes, code_in};
 ghost use Rattle.ring_walk.specs.NearPlanned.{IsNearPlanned, near_bits};
 ghost use Rattle.ring_walk.specs.RingWalks.{IsRingPlace, StartsRings, BeginsRing, rows_of_ring};
-ghost use Rattle.ring_walk.specs.RingWalks.{hits_of_ring, units_after};
+ghost use Rattle.ring_walk.specs.RingWalks.{hits_of_ring, new_hit, new_of, units_after};
 
 use crate::near_plan::NearPlan;
 use ball_walk::Ball;
+use gph_codes::Code;
 use hamming_model::Hit;
 use read_meter::{NoMemory, Steps};
 use std::alloc::Global;
@@ -80,27 +81,46 @@ impl RingWalk {
         self.next < self.size
     }
 
-    /// Reads the next posting of its list, for one step, and gives its hit if no part had found it.
-    pub fn read<const W: usize, L>(
+    /// Reads the postings of its list that are left, or so many, for one step each. What is new among them
+    /// is what `new_hit` gives.
+    pub fn read<'p, const W: usize, L>(
         &mut self,
-        plan: &NearPlan<W>,
+        plan: &'p NearPlan<W>,
+        most: u32,
         steps: &mut Steps<L>,
-    ) -> Option<Hit>
+    ) -> &'p [(u64, Code<W>)]
         requires place { IsRingPlace plan.now self.old }
-        requires posting { self.old.next < self.old.size }
         ensures place { IsRingPlace plan.now self.new }
+        ensures number { length result.now ≡ min (self.old.size - self.old.next) most }
+        ensures stored { KeepCodes W plan.now.version result.now }
         ensures hits { hits_of_ring plan.now self.old
-            ≡ option_to_list result ++ hits_of_ring plan.now self.new }
+            ≡ new_of plan.now self.old.units result.now ++ hits_of_ring plan.now self.new }
         ensures reads { length (rows_of_ring plan.now self.old)
-            ≡ length (rows_of_ring plan.now self.new) + 1 }
+            ≡ length (rows_of_ring plan.now self.new) + length result.now }
+        ensures units { self.new.units ≡ self.old.units }
         ensures values { self.new.ball ≡ self.old.ball }
         ensures after { units_after self.new ≡ units_after self.old }
         ensures begun { self.new.begun ≡ self.old.begun }
-        ensures step { steps.new ≡ steps.old + 1 }
+        ensures steps { steps.new ≡ steps.old + length result.now }
     {
-        let (key, code) = plan.posting(self.part, self.value, self.next, steps);
-        self.next += 1;
-        plan.new_hit(self.units.as_slice(), key, &code)
+        let count = (self.size - self.next).min(most);
+        let run = plan.block(self.part, self.value, self.next, count, steps);
+        self.next += count;
+        run
+    }
+
+    /// The hit of a posting, if no part had found its code before this ring.
+    pub fn new_hit<const W: usize>(
+        &self,
+        plan: &NearPlan<W>,
+        key: u64,
+        code: &Code<W>,
+    ) -> Option<Hit>
+        requires place { IsRingPlace plan.now self.now }
+        requires stored { KeepsCode W plan.now.version code.now }
+        ensures { result ≡ new_hit plan.now self.now.units (key, code_in plan.now.version code.now) }
+    {
+        plan.new_hit(self.units.as_slice(), key, code)
     }
 
     /// Goes on to the posting list of the next value of the ring.

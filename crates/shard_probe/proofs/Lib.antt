@@ -1,3 +1,4 @@
 pub mod ChoiceLemmas
 pub mod ProbeLemmas
 pub mod RadiusLemmas
+pub mod RunLemmas

@@ -1,6 +1,6 @@
 -- A query on a version: the words that keep its code, and what the version's layout and posting
 -- lists are to it.
-use Rattle.std.specs.Prelude.{ℕ, ◌≤◌, List, [], map, take, slice_index_or, refl}
+use Rattle.std.specs.Prelude.{ℕ, ◌≤◌, List, [], All, map, take, slice_index_or, refl}
 use Rattle.std.specs.Coded.{Coded, code_by, coded×, coded_list, coded_ℕ}
 use Rattle.hamming_model.specs.Codes.{StandsFor}
 use Rattle.hamming_model.specs.declared.limits.TheConstants.{WORDS_MOST}
@@ -42,10 +42,17 @@ abbrev pub KeepsCode : ℕ → Tabled → List ℕ → Type 0
 KeepsCode words version stored =
     StandsFor words version.contents.layout.bits stored (code_in version stored)
 
+-- entries of which each has words that keep a code
+abbrev pub KeepCodes : ℕ → Tabled → List (ℕ × List ℕ) → Type 0
+KeepCodes words version entries = All (λ entry. KeepsCode words version entry.1) entries
+
+-- the rows whose codes entries keep
+abbrev pub rows_in : Tabled → List (ℕ × List ℕ) → List (ℕ × List ℕ)
+rows_in version entries = map (unpadded version.contents.layout.bits) entries
+
 -- the rows in the posting list of a part's value, in the order of the list
 abbrev pub probed_list : Tabled → ℕ → ℕ → List (ℕ × List ℕ)
-probed_list version part value =
-    map (unpadded version.contents.layout.bits) (posting_list (table_at version part) value)
+probed_list version part value = rows_in version (posting_list (table_at version part) value)
 
 -- how many of a version's rows are nearer to a query at a part than so many units
 abbrev pub counts_round : Tabled → List ℕ → ℕ → ℕ → ℕ

@@ -1,15 +1,15 @@
 //! A query on a version.
 
 ghost use Rattle.std.specs.Prelude.{◌≡◌, ℕ, ◌+◌, ◌^◌, ◌<◌, ◌≤◌, negsuc, ◌≤ℤ◌, All, IfOk};
-ghost use Rattle.std.specs.Prelude.{List, length, slice_index, slice_index_or};
+ghost use Rattle.std.specs.Prelude.{length, take, drop, slice_index};
 ghost use Rattle.std.specs.Arc.{arc_value};
 ghost use Rattle.hamming_model.specs.Codes.{distance};
 ghost use Rattle.hamming_model.specs.declared.limits.TheConstants.{PARTS_MOST, WORDS_MOST};
 ghost use Rattle.hamming_model.specs.Layouts.{part_distance, part_value};
 ghost use Rattle.ball_walk.specs.Balls.{ball, ring};
 ghost use Rattle.threshold_model.specs.Vectors.{units_of};
-ghost use Rattle.shard_probe.specs.Probed.{KeepsCode, IsProbed, probed_of};
-ghost use Rattle.shard_probe.specs.Probed.{parts_in, part_in, code_in, counts_round, probed_list};
+ghost use Rattle.shard_probe.specs.Probed.{KeepsCode, KeepCodes, IsProbed, probed_of};
+ghost use Rattle.shard_probe.specs.Probed.{parts_in, part_in, code_in, counts_round, probed_list, rows_in};
 
 use crate::part_masks::masks_of;
 use crate::part_values::values_of;
@@ -146,25 +146,26 @@ impl<const W: usize> Probe<W> {
         self.version.postings(part as u32).len(value)
     }
 
-    /// A posting, for one step.
-    pub fn posting<L>(
+    /// So many postings of a part's value, from a place on, for one step each.
+    pub fn block<L>(
         &self,
         part: usize,
         value: u16,
-        place: u32,
+        from: u32,
+        count: u32,
         steps: &mut Steps<L>,
-    ) -> (u64, Code<W>)
+    ) -> &[(u64, Code<W>)]
         requires part { part < length (parts_in self.now.version) }
         requires value { value < 2 ^ length (part_in self.now.version part) }
-        requires place { place < length (probed_list self.now.version part value) }
-        ensures row { (default : ℕ × List ℕ) → (result.0, code_in self.now.version result.1)
-            ≡ slice_index_or (probed_list self.now.version part value) place default }
-        ensures stored { KeepsCode W self.now.version result.1 }
-        ensures step { steps.new ≡ steps.old + 1 }
+        requires places { from + count ≤ length (probed_list self.now.version part value) }
+        ensures rows { rows_in self.now.version result.now
+            ≡ take count (drop from (probed_list self.now.version part value)) }
+        ensures stored { KeepCodes W self.now.version result.now }
+        ensures steps { steps.new ≡ steps.old + count }
     {
         self.version
             .postings(part as u32)
-            .entry(value, place, steps)
+            .block(value, from, count, steps)
     }
 
     /// How far a code is from the query.

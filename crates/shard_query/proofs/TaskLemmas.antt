@@ -1,19 +1,14 @@
 -- A range query stays one with each step of its search and each hit that is given.
-use Rattle.std.proofs.Common.{◌≡◌, ◌≢◌, ℕ, ◌+◌, ◌<◌, ◌≤◌, List, [], ◌++◌, length, refl, sym, ap, ◌∙◌, arith, append_assoc}
-use Rattle.std.specs.Prelude.{Option, Some, None}
-use Rattle.std.specs.Option.{option_to_list}
+use Rattle.std.proofs.Common.{◌≡◌, ◌≢◌, ℕ, ◌+◌, ◌<◌, ◌≤◌, List, [], ◌++◌, length, refl, sym, ap, ◌∙◌, subst, arith, append_assoc}
 use Rattle.std.proofs.lemmas.List.{nil_from_length, append-nil, length-append}
 use Rattle.hamming_model.specs.declared.hit.Hit.{Hit}
 use Rattle.hamming_model.specs.Scan.{in_order}
 use Rattle.search_model.proofs.HitLemmas.{order_size}
 use Rattle.hit_source.specs.Windows.{Window, window_of, put_in_order}
-use Rattle.shard_walk.specs.Planned.{Planned}
+use Rattle.shard_walk.specs.Planned.{Planned, kept_of}
 use Rattle.shard_walk.specs.Walks.{Place, IsWalkPlace, hits_left, reads_left}
 use Rattle.shard_query.specs.Tasks.{IsTask, scan_of, with_kept}
-
-kept_few : (kept : Option Hit) → length (option_to_list kept) ≤ 1
-kept_few None = omega arith
-kept_few (Some hit) = omega arith
+use Rattle.shard_query.proofs.KeepLemmas.{kept_few}
 
 none_left : (p : Planned) (w : Place) → length (hits_left p w) ≤ reads_left p w → reads_left p w ≡ 0
     → hits_left p w ≡ []
@@ -21,18 +16,22 @@ none_left p w few none = nil_from_length (hits_left p w) (omega arith)
 
 module _ (p : Planned) (old new : Place) (hits : Window) (reads : ℕ) (is : IsTask p old hits reads)
     (more : reads < p.least) (place : IsWalkPlace p new) where
-  module _ (kept : Option Hit) (of_hits : hits_left p old ≡ option_to_list kept ++ hits_left p new)
-      (of_reads : reads_left p old ≡ reads_left p new + 1) where
-    found_more : length (hits.found ++ option_to_list kept) ≤ reads + 1
-    found_more = omega (arith, length-append hits.found (option_to_list kept), kept_few kept, is.few)
+  module _ (kept : List Hit) (count : ℕ) (of_hits : hits_left p old ≡ kept ++ hits_left p new)
+      (kept_few : length kept ≤ count) (of_reads : reads_left p old ≡ reads_left p new + count) where
+    found_more : length (hits.found ++ kept) ≤ reads + count
+    found_more = omega (arith, length-append hits.found kept, kept_few, is.few)
 
-    answer_kept : in_order ((hits.found ++ option_to_list kept) ++ hits_left p new) ≡ scan_of p
+    -- there is room for what was kept
+    pub kept_fits : length hits.found + length kept ≤ hits.capacity
+    kept_fits = (let left = (is.search more).left in omega (arith, kept_few, is.few, is.reserved))
+
+    answer_kept : in_order ((hits.found ++ kept) ++ hits_left p new) ≡ scan_of p
     answer_kept =
-        ap in_order (append_assoc hits.found (option_to_list kept) (hits_left p new))
+        ap in_order (append_assoc hits.found kept (hits_left p new))
         ∙ ap (λ xs. in_order (hits.found ++ xs)) (sym of_hits) ∙ (is.search more).answer
 
-    -- a posting was read that isn't the last
-    pub read_on : reads + 1 ≢ p.least → IsTask p new (with_kept hits kept) (reads + 1)
+    -- postings were read, and not the last one
+    pub read_on : reads + count ≢ p.least → IsTask p new (with_kept hits kept) (reads + count)
     read_on others =
         let search = is.search more in
         let behind = is.window.behind in
@@ -50,15 +49,15 @@ module _ (p : Planned) (old new : Place) (hits : Window) (reads : ℕ) (is : IsT
         }
 
     -- the last posting was read, and what was found was put in order
-    pub read_last : length (hits_left p new) ≤ reads_left p new → reads + 1 ≡ p.least
-        → IsTask p new (put_in_order (with_kept hits kept)) (reads + 1)
+    pub read_last : length (hits_left p new) ≤ reads_left p new → reads + count ≡ p.least
+        → IsTask p new (put_in_order (with_kept hits kept)) (reads + count)
     read_last few last =
         let search = is.search more in
         let behind = is.window.behind in
         let none = search.none_moved in
         let left = search.left in
         let nothing = none_left p new few (omega arith) in
-        let found : List Hit = hits.found ++ option_to_list kept in
+        let found : List Hit = hits.found ++ kept in
         let size = order_size found in
         let fewer = found_more in
         record {
@@ -110,3 +109,32 @@ task_begins p w room near some place answer reads few = record {
   search = λ more. record { place = place; left = omega arith; answer = answer; none_moved = refl };
   found_all = λ all. sym (ap in_order (none_left p w few (omega arith))) ∙ answer;
 }
+
+-- a run of postings was read, by the names that the calls gave
+module _ (p : Planned) (old new : Place) (hits : Window) (reads : ℕ) (is : IsTask p old hits reads)
+    (more : reads < p.least) (place : IsWalkPlace p new) (run : List (ℕ × List ℕ)) (part number : ℕ) (same : part ≡ old.part)
+    (number_is : number ≡ length run) (of_hits : hits_left p old ≡ kept_of p old.part run ++ hits_left p new)
+    (of_reads : reads_left p old ≡ reads_left p new + length run) where
+  run_hits : hits_left p old ≡ kept_of p part run ++ hits_left p new
+  run_hits = of_hits ∙ ap (λ n. kept_of p n run ++ hits_left p new) (sym same)
+
+  run_few : length (kept_of p part run) ≤ number
+  run_few = omega (arith, kept_few p part run)
+
+  run_reads : reads_left p old ≡ reads_left p new + number
+  run_reads = omega arith
+
+  pub run_fits : length hits.found + length (kept_of p part run) ≤ hits.capacity
+  run_fits = kept_fits p old new hits reads is more place (kept_of p part run) number run_hits run_few run_reads
+
+  module _ (mid : Window) (is_kept : mid ≡ with_kept hits (kept_of p part run)) where
+    pub run_on : reads + number ≢ p.least → IsTask p new mid (reads + number)
+    run_on others =
+        subst (λ w. IsTask p new w (reads + number)) (sym is_kept)
+        (read_on p old new hits reads is more place (kept_of p part run) number run_hits run_few run_reads others)
+
+    pub run_last : length (hits_left p new) ≤ reads_left p new → reads + number ≡ p.least
+        → (sorted : Window) → sorted ≡ put_in_order mid → IsTask p new sorted (reads + number)
+    run_last few last sorted in_place =
+        subst (λ w. IsTask p new w (reads + number)) (sym (in_place ∙ ap put_in_order is_kept))
+        (read_last p old new hits reads is more place (kept_of p part run) number run_hits run_few run_reads few last)

@@ -21,22 +21,22 @@ second : (a b : Bool) → (a && b) ≡ true → b ≡ true
 second true b both = both
 second false b both = cc
 
--- a step of the search is one unit of work
-pub search_works : (p : Planned) (old new : Place) (hits more_hits : Window) (reads more_reads from to : ℕ)
-    → IsTask p old hits reads → reads < p.least
-    → more_hits.given ≡ hits.given → more_hits.moved ≡ hits.moved → reads ≤ more_reads → more_reads ≤ reads + 1
+-- a step of the search is units of work: a value taken, or so many postings read
+pub search_works : (p : Planned) (old new : Place) (hits more_hits : Window) (reads more_reads from to count : ℕ)
+    → IsTask p old hits reads → reads < p.least → 1 ≤ count
+    → more_hits.given ≡ hits.given → more_hits.moved ≡ hits.moved → reads ≤ more_reads → more_reads ≤ reads + count
     → to + reads ≡ from + more_reads
-    → values_left p new + (p.least - more_reads) + 1 ≡ values_left p old + (p.least - reads)
-    → Works None 1 (standing_of p old hits reads) (standing_of p new more_hits more_reads) from to
-search_works p old new hits more_hits reads more_reads from to is more given moved rises fewer ledger units =
+    → values_left p new + (p.least - more_reads) + count ≡ values_left p old + (p.least - reads)
+    → Works None count (standing_of p old hits reads) (standing_of p new more_hits more_reads) from to
+search_works p old new hits more_hits reads more_reads from to count is more some given moved rises fewer ledger units =
     let none = (is.search more).none_moved in
     let waiting = length-take (more_hits.moved - more_hits.given) (left_of more_hits) in
     let searching : (reads == p.least) ≡ false = ne_eqb reads p.least (λ (e : reads ≡ p.least). omega arith) in
-    subst (λ b. Works None 1 (standing_at p old hits reads b) (standing_of p new more_hits more_reads) from to)
+    subst (λ b. Works None count (standing_at p old hits reads b) (standing_of p new more_hits more_reads) from to)
     (sym searching) (record {
       given = given;
       floor = above_zero (cond (more_reads == p.least) (first_distance (left_of more_hits)) (Some 0));
-      idle = λ none. cc;
+      idle = λ none. absurd (omega arith);
       rises = rises;
       ledger = ledger;
       spent = omega arith;

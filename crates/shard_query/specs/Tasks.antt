@@ -1,7 +1,6 @@
 -- What a range query keeps while it is answered: first it searches,
 -- then it gives the hits that it found, all in order.
 use Rattle.std.specs.Prelude.{◌≡◌, ℕ, ◌+◌, ◌-◌, ◌<◌, ◌≤◌, ◌==◌, ◌&&◌, if◌then◌else◌, Bool, false, List, ◌++◌, length, Option, Some, None}
-use Rattle.std.specs.Option.{option_to_list}
 use Rattle.hamming_model.specs.declared.hit.Hit.{Hit}
 use Rattle.hamming_model.specs.Scan.{in_order, scan}
 use Rattle.hit_source.specs.Sources.{Asked, Standing}
@@ -63,7 +62,7 @@ pub record IsTask (p : Planned) (w : Place) (hits : Window) (reads : ℕ) : Type
   pub search : reads < p.least → IsSearch p w hits reads
   pub found_all : reads ≡ p.least → hits.found ≡ scan_of p
 
--- the window after a posting was read, with its hit if it was kept
-abbrev pub with_kept : Window → Option Hit → Window
+-- the window after a run of postings was read, with the hits that were kept of it
+abbrev pub with_kept : Window → List Hit → Window
 with_kept hits kept =
-    window_at (hits.found ++ option_to_list kept) hits.capacity hits.room hits.given hits.moved
+    window_at (hits.found ++ kept) hits.capacity hits.room hits.given hits.moved

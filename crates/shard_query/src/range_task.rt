@@ -1,6 +1,6 @@
 //! A range query on one version.
 
-ghost use Rattle.std.specs.Prelude.{◌≡◌, ◌+◌, ◌<◌, ◌≤◌, ◌++◌, false, length, if◌then◌else◌, None, IfOk, IfSome};
+ghost use Rattle.std.specs.Prelude.{◌≡◌, ◌+◌, ◌<◌, ◌≤◌, ◌++◌, false, length, None, IfOk};
 ghost use Rattle.std.specs.Arc.{arc_value};
 ghost use Rattle.hamming_model.specs.Codes.{StandsFor};
 ghost use Rattle.hamming_model.specs.declared.limits.TheConstants.{ROOM_MOST, WORDS_MOST};
@@ -8,6 +8,7 @@ ghost use Rattle.hit_source.specs.Moves.{PollAnswers};
 ghost use Rattle.hit_source.specs.Work.{Works, IsStopped};
 ghost use Rattle.shard_query.specs.Opening.{AsksRange, BeginsRange, opened_code};
 ghost use Rattle.shard_query.specs.Tasks.{IsTask, with_kept};
+ghost use Rattle.shard_walk.specs.Planned.{AreStoredRows, kept_of};
 
 use gph_codes::Code;
 use hamming_model::Hit;
@@ -72,58 +73,69 @@ impl<const W: usize> RangeTask<W> {
         })
     }
 
-    // Does one unit of work: takes a value of a ball, reads a posting, or moves a hit into the room. It
-    // answers whether it could.
-    fn work<L>(&mut self, steps: &mut Steps<L>) -> bool
+    // Does units of work, so many at most: takes a value of a ball, reads a run of postings, or moves a hit
+    // into the room. It answers how many it did: none only where none can be done.
+    fn work<L>(&mut self, most: u32, steps: &mut Steps<L>) -> u32
+        requires { 1 ≤ most }
         ensures plan { self.new.plan ≡ self.old.plan }
         ensures room { self.new.window.room ≡ self.old.window.room }
-        ensures works { Works None (if result then 1 else 0)
+        ensures few { result ≤ most }
+        ensures works { Works None result
             (task_standing self.old) (task_standing self.new) steps.old steps.new }
-        ensures stops { result ≡ false → IsStopped (task_asked self.new) (task_standing self.new) }
+        ensures stops { result ≡ 0 → IsStopped (task_asked self.new) (task_standing self.new) }
     {
         if self.reads < self.plan.least() {
-            self.search(steps);
-            return true;
+            return self.search(most, steps);
         }
         if self.window.is_full() || self.window.has_moved_all() {
-            return false;
+            return 0;
         }
         self.window.advance();
-        true
+        1
     }
 
-    // Takes a value of a ball, or reads a posting of its list.
-    fn search<L>(&mut self, steps: &mut Steps<L>)
+    // Takes a value of a ball, or reads postings of its list, so many at most.
+    fn search<L>(&mut self, most: u32, steps: &mut Steps<L>) -> u32
+        requires some { 1 ≤ most }
         requires more { self.old.reads < self.old.plan.least }
         ensures plan { self.new.plan ≡ self.old.plan }
         ensures room { self.new.window.room ≡ self.old.window.room }
-        ensures works { Works None 1
+        ensures some { 1 ≤ result }
+        ensures few { result ≤ most }
+        ensures works { Works None result
             (task_standing self.old) (task_standing self.new) steps.old steps.new }
     {
         if self.walk.is_in_list() {
-            self.read(steps);
-            return;
+            return self.read(most, steps);
         }
         self.walk.next_value(&self.plan);
+        1
     }
 
-    // Reads a posting. With the last one the hits that were kept are put in order.
-    fn read<L>(&mut self, steps: &mut Steps<L>)
+    // Reads postings of a list, so many at most. With the last one of all the hits that were kept are put
+    // in order.
+    fn read<L>(&mut self, most: u32, steps: &mut Steps<L>) -> u32
+        requires some { 1 ≤ most }
         requires more { self.old.reads < self.old.plan.least }
         requires posting { self.old.walk.next < self.old.walk.size }
         ensures plan { self.new.plan ≡ self.old.plan }
         ensures room { self.new.window.room ≡ self.old.window.room }
-        ensures works { Works None 1
+        ensures some { 1 ≤ result }
+        ensures few { result ≤ most }
+        ensures works { Works None result
             (task_standing self.old) (task_standing self.new) steps.old steps.new }
     {
         hits_are_few();
         let least = self.plan.least();
-        let kept = self.walk.read(&self.plan, steps);
-        keep(&mut self.window, kept);
-        self.reads += 1;
+        let part = self.walk.part();
+        let run = self.walk.read(&self.plan, most, steps);
+        let count = run.len() as u32;
+        keep(&mut self.window, &self.plan, part, run);
+        self.reads += u64::from(count);
         if self.reads == least {
             self.window.sort();
         }
+        count
     }
 
     // How a poll ends that ends here.
@@ -140,13 +152,17 @@ impl<const W: usize> RangeTask<W> {
     }
 }
 
-// Adds a hit behind those that were found, if there is one.
-fn keep(window: &mut HitWindow, kept: Option<Hit>)
-    requires { length window.old.found < window.old.capacity }
-    ensures { window.new ≡ with_kept window.old kept }
+// Adds the hits that a part keeps of a run of postings behind those that were found.
+fn keep<const W: usize>(window: &mut HitWindow, plan: &Plan<W>, part: usize, run: &[(u64, Code<W>)])
+    requires stored { AreStoredRows W plan.now run.now }
+    requires room { length window.old.found + length (kept_of plan.now part run.now)
+        ≤ window.old.capacity }
+    ensures { window.new ≡ with_kept window.old (kept_of plan.now part run.now) }
 {
-    if let Some(hit) = kept {
-        window.push(hit);
+    for posting in run {
+        if let Some(hit) = plan.kept(part, posting.0, &posting.1) {
+            window.push(hit);
+        }
     }
 }
 
@@ -163,10 +179,13 @@ impl<const W: usize> HitSource for RangeTask<W> {
     ghost lawful = { λ task. task_lawful task.plan task.walk task.window task.reads task.kept };
 
     fn poll<L>(&mut self, budget: u32, steps: &mut Steps<L>) -> Polled {
-        for _done in 0..budget {
-            if !self.work(steps) {
+        let mut left = budget;
+        while left > 0 {
+            let done = self.work(left, steps);
+            if done == 0 {
                 return self.judged();
             }
+            left -= done;
         }
         self.judged()
     }

@@ -1,57 +1,59 @@
 -- The steps of a walk: what is left to read, to keep and to go over.
-use Rattle.std.proofs.Common.{◌≡◌, ℕ, ◌+◌, ◌^◌, ◌<◌, ◌≤◌, Bool, true, false, cond, negsuc, List, [], ◌∷◌, ◌++◌, length, map, filter, take, drop, get_or, All, refl, sym, ap, ◌∙◌, ⊎_elim, arith}
+use Rattle.std.proofs.Common.{◌≡◌, ℕ, ◌+◌, ◌-◌, ◌^◌, ◌<◌, ◌≤◌, negsuc, List, [], ◌∷◌, ◌++◌, length, map, min, take, drop, All, refl, sym, ap, subst, ◌∙◌, ⊎_elim, arith}
 use Rattle.std.proofs.lemmas.Bool.{cases_lt}
-use Rattle.std.specs.Prelude.{Some, None}
-use Rattle.std.specs.Option.{option_to_list}
 use Rattle.std.specs.List.{flat_map}
-use Rattle.std.proofs.lemmas.List.{drop_more, drop_all, take_all, get_or-take, length-take-le}
+use Rattle.std.proofs.lemmas.List.{drop_more, drop_all, take_all, length-take-le, length-append, length-map, append_assoc}
+use Rattle.hamming_model.specs.declared.hit.Hit.{Hit}
 use Rattle.hamming_model.specs.Scan.{hit_of}
 use Rattle.threshold_model.specs.Finding.{threshold_at}
-use Rattle.search_model.specs.Reading.{parts_read, number_read}
-use Rattle.search_model.specs.Keeping.{is_kept, hits_of_parts}
-use Rattle.shard_walk.specs.Planned.{Planned, parts_of, part_of, planned_query, list_of, kept_hit}
-use Rattle.shard_walk.specs.Walks.{Place, IsWalkPlace, BeginsValue, PassesPart, part_begun, value_begun, after_posting, rest_of_list, rows_left, reads_left, hits_left, values_of, values_left}
-
-kept_or_passed : {X Y : Type 0} (b : Bool) (h : X → Y) (x : X) (xs : List X) (rest : List Y)
-    → map h (cond b (x ∷ xs) xs) ++ rest ≡ option_to_list (cond b (Some (h x)) None) ++ (map h xs ++ rest)
-kept_or_passed true h x xs rest = refl
-kept_or_passed false h x xs rest = refl
+use Rattle.search_model.specs.Reading.{parts_read, number_read, unpadded}
+use Rattle.search_model.specs.Keeping.{is_kept, hits_kept, hits_of_parts}
+use Rattle.shard_probe.specs.Probed.{rows_in}
+use Rattle.shard_probe.proofs.RunLemmas.{passed_joined, rest_cut, run_size}
+use Rattle.shard_walk.specs.Planned.{Planned, parts_of, part_of, planned_query, list_of, kept_of}
+use Rattle.shard_walk.specs.Walks.{Place, IsWalkPlace, BeginsValue, PassesPart, part_begun, value_begun, after_run, rest_of_list, rows_left, reads_left, hits_left, values_of, values_left}
 
 -- what the parts after one read
 abbrev later : Planned → ℕ → List (List (ℕ × List ℕ))
 later p part = parts_read (list_of p) (part + 1) (drop (part + 1) (parts_of p)) (drop (part + 1) p.thresholds) (planned_query p)
 
 module _ (p : Planned) (w : Place) (place : IsWalkPlace p w) where
-  module _ (more : w.next < w.size) (row : ℕ × List ℕ) (is_row : get_or (list_of p w.part w.value) w.next row ≡ row) where
-    rest_cut : rest_of_list p w ≡ row ∷ rest_of_list p (after_posting w)
-    rest_cut =
-        let size = length-take-le w.size (list_of p w.part w.value) place.size in
-        drop_more (take w.size (list_of p w.part w.value)) w.next row (omega arith)
-        ∙ ap (λ x. x ∷ rest_of_list p (after_posting w)) (get_or-take w.size (list_of p w.part w.value) w.next row more ∙ is_row)
+  module _ (count : ℕ) (run : List (ℕ × List ℕ)) (within : w.next + count ≤ w.size)
+      (is_run : rows_in p.version run ≡ take count (drop w.next (list_of p w.part w.value))) where
+    abbrev then : List (ℕ × List ℕ)
+    then = rest_of_list p (after_run w count) ++ flat_map (list_of p w.part) w.ball
 
-    rows_cut : rows_left p w ≡ (row ∷ (rest_of_list p (after_posting w) ++ flat_map (list_of p w.part) w.ball)) ∷ later p w.part
-    rows_cut = ap (λ rest. (rest ++ flat_map (list_of p w.part) w.ball) ∷ later p w.part) rest_cut
+    rows_cut : rows_left p w ≡ (rows_in p.version run ++ then) ∷ later p w.part
+    rows_cut =
+        ap (λ rest. (rest ++ flat_map (list_of p w.part) w.ball) ∷ later p w.part)
+        (rest_cut (list_of p w.part w.value) w.next w.size count within
+        ∙ ap (λ rows. rows ++ rest_of_list p (after_run w count)) (sym is_run))
+        ∙ ap (λ rows. rows ∷ later p w.part)
+        (append_assoc (rows_in p.version run) (rest_of_list p (after_run w count)) (flat_map (list_of p w.part) w.ball))
 
-    pub read_hits : hits_left p w ≡ option_to_list (kept_hit p w.part row) ++ hits_left p (after_posting w)
-    read_hits =
+    pub run_hits : hits_left p w ≡ kept_of p w.part run ++ hits_left p (after_run w count)
+    run_hits =
+        let rest : List Hit = hits_of_parts (parts_of p) p.thresholds (planned_query p) p.tau (w.part + 1) (later p w.part) in
         ap (hits_of_parts (parts_of p) p.thresholds (planned_query p) p.tau w.part) rows_cut
-        ∙ kept_or_passed (is_kept (parts_of p) p.thresholds (planned_query p) p.tau w.part row) (hit_of (planned_query p)) row
-        (filter (is_kept (parts_of p) p.thresholds (planned_query p) p.tau w.part) (rest_of_list p (after_posting w) ++ flat_map (list_of p w.part) w.ball))
-        (hits_of_parts (parts_of p) p.thresholds (planned_query p) p.tau (w.part + 1) (later p w.part))
+        ∙ ap (λ hits. hits ++ rest) (passed_joined (hit_of (planned_query p)) (is_kept (parts_of p) p.thresholds (planned_query p) p.tau w.part)
+        (rows_in p.version run) then)
+        ∙ append_assoc (kept_of p w.part run) (hits_kept (parts_of p) p.thresholds (planned_query p) p.tau w.part then) rest
 
-    pub read_reads : reads_left p w ≡ reads_left p (after_posting w) + 1
-    read_reads =
+    pub run_reads : reads_left p w ≡ reads_left p (after_run w count) + length run
+    run_reads =
         let cut = ap number_read rows_cut in
+        let joined = length-append (rows_in p.version run) then in
+        let mapped = length-map run (unpadded p.version.contents.layout.bits) in
         omega arith
 
-  pub read_place : w.next < w.size → IsWalkPlace p (after_posting w)
-  read_place more = record {
+  pub run_place : (count : ℕ) → w.next + count ≤ w.size → IsWalkPlace p (after_run w count)
+  run_place count within = record {
     few_parts = place.few_parts;
     thresholds = place.thresholds;
     part = place.part;
     ball = place.ball;
     value = place.value;
-    next = omega arith;
+    next = within;
     size = place.size;
   }
 
@@ -98,6 +100,29 @@ module _ (p : Planned) (w : Place) (place : IsWalkPlace p w) where
         ∙ ap (λ values. flat_map (list_of p w.part) values ∷ later p w.part) none
         ∙ ap (λ layout. [] ∷ parts_read (list_of p) (w.part + 1) layout (drop (w.part + 1) p.thresholds) (planned_query p))
         (drop_all (w.part + 1) (parts_of p) last))
+
+-- a run of postings was read, so many
+pub record ReadsRun (p : Planned) (old new : Place) (run : List (ℕ × List ℕ)) (count : ℕ) : Type 0 where
+  pub hits : hits_left p old ≡ kept_of p old.part run ++ hits_left p new
+  pub reads : reads_left p old ≡ reads_left p new + length run
+  pub size : length run ≡ count
+
+pub reads_run : (p : Planned) (own : Place) → IsWalkPlace p own → (inside : Place) → inside ≡ own
+    → (count most : ℕ) → count ≡ min (inside.size - inside.next) most → (run : List (ℕ × List ℕ))
+    → rows_in p.version run ≡ take count (drop inside.next (list_of p inside.part inside.value))
+    → ReadsRun p own (after_run inside count) run count
+reads_run p own place inside same count most least run rows =
+    let next = ap (λ (w : Place). w.next) same in
+    let size = ap (λ (w : Place). w.size) same in
+    let behind = place.next in
+    let among = place.size in
+    let within : own.next + count ≤ own.size = omega arith in
+    let is_run = rows ∙ ap (λ (w : Place). take count (drop w.next (list_of p w.part w.value))) same in
+    subst (λ (w : Place). ReadsRun p own (after_run w count) run count) (sym same) (record {
+      hits = run_hits p own place count run within is_run;
+      reads = run_reads p own place count run within is_run;
+      size = run_size p.version.contents.layout.bits own.next count run (list_of p own.part own.value) (omega arith) is_run;
+    })
 
 module _ (p : Planned) (part : ℕ) (size : length p.thresholds ≡ length (parts_of p)) (less : part < length (parts_of p)) where
   parts_cut : drop part (parts_of p) ≡ part_of p part ∷ drop (part + 1) (parts_of p)

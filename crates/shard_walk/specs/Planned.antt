@@ -7,10 +7,10 @@ use Rattle.hamming_model.specs.Layouts.{part_distance}
 use Rattle.hamming_model.specs.Scan.{hit_of}
 use Rattle.threshold_model.specs.Vectors.{IsChoice, IsLeast, row_counts, units_of}
 use Rattle.threshold_model.specs.Finding.{first_part, part_distances, threshold_at}
-use Rattle.search_model.specs.Keeping.{is_kept}
+use Rattle.search_model.specs.Keeping.{is_kept, hits_kept}
 use Rattle.shard_version.specs.Contents.{IsVersion}
 use Rattle.shard_version.specs.Tables.{Tabled, tabled_code, HasTables}
-use Rattle.shard_probe.specs.Probed.{parts_in, part_in, code_in, probed_list, KeepsCode}
+use Rattle.shard_probe.specs.Probed.{parts_in, part_in, code_in, probed_list, rows_in, KeepsCode, KeepCodes}
 
 -- the version, the words of the query, its radius, and the threshold vector with its cost
 pub record Planned : Type 0 where
@@ -62,6 +62,10 @@ code_of_plan plan stored = code_in plan.version stored
 abbrev pub IsStored : ℕ → Planned → List ℕ → Type 0
 IsStored words plan stored = KeepsCode words plan.version stored
 
+-- entries whose words all keep a code
+abbrev pub AreStoredRows : ℕ → Planned → List (ℕ × List ℕ) → Type 0
+AreStoredRows words plan entries = KeepCodes words plan.version entries
+
 -- the code of the query
 abbrev pub planned_query : Planned → List ℕ
 planned_query plan = code_of_plan plan plan.stored
@@ -87,6 +91,12 @@ abbrev pub kept_hit : Planned → ℕ → ℕ × List ℕ → Option Hit
 kept_hit plan part row =
     if is_kept (parts_of plan) plan.thresholds (planned_query plan) plan.tau part row
     then Some (hit_of (planned_query plan) row) else None
+
+-- the hits that a part keeps of a run of postings
+abbrev pub kept_of : Planned → ℕ → List (ℕ × List ℕ) → List Hit
+kept_of plan part run =
+    hits_kept (parts_of plan) plan.thresholds (planned_query plan) plan.tau part
+    (rows_in plan.version run)
 
 -- the thresholds are the first of the cheapest vectors, for codes of so many words
 pub record IsPlanned (words : ℕ) (plan : Planned) : Type 0 where

@@ -42,9 +42,9 @@ value_begun plan place value rest =
       size = length (list_of plan place.part value);
     }
 
--- one posting more was read
-abbrev pub after_posting : Place → Place
-after_posting place = record place { next = place.next + 1 }
+-- so many postings more were read
+abbrev pub after_run : Place → ℕ → Place
+after_run place count = record place { next = place.next + count }
 
 -- the rows of the posting list that are left
 abbrev pub rest_of_list : Planned → Place → List (ℕ × List ℕ)

@@ -1,13 +1,12 @@
 //! The plan of a range query on a version.
 
-ghost use Rattle.std.specs.Prelude.{◌≡◌, ℕ, ◌+◌, ◌^◌, ◌<◌, ◌≤◌, List, All, nat_lt};
-ghost use Rattle.std.specs.Prelude.{length, slice_index_or, IfOk};
+ghost use Rattle.std.specs.Prelude.{◌≡◌, ◌+◌, ◌^◌, ◌<◌, ◌≤◌, All, nat_lt, length, take, drop, IfOk};
 ghost use Rattle.std.specs.Arc.{arc_value};
 ghost use Rattle.hamming_model.specs.declared.limits.TheConstants.{WORDS_MOST};
 ghost use Rattle.threshold_model.specs.Vectors.{units_of};
-ghost use Rattle.shard_walk.specs.Planned.{IsPlanned, PlansQuery, IsStored, parts_of, part_of, code_of_plan};
+ghost use Rattle.shard_walk.specs.Planned.{IsPlanned, PlansQuery, IsStored, AreStoredRows, parts_of, part_of, code_of_plan};
 ghost use Rattle.shard_walk.specs.Planned.{list_of, is_found, part_found, kept_hit};
-ghost use Rattle.shard_probe.specs.Probed.{KeepsCode};
+ghost use Rattle.shard_probe.specs.Probed.{KeepsCode, rows_in};
 ghost use Rattle.shard_walk.specs.Walks.{ball_of};
 
 use ball_walk::Ball;
@@ -129,27 +128,28 @@ impl<const W: usize> Plan<W> {
         self.probe.list_len(part, value)
     }
 
-    // A posting, for one step.
-    pub(crate) fn posting<L>(
+    // So many postings of a part's value, from a place on, for one step each.
+    pub(crate) fn block<L>(
         &self,
         part: usize,
         value: u16,
-        place: u32,
+        from: u32,
+        count: u32,
         steps: &mut Steps<L>,
-    ) -> (u64, Code<W>)
+    ) -> &[(u64, Code<W>)]
         requires part { part < length (parts_of self.now) }
         requires value { value < 2 ^ length (part_of self.now part) }
-        requires place { place < length (list_of self.now part value) }
-        ensures row { (default : ℕ × List ℕ) → (result.0, code_of_plan self.now result.1)
-            ≡ slice_index_or (list_of self.now part value) place default }
-        ensures stored { IsStored W self.now result.1 }
-        ensures step { steps.new ≡ steps.old + 1 }
+        requires places { from + count ≤ length (list_of self.now part value) }
+        ensures rows { rows_in self.now.version result.now
+            ≡ take count (drop from (list_of self.now part value)) }
+        ensures stored { AreStoredRows W self.now result.now }
+        ensures steps { steps.new ≡ steps.old + count }
     {
-        self.probe.posting(part, value, place, steps)
+        self.probe.block(part, value, from, count, steps)
     }
 
-    // The hit of a row, if it is within the radius and the part is the first that finds it.
-    pub(crate) fn kept(&self, part: usize, key: u64, code: &Code<W>) -> Option<Hit>
+    /// The hit of a row, if it is within the radius and the part is the first that finds it.
+    pub fn kept(&self, part: usize, key: u64, code: &Code<W>) -> Option<Hit>
         requires { IsStored W self.now code.now }
         ensures { result ≡ kept_hit self.now part (key, code_of_plan self.now code.now) }
     {

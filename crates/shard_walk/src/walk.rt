@@ -1,15 +1,14 @@
 //! A walk over the posting lists of a plan.
 
-ghost use Rattle.std.specs.Prelude.{◌≡◌, ◌+◌, ◌<◌, ◌≤◌, ◌↔◌, ◌++◌, IsTrue, true, false, [], length};
-ghost use Rattle.std.specs.Option.{option_to_list};
+ghost use Rattle.std.specs.Prelude.{◌≡◌, ◌+◌, ◌-◌, ◌<◌, ◌≤◌, ◌↔◌, ◌++◌, IsTrue, true, false, min, [], length};
 ghost use Rattle.hamming_model.specs.Scan.{in_order, scan};
 ghost use Rattle.threshold_model.specs.Bounds.{values_of_parts};
-ghost use Rattle.shard_walk.specs.Planned.{parts_of, planned_query};
+ghost use Rattle.shard_walk.specs.Planned.{AreStoredRows, kept_of, parts_of, planned_query};
 ghost use Rattle.shard_walk.specs.Walks.{IsWalkPlace, BeginsValue, PassesPart, part_begun, hits_left, reads_left, values_left};
 
 use crate::plan::Plan;
 use ball_walk::{Ball, ball_sums_add_up};
-use hamming_model::Hit;
+use gph_codes::Code;
 use read_meter::Steps;
 use search_model::{lists_read_by_parts, near_rows_are_kept_once, rows_read_are_the_cost};
 use std::marker::Model;
@@ -57,20 +56,36 @@ impl Walk {
         self.next < self.size
     }
 
-    /// Reads the next posting of its posting list, for one step, and gives its hit if its part keeps it.
-    pub fn read<const W: usize, L>(&mut self, plan: &Plan<W>, steps: &mut Steps<L>) -> Option<Hit>
-        requires place { IsWalkPlace plan.now self.old }
-        requires posting { self.old.next < self.old.size }
-        ensures place { IsWalkPlace plan.now self.new }
-        ensures hits { hits_left plan.now self.old
-            ≡ option_to_list result ++ hits_left plan.now self.new }
-        ensures reads { reads_left plan.now self.old ≡ reads_left plan.now self.new + 1 }
-        ensures values { values_left plan.now self.new ≡ values_left plan.now self.old }
-        ensures step { steps.new ≡ steps.old + 1 }
+    /// The part that it is in.
+    pub fn part(&self) -> usize
+        ensures { result ≡ self.now.part }
     {
-        let (key, code) = plan.posting(self.part, self.value, self.next, steps);
-        self.next += 1;
-        plan.kept(self.part, key, &code)
+        self.part
+    }
+
+    /// Reads the postings of its posting list that are left, or so many, for one step each. What its part
+    /// keeps of them is what `Plan::kept` keeps.
+    pub fn read<'p, const W: usize, L>(
+        &mut self,
+        plan: &'p Plan<W>,
+        most: u32,
+        steps: &mut Steps<L>,
+    ) -> &'p [(u64, Code<W>)]
+        requires place { IsWalkPlace plan.now self.old }
+        ensures place { IsWalkPlace plan.now self.new }
+        ensures number { length result.now ≡ min (self.old.size - self.old.next) most }
+        ensures stored { AreStoredRows W plan.now result.now }
+        ensures hits { hits_left plan.now self.old
+            ≡ kept_of plan.now self.old.part result.now ++ hits_left plan.now self.new }
+        ensures reads { reads_left plan.now self.old
+            ≡ reads_left plan.now self.new + length result.now }
+        ensures values { values_left plan.now self.new ≡ values_left plan.now self.old }
+        ensures steps { steps.new ≡ steps.old + length result.now }
+    {
+        let count = (self.size - self.next).min(most);
+        let run = plan.block(self.part, self.value, self.next, count, steps);
+        self.next += count;
+        run
     }
 
     /// Goes on to the posting list of the next value of a ball. Parts that have none left are passed.
