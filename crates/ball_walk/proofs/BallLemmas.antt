@@ -82,7 +82,7 @@ unfolding value_distance
 distance_le width a b below above = ones-le width (bit_xor a b) (xor_lt width a b below above)
 
 -- a filter keeps nothing of a list that counts up, where no number of it passes
-filter_none : (test : ℕ → Bool) (from n top : ℕ) → from + n ≤ top → ((x : ℕ) → x < top → test x ≡ false) → filter test (range_with_len from n) ≡ []
+pub filter_none : (test : ℕ → Bool) (from n top : ℕ) → from + n ≤ top → ((x : ℕ) → x < top → test x ≡ false) → filter test (range_with_len from n) ≡ []
 filter_none test from zero top h e = refl
 filter_none test from (suc n) top h e =
     rw (e from (omega arith)) (filter_none test (from + 1) n top (omega arith) e)
@@ -171,7 +171,7 @@ ball_items items value width units below =
     ball_sum (λ other. count_by (λ item. item == other) items) value width units ∙ near_items items value width units below
 
 -- the numbers of a list that counts up are below its end
-range_below : (from n top : ℕ) → from + n ≤ top → All (λ x. x < top) (range_with_len from n)
+pub range_below : (from n top : ℕ) → from + n ≤ top → All (λ x. x < top) (range_with_len from n)
 range_below from n top h k d in_range =
     let short : k < n = (let e = length-range_with_len from n in omega arith) in
     let at = get_or-range_with_len from n k d short in

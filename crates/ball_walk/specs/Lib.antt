@@ -1,2 +1,4 @@
 pub mod Balls
+pub mod FlipTable
+pub mod Flips
 pub mod Walk

@@ -97,8 +97,9 @@ impl Ball {
     }
 }
 
-// How many distances of values of this width lie within the radius.
-fn distances_within(width: u32, radius: i32) -> u32
+/// How many distances of values of this width lie within a radius: of -1 none, and never more than there
+/// are.
+pub fn distances_within(width: u32, radius: i32) -> u32
     requires width { width ≤ PART_WIDTH_MOST }
     requires radius { negsuc 0 ≤ℤ radius }
     ensures { result ≡ min (radius_units radius) (width + 1) }
@@ -111,7 +112,7 @@ fn distances_within(width: u32, radius: i32) -> u32
 }
 
 // How many values of this width there are.
-fn bound_of(width: u32) -> u16
+pub(crate) fn bound_of(width: u32) -> u16
     requires { width ≤ PART_WIDTH_MOST }
     ensures { result ≡ 2 ^ width }
 {

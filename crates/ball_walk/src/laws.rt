@@ -1,7 +1,8 @@
 ghost use Rattle.std.specs.Prelude.{◌≡◌, ℕ, ◌^◌, ◌<◌, ◌==◌, ◌&&◌, nat_lt, if◌then◌else◌, List, All, count_by, sum_by, length, slice_index};
 ghost use Rattle.std.specs.Int.Digits.{number_from_digits};
 ghost use Rattle.hamming_model.specs.Codes.{bits_of, distance, IsCode};
-ghost use Rattle.ball_walk.specs.Balls.{value_distance, is_near, values_near, ball, IsBefore};
+ghost use Rattle.ball_walk.specs.Balls.{value_distance, is_near, values_near, ball, ring, IsBefore};
+ghost use Rattle.ball_walk.specs.Flips.{flipped_ball, flipped_ring};
 
 /// Law: the distance of two values of a width is the Hamming distance of their binary digits, and that of
 /// the numbers that two codes spell is the distance of the codes.
@@ -41,4 +42,15 @@ pub fn items_within_add_up()
     ensures { (items : List ℕ) (value width units : ℕ) → All (λ item. item < 2 ^ width) items →
         sum_by (λ other. count_by (λ item. item == other) items) (ball value width units)
         ≡ count_by (is_near value units) items }
+{}
+
+/// Law: what is added up over the values that the flips with so many ones make of a value is what is added up
+/// over the ring at that distance, and over all fewer than so many ones what is added up over the ball.
+pub fn flips_make_rings()
+    ensures rings { (f : ℕ → ℕ) (value width apart : ℕ) → value < 2 ^ width →
+        sum_by f (flipped_ring value width apart) ≡ sum_by f (ring value width apart) }
+    ensures balls { (f : ℕ → ℕ) (value width units : ℕ) → value < 2 ^ width →
+        sum_by f (flipped_ball value width units) ≡ sum_by f (ball value width units) }
+    ensures in_width { (value width apart : ℕ) → value < 2 ^ width →
+        All (λ other. other < 2 ^ width) (flipped_ring value width apart) }
 {}
