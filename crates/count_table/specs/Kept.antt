@@ -1,26 +1,23 @@
--- What a table keeps, and the counts by distance that its levels are added up from.
--- No public clause cites this module.
-use Rattle.std.specs.Prelude.{◌≡◌, ℕ, ◌+◌, ◌^◌, ◌<◌, ◌≤◌, ◌==◌, List, filter, length, sum, sum_by, slice_index, EachIndex}
-use Rattle.std.specs.List.{range_with_len}
-use Rattle.ball_walk.specs.Balls.{value_distance}
+-- What a table keeps. No public clause cites this module.
+use Rattle.std.specs.Prelude.{◌≡◌, ℕ, ◌^◌, ◌<◌, ◌≤◌, List, length, sum}
+use Rattle.count_table.specs.Copies.{CopyTable}
 use Rattle.hamming_model.specs.declared.limits.TheConstants.{ENTRIES_MOST, PART_WIDTH_MOST}
 
--- there is a number for each value, and the total is their sum
-pub record IsCountTable (width total : ℕ) (copies : List ℕ) : Type 0 where
+-- there is a number for each value, the total is their sum, and the flips are those of the width
+pub record IsCountTable (width total flipped : ℕ) (copies : List ℕ) : Type 0 where
   pub some_width : 0 < width
   pub small_width : width ≤ PART_WIDTH_MOST
   pub each_value : length copies ≡ 2 ^ width
   pub all : total ≡ sum copies
   pub few : total ≤ ENTRIES_MOST
+  pub flips : flipped ≡ width
 
--- how many copies there are of the first so many values that are one unit nearer than so many units
-unfoldable pub copies_apart : List ℕ → ℕ → ℕ → ℕ → ℕ
-copies_apart copies value units n =
-    sum_by (slice_index copies)
-    (filter (λ other. (value_distance other value + 1) == units) (range_with_len 0 n))
+-- the table of copies by value
+abbrev pub kept_copies : ℕ → List ℕ → CopyTable
+kept_copies width copies = record { width = width; copies = copies }
 
--- numbers by place, each being how many copies are one unit nearer than that many units
-abbrev pub AreApart : List ℕ → ℕ → List ℕ → Type 0
-AreApart copies value counts =
-    EachIndex counts
-    (λ units. slice_index counts units ≡ copies_apart copies value units (length copies))
+-- there is a number for each value of the width, not too many in all, and a value is of the width
+pub record AreKeptCopies (width value : ℕ) (copies : List ℕ) : Type 0 where
+  pub in_width : value < 2 ^ width
+  pub number : length copies ≡ 2 ^ width
+  pub in_all : sum copies ≤ ENTRIES_MOST

@@ -3,11 +3,12 @@ ghost use Rattle.ball_walk.specs.Balls.{radius_units};
 ghost use Rattle.hamming_model.specs.declared.limits.TheConstants.{ENTRIES_MOST, PART_WIDTH_MOST};
 ghost use Rattle.count_table.specs.Copies.{empty_table, copies_at, total_of, with_one, without_one, count_near, AreLevels};
 
-use crate::levels::{add_over, add_up, count_apart};
-use ball_walk::{Ball, ball_sums_add_up};
+use crate::levels::{count_rings, count_within};
+use ball_walk::{Flips, distances_within};
 use read_meter::NoMemory;
 use std::alloc::Global;
 use std::marker::Model;
+use std::sync::Arc;
 
 /// How many copies of each value of one part there are, in all at most as many as a history has entries.
 ///
@@ -18,9 +19,12 @@ pub struct Counts {
     total: u32,
     // the copies of each value, by value
     copies: Vec<u32>,
+    // which values are at each distance from one: of all copies of a table the same
+    flips: Arc<Flips>,
 }
 
 impl Model for Counts {
+    ghost use Rattle.std.specs.Arc.{arc_value};
     ghost use Rattle.count_table.specs.Copies.{CopyTable};
     ghost use Rattle.count_table.specs.Kept.{IsCountTable};
 
@@ -28,7 +32,7 @@ impl Model for Counts {
 
     ghost view = { λ c. record { width = c.width; copies = c.copies.items } };
 
-    ghost invariant = { λ c. IsCountTable c.width c.total c.copies.items };
+    ghost invariant = { λ c. IsCountTable c.width c.total (arc_value c.flips) c.copies.items };
 }
 
 impl Counts {
@@ -36,7 +40,7 @@ impl Counts {
     ///
     /// # Errors
     ///
-    /// `NoMemory` where there is no memory for `2^width` numbers.
+    /// `NoMemory` where there is no memory for twice `2^width` numbers.
     pub fn new(alloc: Global, width: u32) -> Result<Counts, NoMemory>
         requires some_width { 0 < width }
         requires small_width { width ≤ PART_WIDTH_MOST }
@@ -44,10 +48,13 @@ impl Counts {
         ensures width { IfOk result (λ counts. counts.width ≡ width) }
     {
         let copies = no_copies(alloc, width)?;
+        let flips = Flips::new(alloc, width)?;
+        let shared = Arc::new(alloc, flips)?;
         Ok(Counts {
             width,
             total: 0,
             copies,
+            flips: shared,
         })
     }
 
@@ -60,10 +67,12 @@ impl Counts {
         ensures { IfOk result (λ counts. counts ≡ self.now) }
     {
         let copies = self.copies.clone()?;
+        let flips = self.flips.clone()?;
         Ok(Counts {
             width: self.width,
             total: self.total,
             copies,
+            flips,
         })
     }
 
@@ -124,19 +133,25 @@ impl Counts {
         requires radius { negsuc 0 ≤ℤ radius }
         ensures { result ≡ count_near self.now value (radius_units radius) }
     {
-        ball_sums_add_up();
-        add_over(&self.copies, Ball::new(value, self.width, radius))
+        let units = distances_within(self.width, radius);
+        count_within(&self.copies, &self.flips, value, units as usize)
     }
 
     /// Writes to each place of `out` how many copies there are of values nearer to `value` than that many
-    /// units: to place 0 those within the radius -1, to place 1 within 0, and so on. It reads each number
-    /// of the table once, and takes no memory.
+    /// units: to place 0 those within the radius -1, to place 1 within 0, and so on. It reads one number for
+    /// each value that is counted at a place, and takes no memory.
     pub fn levels(&self, value: u16, out: &mut [u32])
         requires in_width { value < 2 ^ self.now.width }
         ensures { AreLevels self.now value out.new }
     {
-        count_apart(&self.copies, value, out);
-        add_up(out);
+        count_rings(&self.copies, &self.flips, value, out);
+    }
+
+    /// Which values of the width are at each distance from one.
+    pub fn flips(&self) -> &Flips
+        ensures { result.now ≡ self.now.width }
+    {
+        &self.flips
     }
 }
 

@@ -1,56 +1,58 @@
-ghost use Rattle.std.specs.Prelude.{◌≡◌, ℕ, ◌+◌, ◌^◌, ◌<◌, ◌≤◌, length, sum, sum_by, take, All, EachIndex, slice_index};
-ghost use Rattle.ball_walk.specs.Balls.{value_distance};
-ghost use Rattle.hamming_model.specs.declared.limits.TheConstants.{ENTRIES_MOST, PART_WIDTH_MOST};
-ghost use Rattle.count_table.specs.Kept.{AreApart};
+ghost use Rattle.std.specs.Prelude.{◌≡◌, ◌^◌, ◌<◌, ◌≤◌, All, length, sum_by, slice_index};
+ghost use Rattle.std.specs.Int.RustNames.{bit_xor};
+ghost use Rattle.ball_walk.specs.Balls.{ring};
+ghost use Rattle.hamming_model.specs.declared.limits.TheConstants.{ENTRIES_MOST};
+ghost use Rattle.count_table.specs.Copies.{count_near, AreLevels};
+ghost use Rattle.count_table.specs.Kept.{AreKeptCopies, kept_copies};
 
-use ball_walk::{Ball, value_distance};
+use ball_walk::{Flips, flips_make_rings};
 
-// Writes to each place of `out` how many copies there are of values one unit nearer than that: to place 0
-// none, to place 1 the copies of the value itself.
-pub(crate) fn count_apart(copies: &[u32], value: u16, out: &mut [u32])
-    requires few { sum copies.now ≤ ENTRIES_MOST }
-    requires small { length copies.now ≤ 2 ^ PART_WIDTH_MOST }
-    ensures { AreApart copies.now value out.new }
+// Writes to each place of `out` how many copies there are of values nearer to `value` than that many units.
+pub(crate) fn count_rings(copies: &[u32], flips: &Flips, value: u16, out: &mut [u32])
+    requires { AreKeptCopies flips.now value copies.now }
+    ensures { AreLevels (kept_copies flips.now copies.now) value out.new }
 {
-    out.fill(0);
-    for (other, count) in copies.iter().enumerate() {
-        let units = distance(other, value) + 1;
-        if units < out.len() {
-            out[units] += *count;
-        }
+    if out.is_empty() {
+        return;
+    }
+    out[0] = 0;
+    for apart in 0..out.len() - 1 {
+        out[apart + 1] = out[apart] + count_ring(copies, flips, value, apart);
     }
 }
 
-// The copies of the values of a ball, added up.
-pub(crate) fn add_over(copies: &[u32], mut ball: Ball) -> u32
-    requires in_range { All (λ other. other < length copies.now) ball }
-    requires few { sum_by (slice_index copies.now) ball ≤ ENTRIES_MOST }
-    ensures { result ≡ sum_by (slice_index copies.now) ball }
+// The copies of the values nearer to `value` than so many units, added up.
+pub(crate) fn count_within(copies: &[u32], flips: &Flips, value: u16, units: usize) -> u32
+    requires { AreKeptCopies flips.now value copies.now }
+    ensures { result ≡ count_near (kept_copies flips.now copies.now) value units }
 {
     let mut count: u32 = 0;
-    while let Some(other) = ball.next() {
-        count += copies[usize::from(other)];
+    for apart in 0..units {
+        count += count_ring(copies, flips, value, apart);
     }
     count
 }
 
-// At how many binary digits two values differ.
-fn distance(other: usize, value: u16) -> usize
-    requires { other < 2 ^ PART_WIDTH_MOST }
-    ensures distance { result ≡ value_distance other value }
-    ensures few { result ≤ 16 }
+// The copies of the values at one distance from `value`, added up.
+fn count_ring(copies: &[u32], flips: &Flips, value: u16, apart: usize) -> u32
+    requires { AreKeptCopies flips.now value copies.now }
+    ensures { result ≡ sum_by (slice_index copies.now) (ring value flips.now apart) }
 {
-    value_distance(other as u16, value) as usize
+    flips_make_rings();
+    count_flipped(copies, value, flips.ring(apart))
 }
 
-// Adds to each number those before it.
-pub(crate) fn add_up(out: &mut [u32])
-    requires { sum out.old ≤ ENTRIES_MOST }
-    ensures { EachIndex out.new (λ at. slice_index out.new at ≡ sum (take (at + 1) out.old)) }
+// The copies of the values that a value becomes by these flips, added up.
+fn count_flipped(copies: &[u32], value: u16, flips: &[u16]) -> u32
+    requires in_range { All (λ flip. bit_xor value flip < length copies.now) flips.now }
+    requires few { sum_by (λ flip. slice_index copies.now (bit_xor value flip)) flips.now
+        ≤ ENTRIES_MOST }
+    ensures { result
+        ≡ sum_by (λ flip. slice_index copies.now (bit_xor value flip)) flips.now }
 {
-    let mut so_far: u32 = 0;
-    for count in out.iter_mut() {
-        so_far += *count;
-        *count = so_far;
+    let mut count: u32 = 0;
+    for flip in flips {
+        count += copies[usize::from(value ^ *flip)];
     }
+    count
 }

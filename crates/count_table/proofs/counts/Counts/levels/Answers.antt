@@ -1,26 +1,18 @@
-use Rattle.std.proofs.Common.{◌≡◌, ℕ, ◌^◌, List, length, sum, ◌∙◌, ap, arith}
-use Rattle.count_table.specs.Copies.{CopyTable, count_near}
-use Rattle.count_table.proofs.LevelLemmas.{few_values, levels_sum, levels_le}
+use Rattle.std.proofs.Common.{◌^◌, ◌<◌, ◌∙◌, sym, subst}
+use Rattle.std.specs.Arc.{arc_value}
+use Rattle.count_table.specs.Copies.{CopyTable, AreLevels}
+use Rattle.count_table.proofs.LevelLemmas.{kept_read, table_read}
 use Rattle.count_table.proofs.counts.Counts.levels.Goals as goal
 
-pub count_apart-requires-clause-small : goal.count_apart-requires-clause-small
-count_apart-requires-clause-small c =
-    let few = few_values c.self.inside.width c.self.invariant.small_width in
-    omega (arith, ap length c.deref.ensures.value, c.self.invariant.each_value)
-
-pub add_up-requires : goal.add_up-requires
-add_up-requires c =
-    let long : length c.deref.result.now ≡ 2 ^ c.self.inside.width = ap length c.deref.ensures.value ∙ c.self.invariant.each_value in
-    let few = levels_le c.self.inside.width c.args.value c.deref.result.now c.count_apart.new.out long c.count_apart.ensures in
-    let same : sum c.deref.result.now ≡ sum c.self.inside.copies.items = ap sum c.deref.ensures.value in
-    omega arith
+pub count_rings-requires : goal.count_rings-requires
+count_rings-requires c =
+    let P : CopyTable → Type 0 = λ table. c.args.value < 2 ^ table.width in
+    kept_read c.self.inside.width (arc_value c.self.inside.flips) c.args.value c.self.inside.total c.self.inside.copies.items c.deref.result.now
+    c.deref-2.result.now c.self.invariant (subst P (sym c.self.view_is) c.requires.in_width) c.deref.ensures.value c.deref-2.ensures
 
 pub returns : goal.returns
-returns c = λ units short.
-    let long : length c.deref.result.now ≡ 2 ^ c.self.inside.width = ap length c.deref.ensures.value ∙ c.self.invariant.each_value in
-    let kept : List ℕ → ℕ = λ copies. count_near (record { width = c.self.inside.width; copies = copies }) c.args.value units in
-    let seen : CopyTable → ℕ = λ table. count_near table c.args.value units in
-    c.add_up.ensures units short
-    ∙ levels_sum c.self.inside.width c.args.value c.deref.result.now c.count_apart.new.out long c.count_apart.ensures units (omega arith)
-    ∙ ap kept c.deref.ensures.value
-    ∙ ap seen c.self.view_is
+returns c =
+    let P : CopyTable → Type 0 = λ table. AreLevels table c.args.value c.count_rings.new.out in
+    let same = table_read c.self.inside.width (arc_value c.self.inside.flips) c.self.inside.total c.self.inside.copies.items c.deref.result.now
+    c.deref-2.result.now c.self.invariant c.deref.ensures.value c.deref-2.ensures in
+    subst P (same ∙ c.self.view_is) c.count_rings.ensures
