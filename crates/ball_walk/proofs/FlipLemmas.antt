@@ -53,7 +53,7 @@ flips_more width apart =
     let one = append-nil (flips width apart) in
     rw (at, one) refl)
 
-flips_parted : (width apart more : ℕ)
+pub flips_parted : (width apart more : ℕ)
     → flips_below width (apart + suc more) ≡ flips_below width apart ++ (flips width apart ++ flat_map (flips width) (range_with_len (apart + 1) more))
 unfolding flips_below
 flips_parted width apart more =

@@ -16,3 +16,8 @@ flipped_ring value width apart = map (bit_xor value) (flips width apart)
 -- the values that a value becomes where fewer than so many of its digits are flipped
 unfoldable pub flipped_ball : ℕ → ℕ → ℕ → List ℕ
 flipped_ball value width units = flat_map (flipped_ring value width) (range_with_len 0 units)
+
+-- values still to come, and the width of all of them
+pub record FlippedLeft : Type 0 where
+  pub width : ℕ
+  pub values : List ℕ

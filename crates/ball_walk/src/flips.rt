@@ -1,6 +1,7 @@
-ghost use Rattle.std.specs.Prelude.{◌≡◌, ◌-◌, ◌^◌, ◌<◌, ◌≤◌, ◌++◌, All, IfOk, OnOk, length, take, drop};
+ghost use Rattle.std.specs.Prelude.{◌≡◌, ◌+◌, ◌-◌, ◌^◌, ◌<◌, ◌≤◌, ◌++◌, All, IfOk, OnOk, length, take, drop};
 ghost use Rattle.hamming_model.specs.declared.limits.TheConstants.{PART_WIDTH_MOST};
 ghost use Rattle.ball_walk.specs.Flips.{flips};
+ghost use Rattle.ball_walk.specs.FlipTable.{all_flips, flips_below};
 
 use crate::ball::bound_of;
 use read_meter::NoMemory;
@@ -53,6 +54,14 @@ impl Flips {
         })
     }
 
+    /// The width.
+    pub fn width(&self) -> u32
+        ensures width { result ≡ self.now }
+        ensures small { result ≤ PART_WIDTH_MOST }
+    {
+        self.width
+    }
+
     /// The numbers with just so many ones, ascending: none where that is more than the width.
     pub fn ring(&self, apart: usize) -> &[u16]
         ensures flips { result.now ≡ flips self.now apart }
@@ -63,6 +72,21 @@ impl Flips {
         }
         let starts = self.starts.as_slice();
         between(self.numbers.as_slice(), starts[apart], starts[apart + 1])
+    }
+
+    // All numbers, by how many ones they have.
+    pub(crate) fn numbers(&self) -> &[u16]
+        ensures { result.now ≡ all_flips self.now }
+    {
+        self.numbers.as_slice()
+    }
+
+    // How many numbers have fewer ones than so many.
+    pub(crate) fn start(&self, apart: u32) -> usize
+        requires { apart ≤ self.now + 1 }
+        ensures { result ≡ length (flips_below self.now apart) }
+    {
+        self.starts.as_slice()[apart as usize]
     }
 }
 

@@ -5,12 +5,14 @@
 
 mod ball;
 mod distance;
+mod flipped;
 mod flips;
 mod laws;
 mod next;
 
 pub use ball::{Ball, distances_within};
 pub use distance::value_distance;
+pub use flipped::Flipped;
 pub use flips::Flips;
 pub use laws::{
     ball_has_each_once, ball_is_in_order, ball_sums_add_up, distance_counts_digits,
