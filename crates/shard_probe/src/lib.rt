@@ -2,7 +2,6 @@
 //! Each posting is read for one step; the counts round the query are those of the version's rows.
 #![tactic(auto)]
 
-mod part_masks;
 mod part_values;
 mod probe;
 mod radius_counts;
