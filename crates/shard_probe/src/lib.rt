@@ -4,6 +4,7 @@
 
 mod part_values;
 mod probe;
+mod probe_counts;
 mod radius_counts;
 
 pub use probe::Probe;
