@@ -1,4 +1,4 @@
-ghost use Rattle.std.specs.Prelude.{◌≤◌};
+ghost use Rattle.std.specs.Prelude.{◌<◌, ◌≤◌, length};
 ghost use Rattle.part_layout.specs.Laid.{IsCodeSize};
 
 use crate::rows::{field, number};
@@ -311,4 +311,68 @@ fn parts_of_eight_positions_have_the_bytes_as_values(rt: HostRuntime) {
     assert!(rt; is_value(&layout, &code, 7, 0xef));
     assert!(rt; is_value(&layout, &code, 8, 0xfe));
     assert!(rt; is_value(&layout, &code, 15, 0x10));
+}
+
+// The value of a code at a part, its bits read one by one.
+fn value_of_bits(layout: &Layout, code: &Code<4>, part: u32) -> u16
+    requires part { part < length layout.now.parts }
+    requires room { layout.now.bits ≤ 256 }
+{
+    let mut value = 0;
+    for place in 0..layout.width(part) {
+        value = value << 1 | u16::from(code.bit(layout.position(part, place)));
+    }
+    value
+}
+
+// Whether each part of a code has the value of its bits.
+fn has_values_of_bits(layout: &Layout, code: &Code<4>) -> bool
+    requires { layout.now.bits ≤ 256 }
+{
+    for part in 0..layout.parts() {
+        if layout.value(code, part) != value_of_bits(layout, code, part) {
+            return false;
+        }
+    }
+    true
+}
+
+// The digits of a code of 256 bits.
+static DIGITS: &[u8] = b"0123456789abcdeffedcba98765432100f1e2d3c4b5a69788796a5b4c3d2e1f0";
+
+// Bits, and texts of layouts with parts in one word of a code, parts that go from one word to the next, and parts that
+// don't run on.
+static VALUED: &str = "\
+8|0,1,2,3,4,5,6,7
+8|0,1,2/3,4/7,6,5
+64|0,1,2,3,4,5,6,7,8,9,10,11/12,13,14,15,16,17,18,19,20,21,22/24,23,25,26,27,28,29,30,31/63,62,61,60,59,58,57,56,55,54/32,33,34,35,36,37,38,39,40,41,42,43/44,45,46,47,48,49,50,51,52,53";
+
+// Bits, and numbers of parts.
+static CUT: [(u32, u32); 7] = [
+    (8, 8),
+    (64, 6),
+    (72, 6),
+    (128, 11),
+    (192, 64),
+    (256, 22),
+    (256, 37),
+];
+
+#[test]
+fn a_part_has_the_value_of_its_bits_in_one_word_and_across_two(rt: HostRuntime) {
+    for &(bits, parts) in &CUT {
+        check_bits(&rt, bits);
+        let layout = Layout::contiguous(rt.alloc(), bits, parts).expect(&rt, "a layout");
+        let code = Code::from_hex(bits, &DIGITS[..bits as usize / 4]).expect(&rt, "a code");
+        assert!(rt; has_values_of_bits(&layout, &code), "{bits} bits, {parts} parts");
+    }
+    for line in VALUED.lines() {
+        let mut row = line.split('|');
+        let bits = number(&rt, &mut row);
+        check_bits(&rt, bits);
+        let text = field(&rt, &mut row);
+        let layout = Layout::parse(rt.alloc(), bits, text.as_bytes()).expect(&rt, "a layout");
+        let code = Code::from_hex(bits, &DIGITS[..bits as usize / 4]).expect(&rt, "a code");
+        assert!(rt; has_values_of_bits(&layout, &code), "{line}");
+    }
 }

@@ -136,6 +136,11 @@ kept_at bits parts laid part own seen below is =
     let inside : part < length parts = omega arith in
     sym (ap (λ (l : Laid). part_at l part) seen) ∙ sym (own_part parts part own inside is)
 
+-- its positions, as they are read
+pub shown_part : (bits : ℕ) (parts : List (Vec ℕ)) (laid : Laid) (part : ℕ) (own : Vec ℕ) (positions : List ℕ) → laid_of bits parts ≡ laid
+    → part < length laid.parts → own ≡ get_or parts part own → positions ≡ own.items → positions ≡ part_at laid part
+shown_part bits parts laid part own positions seen below is read = read ∙ sym (kept_at bits parts laid part own seen below is)
+
 -- the width of a part, as it is read
 pub width_of_part : (bits : ℕ) (parts : List (Vec ℕ)) (laid : Laid) (part number : ℕ) (own : Vec ℕ) → laid_of bits parts ≡ laid → IsLaid laid
     → part < length laid.parts → own ≡ get_or parts part own → number ≡ length own.items

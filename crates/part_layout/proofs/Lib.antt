@@ -9,3 +9,4 @@ pub mod ReadBackLemmas
 pub mod RunLemmas
 pub mod SyntaxLemmas
 pub mod TextLemmas
+pub mod WordRunLemmas

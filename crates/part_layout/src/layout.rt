@@ -15,6 +15,7 @@ use crate::layout_text::TEXT;
 use crate::pieces::{contiguous_parts, first_width, put_parts, value_at};
 use crate::spelling::parts_of;
 use crate::syntax::syntax_fault;
+use crate::word_runs::{run_value, runs_of};
 use crate::{LayoutFault, LayoutText};
 use gph_codes::Code;
 use hamming_model::{PART_WIDTH_MOST, PARTS_MOST};
@@ -29,11 +30,13 @@ const PARTS: u32 = PARTS_MOST as u32;
 pub struct Layout {
     bits: u32,
     parts: Vec<Vec<u16>>,
+    // for each part its first position, where its positions run on in one word
+    runs: Vec<Option<u16>>,
 }
 
 impl Model for Layout {
-    ghost use Rattle.part_layout.specs.Kept.{laid_of};
-    ghost use Rattle.part_layout.specs.Laid.{IsLaid, Laid, laid_code};
+    ghost use Rattle.part_layout.specs.Kept.{IsKept, laid_of};
+    ghost use Rattle.part_layout.specs.Laid.{Laid, laid_code};
 
     ghost Value = { Laid };
 
@@ -41,7 +44,7 @@ impl Model for Layout {
 
     ghost view = { λ kept. laid_of kept.bits kept.parts.items };
 
-    ghost invariant = { λ kept. IsLaid (laid_of kept.bits kept.parts.items) };
+    ghost invariant = { λ kept. IsKept (laid_of kept.bits kept.parts.items) kept.runs.items };
 }
 
 impl Layout {
@@ -77,7 +80,14 @@ impl Layout {
         let Ok(kept) = contiguous_parts(alloc, bits, parts) else {
             return Err(LayoutFault::NoMemory);
         };
-        Ok(Layout { bits, parts: kept })
+        let Ok(runs) = runs_of(alloc, &kept) else {
+            return Err(LayoutFault::NoMemory);
+        };
+        Ok(Layout {
+            bits,
+            parts: kept,
+            runs,
+        })
     }
 
     /// The layout that a text spells: parts with '/' between each two, in a part positions with ',' between each two, each
@@ -114,7 +124,10 @@ impl Layout {
         let Ok(parts) = parts_of(alloc, text) else {
             return Err(LayoutFault::NoMemory);
         };
-        Ok(Layout { bits, parts })
+        let Ok(runs) = runs_of(alloc, &parts) else {
+            return Err(LayoutFault::NoMemory);
+        };
+        Ok(Layout { bits, parts, runs })
     }
 
     /// The number of bits of the codes.
@@ -153,14 +166,19 @@ impl Layout {
         u32::from(self.parts[part as usize][place as usize])
     }
 
-    /// The value of a code at a part: the bits at the part's positions, the first the top one.
+    /// The value of a code at a part: the bits at the part's positions, the first the top one. Where the positions run on in
+    /// one word it takes two shifts, else a step for each position.
     pub fn value<const W: usize>(&self, code: &Code<W>, part: u32) -> u16
         requires in_layout { part < length self.now.parts }
         requires room { self.now.bits ≤ 64 * W }
         ensures value { IsValue W self.now code.now part result }
         ensures bound { result < 2 ^ length (part_at self.now part) }
     {
-        value_at(code, self.bits, self.parts[part as usize].as_slice())
+        let positions = self.parts[part as usize].as_slice();
+        match self.runs[part as usize] {
+            Some(first) => run_value(code, first, positions.len()),
+            None => value_at(code, self.bits, positions),
+        }
     }
 
     /// Writes the text at the front of a buffer and gives its length: the positions in decimal,

@@ -12,6 +12,7 @@ mod layout_text;
 mod pieces;
 mod spelling;
 mod syntax;
+mod word_runs;
 
 pub use config::{Config, INPUT_MOST};
 pub use laws::{bytes_of_layouts, text_of_layouts};

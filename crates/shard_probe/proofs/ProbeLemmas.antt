@@ -1,10 +1,9 @@
--- What a query on a version keeps: its values at the parts, and the masks of the parts.
+-- What a query on a version keeps: its values at the parts.
 use Rattle.std.proofs.Common.{◌≡◌, ℕ, ◌+◌, ◌-◌, ◌*◌, ◌^◌, ◌<◌, ◌≤◌, List, [], length, replicate}
-use Rattle.std.proofs.Common.{drop, set, get_or, sym, ap, ◌∙◌, subst, arith}
-use Rattle.std.proofs.lemmas.List.{drop_more, drop_all, get_or-map, length-append, length-replicate}
+use Rattle.std.proofs.Common.{get_or, sym, ap, ◌∙◌, subst, arith}
+use Rattle.std.proofs.lemmas.List.{get_or-map, length-append, length-replicate}
 use Rattle.hamming_model.specs.Codes.{IsCode, StandsFor}
 use Rattle.hamming_model.specs.Layouts.{part_value, part_distance}
-use Rattle.gph_codes.specs.Masks.{with_ones}
 use Rattle.threshold_model.specs.Finding.{part_distances}
 use Rattle.search_model.proofs.PostingLemmas.{value_below}
 use Rattle.shard_probe.specs.Kept.{AreValues}
@@ -18,20 +17,6 @@ value_small bits parts query values part value width is_code are_values less at 
     let below = value_below bits query positions is_code in
     let is : value ≡ part_value query positions = at ∙ are_values.each part less in
     subst (λ n. value < 2 ^ n) (sym wide) (subst (λ n. n < 2 ^ length positions) (sym is) below)
-
--- a mask with one position more has ones at what is left still to add
-pub mask_step : (mask new part all : List ℕ) (place position : ℕ) → place < length part
-    → position ≡ get_or part place 0 → new ≡ set mask position 1
-    → with_ones mask (drop place part) ≡ all → with_ones new (drop (place + 1) part) ≡ all
-mask_step mask new part all place position less at is before =
-    ap (λ one. with_ones one (drop (place + 1) part)) (is ∙ ap (λ p. set mask p 1) at)
-    ∙ sym (ap (with_ones mask) (drop_more part place 0 less)) ∙ before
-
--- a mask to which nothing is left to add
-pub mask_end : (mask part all : List ℕ) (place : ℕ) → length part ≤ place
-    → with_ones mask (drop place part) ≡ all → mask ≡ all
-mask_end mask part all place past before =
-    sym (ap (with_ones mask) (drop_all place part past)) ∙ before
 
 -- words that keep a code have all their positions
 pub stored_size : (words bits : ℕ) (stored code : List ℕ)

@@ -1,7 +1,6 @@
 -- What is true of the fields of a query on a version. No public clause cites this module.
-use Rattle.std.specs.Prelude.{◌≡◌, ℕ, ◌*◌, ◌<◌, List, [], length, slice_index, slice_index_or}
+use Rattle.std.specs.Prelude.{◌≡◌, ℕ, ◌<◌, List, [], length, slice_index, slice_index_or}
 use Rattle.hamming_model.specs.Layouts.{part_value}
-use Rattle.gph_codes.specs.Masks.{mask_of}
 use Rattle.shard_probe.specs.Probed.{Probed, IsProbed, parts_in, code_in}
 
 -- the values of a code at the parts
@@ -10,15 +9,7 @@ pub record AreValues (parts : List (List ℕ)) (query values : List ℕ) : Type 
   pub each : (part : ℕ) → part < length parts →
       slice_index values part ≡ part_value query (slice_index_or parts part [])
 
--- the masks of the parts, in codes of so many words
-pub record AreMasks (words : ℕ) (parts masks : List (List ℕ)) : Type 0 where
-  pub number : length masks ≡ length parts
-  pub each : (part : ℕ) → part < length parts →
-      slice_index_or masks part [] ≡ mask_of (64 * words) (slice_index_or parts part [])
-
--- a query on a version, its values at the parts, and their masks
-pub record IsProbe (words : ℕ) (probe : Probed) (values : List ℕ) (masks : List (List ℕ))
-    : Type 0 where
+-- a query on a version, and its values at the parts
+pub record IsProbe (words : ℕ) (probe : Probed) (values : List ℕ) : Type 0 where
   pub probed : IsProbed words probe
   pub values_are : AreValues (parts_in probe.version) (code_in probe.version probe.stored) values
-  pub masks_are : AreMasks words (parts_in probe.version) masks

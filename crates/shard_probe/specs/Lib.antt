@@ -1,3 +1,4 @@
 pub mod Counted
+pub mod CountsLaw
 pub mod Kept
 pub mod Probed

@@ -2,9 +2,9 @@
 //! Each posting is read for one step; the counts round the query are those of the version's rows.
 #![tactic(auto)]
 
-mod part_masks;
 mod part_values;
 mod probe;
+mod probe_counts;
 mod radius_counts;
 
 pub use probe::Probe;

@@ -11,7 +11,6 @@ ghost use Rattle.threshold_model.specs.Vectors.{units_of};
 ghost use Rattle.shard_probe.specs.Probed.{KeepsCode, KeepCodes, IsProbed, probed_of};
 ghost use Rattle.shard_probe.specs.Probed.{parts_in, part_in, code_in, counts_round, probed_list, rows_in};
 
-use crate::part_masks::masks_of;
 use crate::part_values::values_of;
 use ball_walk::Ball;
 use count_table::changes_follow_a_list;
@@ -23,14 +22,13 @@ use std::alloc::Global;
 use std::marker::Model;
 use std::sync::Arc;
 
-/// A query on a version, with the value of the query at each part and the mask of the part's
-/// positions. All that a search asks of the version goes through it.
+/// A query on a version, with the value of the query at each part. All that a search asks of the
+/// version goes through it.
 #[derive(Drop)]
 pub struct Probe<const W: usize> {
     version: Arc<Version<W>>,
     query: Code<W>,
     values: Vec<u16>,
-    masks: Vec<Code<W>>,
 }
 
 impl<const W: usize> Model for Probe<W> {
@@ -45,15 +43,15 @@ impl<const W: usize> Model for Probe<W> {
     ghost view = { λ kept. probed_of (arc_value kept.version) kept.query };
 
     ghost invariant = { λ kept. IsProbe W (probed_of (arc_value kept.version) kept.query)
-        kept.values.items kept.masks.items };
+        kept.values.items };
 }
 
 impl<const W: usize> Probe<W> {
-    /// Reads the values of the query and the positions of the parts.
+    /// Reads the values of the query.
     ///
     /// # Errors
     ///
-    /// `NoMemory` where there is no memory for a value and a mask for each part.
+    /// `NoMemory` where there is no memory for a value for each part.
     pub fn open(
         alloc: Global,
         version: Arc<Version<W>>,
@@ -64,12 +62,10 @@ impl<const W: usize> Probe<W> {
         ensures { IfOk result (λ probe. probe ≡ probed_of (arc_value version.entry) query.entry) }
     {
         let values = values_of(alloc, &version, &query)?;
-        let masks = masks_of(alloc, &version)?;
         Ok(Probe {
             version,
             query,
             values,
-            masks,
         })
     }
 
@@ -189,6 +185,6 @@ impl<const W: usize> Probe<W> {
     {
         stored_rows_search_alike();
         part_distance_is_under_the_mask();
-        dist_under(&self.masks[part], code, &self.query)
+        dist_under(self.version.mask(part as u32), code, &self.query)
     }
 }

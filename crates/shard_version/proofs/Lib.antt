@@ -8,3 +8,4 @@ mod SharedLemmas
 mod HeadLemmas
 mod EntryLemmas
 mod RelaidLemmas
+pub mod MaskLemmas

@@ -4,6 +4,7 @@
 
 mod keyed_rows;
 mod laws;
+mod masked_layout;
 mod part_table;
 mod places;
 mod prepared;

@@ -7,13 +7,15 @@ ghost use Rattle.hamming_model.specs.Codes.{StandsFor};
 ghost use Rattle.hamming_model.specs.History.{code_at};
 ghost use Rattle.entry_log.specs.Entries.{entry_of};
 ghost use Rattle.entry_log.specs.Meaning.{MeansEntry};
-ghost use Rattle.part_layout.specs.Laid.{IsLaid};
+ghost use Rattle.gph_codes.specs.Masks.{mask_of};
+ghost use Rattle.part_layout.specs.Laid.{IsLaid, part_at};
 ghost use Rattle.shard_version.specs.Contents.{IsVersion, FitsShard, HasRoomFor, after_entry, empty_of};
 ghost use Rattle.shard_version.specs.Kept.{next_with, with_added, with_deleted};
 ghost use Rattle.shard_version.specs.Relaid.{ArePartTables, in_layout};
 ghost use Rattle.shard_version.specs.Tables.{AreFirst, ArePostings, AreStored, HasTables, counts_of, table_at};
 
 use crate::keyed_rows::KeyedRows;
+use crate::masked_layout::MaskedLayout;
 use crate::part_table::PartTable;
 use crate::tables::{copies, empty_tables, insert_in_each, remove_from_each};
 use count_table::{Counts, changes_follow_a_list, counts_are_those_of_a_list};
@@ -33,7 +35,7 @@ pub struct Version<const W: usize> {
     shard: u32,
     shards: u32,
     at: u64,
-    layout: Arc<Layout>,
+    layout: Arc<MaskedLayout<W>>,
     alloc: Global,
     rows: KeyedRows<W>,
     // one for each part of the layout
@@ -59,7 +61,7 @@ impl<const W: usize> Version<W> {
     ///
     /// # Errors
     ///
-    /// `NoMemory` where there is no memory for the tables of each part.
+    /// `NoMemory` where there is no memory for the tables and the mask of each part.
     pub fn empty(
         alloc: Global,
         shard: u32,
@@ -77,11 +79,12 @@ impl<const W: usize> Version<W> {
         let parts = layout.parts();
         let tables = empty_tables(alloc, &layout, parts)?;
         let rows = KeyedRows::new(alloc)?;
+        let masked = MaskedLayout::shared(alloc, layout)?;
         Ok(Version {
             shard,
             shards,
             at: 0,
-            layout,
+            layout: masked,
             alloc,
             rows,
             tables,
@@ -116,7 +119,7 @@ impl<const W: usize> Version<W> {
     ///
     /// # Errors
     ///
-    /// `NoMemory` where there is no memory to share the rows.
+    /// `NoMemory` where there is no memory to share the rows, or for the mask of each part.
     pub fn in_layout(
         &self,
         layout: Arc<Layout>,
@@ -130,11 +133,12 @@ impl<const W: usize> Version<W> {
             version.contents ≡ in_layout self.now.contents (arc_value layout)) }
     {
         let same_rows = self.rows.copy()?;
+        let masked = MaskedLayout::shared(self.alloc, layout)?;
         Ok(Version {
             shard: self.shard,
             shards: self.shards,
             at: self.at,
-            layout,
+            layout: masked,
             alloc: self.alloc,
             rows: same_rows,
             tables,
@@ -195,7 +199,7 @@ impl<const W: usize> Version<W> {
     {
         changes_follow_a_list();
         counts_are_those_of_a_list();
-        insert_in_each(&mut self.tables, &self.layout, key, code)?;
+        insert_in_each(&mut self.tables, self.layout.layout(), key, code)?;
         self.rows.insert(key, code)?;
         self.at += 1;
         Ok(self)
@@ -209,7 +213,7 @@ impl<const W: usize> Version<W> {
     {
         changes_follow_a_list();
         let code = self.rows.remove(key)?;
-        remove_from_each(&mut self.tables, &self.layout, key, &code)?;
+        remove_from_each(&mut self.tables, self.layout.layout(), key, &code)?;
         self.at += 1;
         Ok(self)
     }
@@ -257,7 +261,15 @@ impl<const W: usize> Version<W> {
         ensures version { IsVersion self.now.contents }
         ensures tables { HasTables W self.now }
     {
-        &self.layout
+        self.layout.layout()
+    }
+
+    /// The code with ones at the positions of a part. It is made with the layout, and copies have it in common.
+    pub fn mask(&self, part: u32) -> &Code<W>
+        requires { part < length self.now.contents.layout.parts }
+        ensures { result.now ≡ mask_of (64 * W) (part_at self.now.contents.layout part) }
+    {
+        self.layout.mask(part)
     }
 
     /// The posting lists of a part: each row once, in the list of its code's value at the part.

@@ -13,13 +13,13 @@ use ball_walk::Ball;
 use gph_codes::Code;
 use hamming_model::Hit;
 use read_meter::{NoMemory, Steps};
-use shard_probe::{Probe, RadiusCounts};
+use shard_probe::Probe;
 use shard_version::Version;
 use std::alloc::Global;
 use std::marker::Model;
 use std::sync::Arc;
 use threshold_dp::{Scratch, Thresholds, allocate};
-use threshold_model::{least_is_at_most_the_greatest_count, vector_allows_tau_and_one_units};
+use threshold_model::least_is_at_most_the_greatest_count;
 
 /// A range query on a version: its threshold vector, the first of the cheapest, and what this costs.
 #[derive(Drop)]
@@ -45,8 +45,8 @@ impl<const W: usize> Model for Plan<W> {
 }
 
 impl<const W: usize> Plan<W> {
-    /// Finds the first of the cheapest threshold vectors. This takes memory for `tau + 2` counts for each
-    /// part, and the same again.
+    /// Finds the first of the cheapest threshold vectors. This takes memory for `tau + 2` picks for each part,
+    /// and for as many counts and costs of one part.
     ///
     /// # Errors
     ///
@@ -62,14 +62,12 @@ impl<const W: usize> Plan<W> {
         requires near { tau ≤ (arc_value version).contents.layout.bits }
         ensures { IfOk result (λ plan. PlansQuery (arc_value version.entry) query.entry tau plan) }
     {
-        vector_allows_tau_and_one_units();
         least_is_at_most_the_greatest_count();
         let probe = Probe::open(alloc, version, query)?;
         let parts = probe.parts();
-        let counts = RadiusCounts::of(alloc, &probe, tau)?;
         let mut scratch = Scratch::reserve(alloc, parts, tau)?;
         let mut thresholds = Thresholds::reserve(alloc, parts)?;
-        let least = allocate(&mut scratch, tau, parts, &counts, &mut thresholds);
+        let least = allocate(&mut scratch, tau, parts, &probe, &mut thresholds);
         Ok(Plan {
             probe,
             tau,

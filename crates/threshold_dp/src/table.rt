@@ -23,9 +23,7 @@ fn read_counts<C: PartCounts>(counts: &C, part: usize, asked: &mut [u32])
     ensures asked { AreAsked (C.counts counts.now) part (length asked.old) asked.new }
     ensures rises { NeverFallIn asked.new }
 {
-    for units in 0..asked.len() {
-        asked[units] = counts.count(part, units as i32 - 1);
-    }
+    counts.count_levels(part, asked);
 }
 
 // The fewest units of a part at which it is cheapest together with the parts behind it. Counts never

@@ -39,6 +39,9 @@ returns-in-Some-fault_in-clause-syntax c = λ at.
 pub returns-in_default-parts_of-clause-syntax : goal.returns-in_default-parts_of-clause-syntax
 returns-in_default-parts_of-clause-syntax c = λ at. syntax_apart c.args.text.now at (Err NoMemory) refl c.in_default.ensures
 
+pub returns-in_default-runs_of-clause-syntax : goal.returns-in_default-runs_of-clause-syntax
+returns-in_default-runs_of-clause-syntax c = λ at. syntax_apart c.args.text.now at (Err NoMemory) refl c.in_default.ensures
+
 pub returns-clause-syntax : goal.returns-clause-syntax
 returns-clause-syntax c = λ at. syntax_apart c.args.text.now at _ refl c.in_default.ensures
 
@@ -48,8 +51,12 @@ invariant_of-result c =
     let some = spelled_some c.args.text.now in
     let same = c.in-Ok.ensures ∙ left.1 in
     record {
-      allowed = c.requires;
-      layout = rw same (laid_of_faultless c.args.bits (spelled c.args.text.now) some.0 some.1 (search rules));
+      is_laid =
+          record {
+            allowed = c.requires;
+            layout = rw same (laid_of_faultless c.args.bits (spelled c.args.text.now) some.0 some.1 (search rules));
+          };
+      runs_are = search rules;
     }
 
 pub returns-in-Some-clause-memory : goal.returns-in-Some-clause-memory

@@ -10,7 +10,7 @@ use Rattle.shard_probe.proofs.probe.Probe.levels.Goals as goal
 
 pub levels-requires : goal.levels-requires
 levels-requires g c =
-    let probe = subst (λ p. IsProbe g.row.W p c.self.inside.values.items c.self.inside.masks.items) c.self.view_is c.self.invariant in
+    let probe = subst (λ p. IsProbe g.row.W p c.self.inside.values.items) c.self.view_is c.self.invariant in
     let number = probe.values_are.number in
     let less = c.requires in
     let version = c.args.self.now.version in
@@ -26,7 +26,7 @@ levels-requires g c =
 
 pub returns : goal.returns
 returns g c = λ units less.
-    let probe = subst (λ p. IsProbe g.row.W p c.self.inside.values.items c.self.inside.masks.items) c.self.view_is c.self.invariant in
+    let probe = subst (λ p. IsProbe g.row.W p c.self.inside.values.items) c.self.view_is c.self.invariant in
     let number = probe.values_are.number in
     let within = c.requires in
     let version = c.args.self.now.version in

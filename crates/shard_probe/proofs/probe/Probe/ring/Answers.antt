@@ -8,7 +8,7 @@ use Rattle.shard_probe.proofs.probe.Probe.ring.Goals as goal
 
 pub ring-requires-clause-in_width : goal.ring-requires-clause-in_width
 ring-requires-clause-in_width g c =
-    let probe = subst (λ p. IsProbe g.row.W p c.self.inside.values.items c.self.inside.masks.items) c.self.view_is c.self.invariant in
+    let probe = subst (λ p. IsProbe g.row.W p c.self.inside.values.items) c.self.view_is c.self.invariant in
     let number = probe.values_are.number in
     let less = c.requires.part in
     let version = c.args.self.now.version in

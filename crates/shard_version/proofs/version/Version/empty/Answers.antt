@@ -12,7 +12,7 @@ invariant_of-result g c =
     let laid : IsLaid layout = subst (λ (one : Laid). IsLaid one) c.deref.ensures c.parts-parts.ensures.layout in
     let empty : AreEmpty layout c.in_ok-tables.tables.items (length layout.parts) = subst
     (λ (one : Laid). AreEmpty one c.in_ok-tables.tables.items (length one.parts)) c.deref-2.ensures c.in_ok-tables.ensures in
-    rw c.in_ok-rows.ensures
+    rw (c.in_ok-rows.ensures, c.in_ok-masked.ensures)
     (kept_empty c.args.shard c.args.shards layout c.in_ok-tables.tables.items laid c.requires.own_shard c.requires.few_shards
     c.requires.few_words c.requires.room
     c.changes_follow_a_list.ensures.empty empty)

@@ -1,7 +1,7 @@
 use Rattle.std.proofs.Common.{◌≡◌, ◌*◌, drop}
 use Rattle.gph_codes.specs.Masks.{mask_of, with_ones}
 use Rattle.part_layout.specs.Laid.{part_at}
-use Rattle.shard_probe.proofs.part_masks.mask_of.Given as goal
+use Rattle.shard_version.proofs.masked_layout.mask_of.Given as goal
 
 abbrev pub invariant-loop-place : goal.invariant-loop-place
 invariant-loop-place g l =

@@ -1,8 +1,8 @@
 use Rattle.std.proofs.Common.{◌*◌, arith}
 use Rattle.gph_codes.specs.Masks.{mask_of}
 use Rattle.part_layout.specs.Laid.{part_at}
-use Rattle.shard_probe.proofs.ProbeLemmas.{mask_step, mask_end}
-use Rattle.shard_probe.proofs.part_masks.mask_of.Goals as goal
+use Rattle.shard_version.proofs.MaskLemmas.{mask_step, mask_end}
+use Rattle.shard_version.proofs.masked_layout.mask_of.Goals as goal
 
 pub loop-place-preserved : goal.loop-place-preserved
 loop-place-preserved g c =
