@@ -364,7 +364,10 @@ fn a_part_has_the_value_of_its_bits_in_one_word_and_across_two(rt: HostRuntime) 
         check_bits(&rt, bits);
         let layout = Layout::contiguous(rt.alloc(), bits, parts).expect(&rt, "a layout");
         let code = Code::from_hex(bits, &DIGITS[..bits as usize / 4]).expect(&rt, "a code");
-        assert!(rt; has_values_of_bits(&layout, &code), "{bits} bits, {parts} parts");
+        assert!(rt;
+            has_values_of_bits(&layout, &code),
+            "{bits} bits, {parts} parts"
+        );
     }
     for line in VALUED.lines() {
         let mut row = line.split('|');
