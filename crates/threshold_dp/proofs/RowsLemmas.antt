@@ -1,13 +1,13 @@
 -- A row written into the rows of picks, and a split read out of them.
 use Rattle.std.proofs.Common.{◌≡◌, ℤ, ℕ, zero, suc, ◌+◌, ◌-◌, ◌*◌, ◌<◌, ◌≤◌, List, [], ◌∷◌, ◌++◌, length, take, get_or, map}
-use Rattle.std.proofs.Common.{drop, refl, sym, ap, ◌∙◌, subst, arith}
+use Rattle.std.proofs.Common.{drop, set, refl, sym, ap, ◌∙◌, subst, arith}
 use Rattle.std.proofs.Math.Nat.{mul_comm}
-use Rattle.std.proofs.lemmas.List.{length-take-le, length-drop, length-append, take_at, drop_at, drop-drop, get_or-take, get_or-drop, append_assoc}
+use Rattle.std.proofs.lemmas.List.{length-take-le, length-drop, length-append, take_at, drop_at, drop-drop, get_or-take, get_or-drop, get_or-set_same, drop-set-lt, append_assoc}
 use Rattle.std.proofs.lemmas.Nat.{mul-add-lt}
 use borrow.Rule.Slice.PartMut.{put_mid, post_of}
-use Rattle.threshold_model.specs.Splits.{units_total, threshold_of}
-use Rattle.threshold_dp.specs.Table.{pick_rows, follow, AreAsked, IsRowFrom, IsLastRow, IsSolved}
-use Rattle.threshold_dp.proofs.TableLemmas.{solved_last, solved_more}
+use Rattle.threshold_model.specs.Splits.{units_total, split_cost, threshold_of, IsBest}
+use Rattle.threshold_dp.specs.Table.{pick_rows, follow, joint_cost, AreAsked, IsFirstLeast, IsRowFrom, IsLastRow, IsSolved}
+use Rattle.threshold_dp.proofs.TableLemmas.{best_more, same_first, solved_last, solved_more}
 
 -- a place in a row
 pub place_below : (part parts width at : ℕ) → part < parts → at < width → part * width + at < parts * width
@@ -122,6 +122,40 @@ from_first count width parts part picks costs none solved =
     subst (λ n. IsSolved count n (pick_rows width parts picks) costs width) none
     (subst (λ n. IsSolved count part (pick_rows width n picks) costs width) all
     (subst (λ n. IsSolved count part (pick_rows width (parts - part) (drop n picks)) costs width) start solved))
+
+-- the first part is solved for some units alone, in front of parts that are solved
+module _ (count : ℕ → ℕ → ℕ) (width parts units pick : ℕ) (asked costs picks : List ℕ) (less : units < width) (wide : width ≤ length picks)
+    (asks : AreAsked count 0 width asked) (solved : IsSolved count 1 (pick_rows width parts (drop (1 * width) picks)) costs width)
+    (first : IsFirstLeast (joint_cost asked costs units) units pick) where
+  abbrev others : List (List ℕ)
+  others = pick_rows width parts (drop (1 * width) picks)
+
+  first_split : follow (pick_rows width (suc parts) (set picks units pick)) units ≡ pick ∷ follow others (units - pick)
+  first_split =
+      let once : width ≡ 1 * width = omega arith in
+      let there : get_or (take width (set picks units pick)) units 0 ≡ pick =
+      get_or-take width (set picks units pick) units 0 less ∙ get_or-set_same picks units pick 0 (omega arith) in
+      let kept : drop width (set picks units pick) ≡ drop (1 * width) picks =
+      drop-set-lt width picks units pick less ∙ ap (λ n. drop n picks) once in
+      ap (λ n. n ∷ follow (pick_rows width parts (drop width (set picks units pick))) (units - n)) there
+      ∙ ap (λ xs. pick ∷ follow (pick_rows width parts xs) (units - pick)) kept
+
+  pub first_best : IsBest count 0 (suc parts) units (follow (pick_rows width (suc parts) (set picks units pick)) units)
+  first_best =
+      let joint : ℕ → ℕ = λ x. count 0 x + split_cost count 1 (follow others (units - x)) in
+      let agree : (x : ℕ) → x ≤ units → joint_cost asked costs units x ≡ joint x =
+      (λ x le. omega (arith, asks.counts x (omega arith), solved.cost (units - x) (omega arith))) in
+      let best = best_more count 0 (length others) units pick (follow others)
+      (λ left le. solved.best left (omega arith)) (same_first (joint_cost asked costs units) joint units pick agree first) in
+      subst (λ n. IsBest count 0 (suc n) units (follow (pick_rows width (suc parts) (set picks units pick)) units)) (rows_number width parts (drop (1 * width) picks))
+      (subst (IsBest count 0 (suc (length others)) units) (sym first_split) best)
+
+  pub first_cost : joint_cost asked costs units pick ≡ split_cost count 0 (follow (pick_rows width (suc parts) (set picks units pick)) units)
+  first_cost =
+      let within = first.within in
+      let here : joint_cost asked costs units pick ≡ split_cost count 0 (pick ∷ follow others (units - pick)) =
+      omega (arith, asks.counts pick (omega arith), solved.cost (units - pick) (omega arith)) in
+      here ∙ ap (split_cost count 0) (sym first_split)
 
 -- one more entry is read out
 module _ (picks : List ℕ) (width parts part left pick taken : ℕ) (less : part < parts) (inside : left < width)

@@ -1,6 +1,6 @@
 // The table of the allocation, filled from the last part to the first.
 
-ghost use Rattle.std.specs.Prelude.{◌≡◌, ℕ, ◌+◌, ◌-◌, ◌*◌, ◌^◌, ◌<◌, ◌≤◌, length, map, slice_index};
+ghost use Rattle.std.specs.Prelude.{◌≡◌, ℕ, ◌+◌, ◌-◌, ◌*◌, ◌^◌, ◌<◌, ◌≤◌, drop, length, map, slice_index};
 ghost use Rattle.hamming_model.specs.declared.limits.TheConstants.{PARTS_MOST};
 ghost use Rattle.threshold_model.specs.Splits.{threshold_of, units_total, split_cost, IsBest};
 ghost use Rattle.threshold_dp.specs.Table.{AreAsked, IsFirstLeast, NeverFallIn, joint_cost};
@@ -91,6 +91,39 @@ fn add_last_part(asked: &[u32], costs: &mut [u64], picks: &mut [u16])
     }
 }
 
+// Solves the parts from the last one to a first one, for all units below the width of the counts.
+fn solve_from<C: PartCounts>(
+    counts: &C,
+    first: usize,
+    parts: usize,
+    asked: &mut [u32],
+    costs: &mut [u64],
+    picks: &mut [u16],
+)
+    requires some { first < parts }
+    requires few { parts ≤ PARTS_MOST }
+    requires counted { parts ≤ C.parts counts.now }
+    requires wide { 0 < length asked.old }
+    requires narrow { length asked.old ≤ 514 }
+    requires costs { length costs.old ≡ length asked.old }
+    requires room { parts * length asked.old ≤ length picks.old }
+    ensures solved { let width = length asked.old in
+        IsSolved (C.counts counts.now) first
+        (pick_rows width (parts - first) (drop (first * width) picks.new)) costs.new width }
+{
+    let width = asked.len();
+    let mut part = parts - 1;
+    let last = part * width;
+    read_counts(counts, part, asked);
+    add_last_part(asked, costs, &mut picks[last..last + width]);
+    while part > first {
+        part -= 1;
+        let from = part * width;
+        read_counts(counts, part, asked);
+        add_part(asked, costs, &mut picks[from..from + width]);
+    }
+}
+
 // Solves so many parts from the last one to the first, for all units below the width of the counts.
 pub(crate) fn solve_parts<C: PartCounts>(
     counts: &C,
@@ -109,20 +142,45 @@ pub(crate) fn solve_parts<C: PartCounts>(
     ensures solved { let width = length asked.old in
         IsSolved (C.counts counts.now) 0 (pick_rows width parts picks.new) costs.new width }
 {
-    let width = asked.len();
-    let mut part = parts - 1;
-    let last = part * width;
-    read_counts(counts, part, asked);
-    add_last_part(asked, costs, &mut picks[last..last + width]);
-    while part > 0 {
-        part -= 1;
-        let from = part * width;
-        read_counts(counts, part, asked);
-        add_part(asked, costs, &mut picks[from..from + width]);
-    }
+    solve_from(counts, 0, parts, asked, costs, picks);
 }
 
-// Solves so many parts for up to tau + 1 units, and answers the least cost of exactly so many.
+// Solves so many parts for exactly as many units as there are counts below the last, of the first part for these alone,
+// and answers their least cost.
+fn solve_one<C: PartCounts>(
+    counts: &C,
+    parts: usize,
+    asked: &mut [u32],
+    costs: &mut [u64],
+    picks: &mut [u16],
+) -> u64
+    requires some { 0 < parts }
+    requires few { parts ≤ PARTS_MOST }
+    requires counted { parts ≤ C.parts counts.now }
+    requires wide { 0 < length asked.old }
+    requires narrow { length asked.old ≤ 514 }
+    requires costs { length costs.old ≡ length asked.old }
+    requires room { parts * length asked.old ≤ length picks.old }
+    ensures best { let width = length asked.old in
+        let split = follow (pick_rows width parts picks.new) (width - 1) in
+        IsBest (C.counts counts.now) 0 parts (width - 1) split }
+    ensures cost { let width = length asked.old in
+        let split = follow (pick_rows width parts picks.new) (width - 1) in
+        result ≡ split_cost (C.counts counts.now) 0 split }
+{
+    let units = asked.len() - 1;
+    if parts == 1 {
+        solve_parts(counts, parts, asked, costs, picks);
+        return costs[units];
+    }
+    solve_from(counts, 1, parts, asked, costs, picks);
+    read_counts(counts, 0, asked);
+    let pick = cheapest_units(asked, costs, units);
+    picks[units] = pick.units as u16;
+    pick.cost
+}
+
+// Solves so many parts for tau + 1 units, and answers the least cost of exactly so many.
 pub(crate) fn solve<C: PartCounts>(
     counts: &C,
     tau: u32,
@@ -144,14 +202,13 @@ pub(crate) fn solve<C: PartCounts>(
         result ≡ split_cost (C.counts counts.now) 0 split }
 {
     let width = tau as usize + 2;
-    solve_parts(
+    solve_one(
         counts,
         parts,
         &mut asked[..width],
         &mut costs[..width],
         picks,
-    );
-    costs[width - 1]
+    )
 }
 
 // Reads the split of so many units out of the rows of so many parts.
