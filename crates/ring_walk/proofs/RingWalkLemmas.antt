@@ -1,12 +1,11 @@
 -- Which rows of a ring are new, and the steps of a walk over it.
 use Rattle.std.proofs.Common.{◌≡◌, ℕ, zero, suc, ◌+◌, ◌-◌, ◌<◌, ◌≤◌, ◌==◌, min, nat_lt, Bool, true, false, cond, List, [], ◌∷◌, ◌++◌}
-use Rattle.std.proofs.Common.{length, replicate, map, filter, take, drop, get_or, sum, sum_by, refl, sym, ap, ◌∙◌, subst, arith}
+use Rattle.std.proofs.Common.{length, replicate, take, drop, get_or, sum, sum_by, refl, sym, ap, ◌∙◌, subst, arith}
 use Rattle.std.specs.Prelude.{◌||◌, not, Some, None}
-use Rattle.std.specs.Option.{option_to_list}
 use Rattle.std.specs.Prelude.{All, ◌^◌}
 use Rattle.std.proofs.lemmas.List.Elements.{All-head, All-tail}
 use Rattle.std.specs.List.{flat_map}
-use Rattle.std.proofs.lemmas.List.{drop_more, drop_all, get_or-take, get_or-map, length-map, length-set, length-take-le}
+use Rattle.std.proofs.lemmas.List.{drop_more, drop_all, get_or-map, length-map, length-set}
 use Rattle.std.proofs.lemmas.List.{length-replicate, length-append, append_assoc}
 use Rattle.std.proofs.lemmas.List.Sums.{sum_by-cons}
 use Rattle.std.proofs.lemmas.Bool.{ne_eqb}
@@ -203,11 +202,11 @@ module _ (words : ℕ) (p : NearPlanned) (plan : IsNearPlanned words p) (old : R
         (plan.probed.tables.each part (omega (arith, units_size, cheapest.within))).lists in
         subst (λ rows. HasSame rows (rows_apart (near_rows p) (near_part p part) (near_query p) apart)) (sym rows_are) (record {
           sums = λ f.
-            sum_flat_map f (near_list p part) (flipped_ring value size apart)
-            ∙ flipped_sum (λ v. sum_by f (near_list p part v)) value size apart
-            (value_below (near_bits p) (near_query p) (near_part p part) plan.probed.query.is_code)
-            ∙ sym (sum_flat_map f (near_list p part) (ring value size apart))
-            ∙ read.sums f;
+              sum_flat_map f (near_list p part) (flipped_ring value size apart)
+              ∙ flipped_sum (λ v. sum_by f (near_list p part v)) value size apart
+              (value_below (near_bits p) (near_query p) (near_part p part) plan.probed.query.is_code)
+              ∙ sym (sum_flat_map f (near_list p part) (ring value size apart))
+              ∙ read.sums f;
         })
 
     pub ring_begins : BeginsRing p old

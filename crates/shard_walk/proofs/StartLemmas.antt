@@ -57,9 +57,9 @@ module _ (flipped : FlipsAddUp) (bits : ℕ) (query : List ℕ) (is_code : IsCod
         let value = part_value query positions in
         record {
           sums = λ f.
-            sum_flat_map f (lists number) (flipped_ball value (length positions) (units_of t))
-            ∙ flipped (λ v. sum_by f (lists number v)) value (length positions) (units_of t) (value_below bits query positions is_code)
-            ∙ sym (sum_flat_map f (lists number) (ball value (length positions) (units_of t)));
+              sum_flat_map f (lists number) (flipped_ball value (length positions) (units_of t))
+              ∙ flipped (λ v. sum_by f (lists number v)) value (length positions) (units_of t) (value_below bits query positions is_code)
+              ∙ sym (sum_flat_map f (lists number) (ball value (length positions) (units_of t)));
         }
     walked_same number (positions ∷ layout) (t ∷ ts) (suc part) = walked_same (number + 1) layout ts part
 

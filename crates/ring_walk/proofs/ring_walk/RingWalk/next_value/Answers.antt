@@ -17,6 +17,7 @@ returns-clause-place g c =
     (c.list_len-self-inside.ensures ∙ ap (λ (w : RingPlace). length (near_list p w.part c.in-Some.value)) c.self.view_is))
 
 pub next-requires : goal.next-requires
-next-requires g c =
-    c.flips.ensures ∙ ap (λ (w : RingPlace). length (near_part c.args.plan.now w.part)) c.self.view_is ∙ sym c.requires.place.width
-    ∙ sym (ap (λ (w : RingPlace). w.width) c.self.view_is)
+next-requires g c = record {
+  flips = c.flips.ensures ∙ ap (λ (w : RingPlace). length (near_part c.args.plan.now w.part)) c.self.view_is ∙ sym c.requires.place.width
+      ∙ sym (ap (λ (w : RingPlace). w.width) c.self.view_is);
+}

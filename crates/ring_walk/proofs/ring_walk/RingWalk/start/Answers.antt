@@ -13,9 +13,11 @@ returns-clause-starts g c =
     let p = c.args.plan.now in
     let units : c.in_ok-units.units.items ≡ replicate (length (near_parts p)) 0 =
     c.in_ok-units.ensures.items_if_clones_equal (λ y same. same) ∙ ap (λ n. replicate n 0) c.parts-parts.ensures.parts in
-    subst (λ us. StartsRings p (record { units = us; part = 0; width = c.ball.result.width; ball = c.ball.result.values; value = 0; next = 0; size = 0; begun = 0 }))
+    let left = c.ball.result in
+    subst
+    (λ us. StartsRings p (record { units = us; part = 0; width = left.width; ball = left.values; value = 0; next = 0; size = 0; begun = 0 }))
     (sym units) (rings_start g.row.W p c.parts-parts.ensures.plan (subst (λ n. n ≤ PARTS_MOST) c.parts-parts.ensures.parts c.parts-parts.ensures.few)
-    c.ball.result.width (c.ball.ensures.width ∙ c.flips.ensures) c.ball.result.values c.ball.ensures.values)
+    left.width (c.ball.ensures.width ∙ c.flips.ensures) left.values c.ball.ensures.values)
 
 pub flips-requires : goal.flips-requires
 flips-requires g c =

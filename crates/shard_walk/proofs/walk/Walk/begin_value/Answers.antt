@@ -6,9 +6,10 @@ use Rattle.shard_walk.proofs.WalkLemmas.{value_begins}
 use Rattle.shard_walk.proofs.walk.Walk.begin_value.Goals as goal
 
 pub next-requires : goal.next-requires
-next-requires g c =
-    c.flips.ensures ∙ ap (λ (w : Place). length (part_of c.args.plan.now w.part)) c.self.view_is ∙ sym c.requires.place.width
-    ∙ sym (ap (λ (w : Place). w.width) c.self.view_is)
+next-requires g c = record {
+  flips = c.flips.ensures ∙ ap (λ (w : Place). length (part_of c.args.plan.now w.part)) c.self.view_is ∙ sym c.requires.place.width
+      ∙ sym (ap (λ (w : Place). w.width) c.self.view_is);
+}
 
 pub returns-clause-begun : goal.returns-clause-begun
 returns-clause-begun g c = λ _.
