@@ -12,7 +12,9 @@ use Rattle.hamming_model.specs.declared.hit.Hit.{Hit}
 use Rattle.hamming_model.specs.Scan.{hit_of}
 use Rattle.hamming_model.specs.Layouts.{part_distance, part_value}
 use Rattle.hamming_model.specs.Stored.{AreCodeRows}
-use Rattle.ball_walk.specs.Balls.{ring, values, value_distance}
+use Rattle.std.specs.Int.RustNames.{count_ones, bit_xor}
+use Rattle.ball_walk.specs.Balls.{values}
+use Rattle.ball_walk.specs.Flips.{flips, flipped_ring}
 use Rattle.ball_walk.proofs.SumLemmas.{sum_filter}
 use Rattle.search_model.specs.Reading.{HasSame}
 use Rattle.search_model.proofs.SameLemmas.{sum_map}
@@ -99,10 +101,16 @@ codes_kept bits test (row ∷ rows) codes = go (test row) (codes_kept bits test 
     go true rest = (codes.0, rest)
     go false rest = rest
 
-ring_few : (value width apart : ℕ) → length (ring value width apart) ≤ 2 ^ width
-unfolding ring values
+ring_few : (value width apart : ℕ) → length (flipped_ring value width apart) ≤ 2 ^ width
+unfolding flipped_ring flips values
 ring_few value width apart =
-    omega (arith, few_kept (λ other. value_distance other value == apart) (range_with_len 0 (2 ^ width)), length-range_with_len 0 (2 ^ width))
+    let flipped = filter (λ flip. count_ones flip == apart) (range_with_len 0 (2 ^ width)) in
+    omega (
+      arith,
+      length-map flipped (bit_xor value),
+      few_kept (λ flip. count_ones flip == apart) (range_with_len 0 (2 ^ width)),
+      length-range_with_len 0 (2 ^ width),
+    )
 
 one_of_all : (parts : List (List ℕ)) (i : ℕ) → i < length parts → 2 ^ length (get_or parts i []) ≤ values_of_parts parts
 one_of_all [] i less = absurd (omega arith)

@@ -1,26 +1,30 @@
 -- Which rows of a ring are new, and the steps of a walk over it.
 use Rattle.std.proofs.Common.{◌≡◌, ℕ, zero, suc, ◌+◌, ◌-◌, ◌<◌, ◌≤◌, ◌==◌, min, nat_lt, Bool, true, false, cond, List, [], ◌∷◌, ◌++◌}
-use Rattle.std.proofs.Common.{length, replicate, map, filter, take, drop, get_or, sum, refl, sym, ap, ◌∙◌, subst, arith}
+use Rattle.std.proofs.Common.{length, replicate, take, drop, get_or, sum, sum_by, refl, sym, ap, ◌∙◌, subst, arith}
 use Rattle.std.specs.Prelude.{◌||◌, not, Some, None}
-use Rattle.std.specs.Option.{option_to_list}
 use Rattle.std.specs.Prelude.{All, ◌^◌}
 use Rattle.std.proofs.lemmas.List.Elements.{All-head, All-tail}
 use Rattle.std.specs.List.{flat_map}
-use Rattle.std.proofs.lemmas.List.{drop_more, drop_all, get_or-take, get_or-map, length-map, length-set, length-take-le}
+use Rattle.std.proofs.lemmas.List.{drop_more, drop_all, get_or-map, length-map, length-set}
 use Rattle.std.proofs.lemmas.List.{length-replicate, length-append, append_assoc}
 use Rattle.std.proofs.lemmas.List.Sums.{sum_by-cons}
 use Rattle.std.proofs.lemmas.Bool.{ne_eqb}
 use Rattle.std.proofs.lemmas.Nat.{pow_pos}
+use Rattle.ball_walk.specs.Balls.{ring}
+use Rattle.ball_walk.specs.Flips.{flipped_ring}
+use Rattle.ball_walk.proofs.FlipLemmas.{flipped_sum}
 use Rattle.search_model.specs.Reading.{HasSame, unpadded}
+use Rattle.search_model.proofs.PostingLemmas.{value_below}
+use Rattle.search_model.proofs.SameLemmas.{sum_flat_map}
 use Rattle.shard_probe.specs.Probed.{rows_in}
 use Rattle.shard_probe.proofs.RunLemmas.{passed_joined, rest_cut, run_size}
 use Rattle.ring_model.proofs.RingLemmas.{ring_same, ring_number, raised_sum, start_sum, met_by_none}
 use Rattle.hamming_model.specs.declared.limits.TheConstants.{PARTS_MOST}
 use Rattle.hamming_model.specs.Codes.{distance}
-use Rattle.hamming_model.specs.Layouts.{part_distance}
+use Rattle.hamming_model.specs.Layouts.{part_distance, part_value}
 use Rattle.hamming_model.specs.Scan.{hit_of}
 use Rattle.threshold_model.specs.Finding.{part_distances}
-use Rattle.ring_model.specs.Rings.{is_below_some, is_met, hits_new, units_raised, rows_apart, ring_read, ring_cost, IsCheapest}
+use Rattle.ring_model.specs.Rings.{is_below_some, is_met, hits_new, units_raised, rows_apart, ring_cost, IsCheapest}
 use Rattle.ring_walk.specs.NearPlanned.{NearPlanned, IsNearPlanned, near_rows, near_bits, near_parts, near_part, near_query, near_list}
 use Rattle.ring_walk.specs.NearPlanned.{near_counts, near_ring}
 use Rattle.ring_walk.specs.RingWalks.{RingPlace, IsRingPlace, StartsRings, BeginsRing, rows_of_ring, hits_of_ring, new_hit, new_of}
@@ -59,6 +63,7 @@ module _ (p : NearPlanned) (w : RingPlace) (place : IsRingPlace p w) where
     units_are = place.units_are;
     total = place.total;
     part = place.part;
+    width = place.width;
     ball = place.ball;
     value = place.value;
     next = within;
@@ -132,10 +137,10 @@ new_hit_is p units key dist code none same =
     ap (λ n. Some (record { dist = n; key = key })) same ∙ sym (new_is p units (key, code) false none)
 
 -- the next value of the ring is begun
-pub value_place : (p : NearPlanned) (w : RingPlace) → IsRingPlace p w → (value : ℕ) (rest : List ℕ) → w.ball ≡ value ∷ rest → (size : ℕ)
-    → size ≡ length (near_list p w.part value)
-    → IsRingPlace p (record w { ball = rest; value = value; next = 0; size = size })
-value_place p w place value rest first size is_size =
+pub value_place : (p : NearPlanned) (w : RingPlace) → IsRingPlace p w → (value : ℕ) (rest : List ℕ) → w.ball ≡ value ∷ rest
+    → (width : ℕ) → width ≡ w.width → (size : ℕ) → size ≡ length (near_list p w.part value)
+    → IsRingPlace p (record w { width = width; ball = rest; value = value; next = 0; size = size })
+value_place p w place value rest first width same_width size is_size =
     let all : All (λ other. other < 2 ^ length (near_part p w.part)) (value ∷ rest) =
     subst (All (λ other. other < 2 ^ length (near_part p w.part))) first place.ball in
     record {
@@ -143,6 +148,7 @@ value_place p w place value rest first size is_size =
       units_are = place.units_are;
       total = place.total;
       part = place.part;
+      width = same_width ∙ place.width;
       ball = All-tail (λ other. other < 2 ^ length (near_part p w.part)) value rest all;
       value = All-head (λ other. other < 2 ^ length (near_part p w.part)) value rest all;
       next = omega arith;
@@ -172,12 +178,13 @@ module _ (words : ℕ) (p : NearPlanned) (plan : IsNearPlanned words p) (old : R
   units_size = ap length same ∙ after_size old ∙ place.units_are
 
   module _ (part cost : ℕ) (cheapest : IsCheapest (near_counts p) units part) (cost_is : cost ≡ ring_cost (near_counts p) units part)
+      (width : ℕ) (width_is : width ≡ length (near_part p part))
       (ball : List ℕ) (ball_is : ball ≡ near_ring p part (get_or units part 0))
       (in_width : All (λ value. value < 2 ^ length (near_part p part)) ball) where
     abbrev new : RingPlace
-    new = record { units = units; part = part; ball = ball; value = 0; next = 0; size = 0; begun = old.begun + 1 }
+    new = record { units = units; part = part; width = width; ball = ball; value = 0; next = 0; size = 0; begun = old.begun + 1 }
 
-    rows_are : rows_of_ring p new ≡ ring_read (near_list p part) (near_part p part) (near_query p) (get_or units part 0)
+    rows_are : rows_of_ring p new ≡ flat_map (near_list p part) (near_ring p part (get_or units part 0))
     rows_are = take_none (near_list p part 0) ∙ ap (flat_map (near_list p part)) ball_is
       where
         take_none : (xs : List (ℕ × List ℕ))
@@ -187,13 +194,23 @@ module _ (words : ℕ) (p : NearPlanned) (plan : IsNearPlanned words p) (old : R
 
     same_rows : HasSame (rows_of_ring p new) (rows_apart (near_rows p) (near_part p part) (near_query p) (get_or units part 0))
     same_rows =
-        subst (λ rows. HasSame rows (rows_apart (near_rows p) (near_part p part) (near_query p) (get_or units part 0))) (sym rows_are)
-        (ring_same (near_bits p) (get_or units part 0) (near_rows p) (near_part p part) (near_query p) (near_list p part)
+        let value = part_value (near_query p) (near_part p part) in
+        let size = length (near_part p part) in
+        let apart = get_or units part 0 in
+        let read = ring_same (near_bits p) apart (near_rows p) (near_part p part) (near_query p) (near_list p part)
         plan.probed.version.codes plan.probed.query.is_code
-        (plan.probed.tables.each part (omega (arith, units_size, cheapest.within))).lists)
+        (plan.probed.tables.each part (omega (arith, units_size, cheapest.within))).lists in
+        subst (λ rows. HasSame rows (rows_apart (near_rows p) (near_part p part) (near_query p) apart)) (sym rows_are) (record {
+          sums = λ f.
+              sum_flat_map f (near_list p part) (flipped_ring value size apart)
+              ∙ flipped_sum (λ v. sum_by f (near_list p part v)) value size apart
+              (value_below (near_bits p) (near_query p) (near_part p part) plan.probed.query.is_code)
+              ∙ sym (sum_flat_map f (near_list p part) (ring value size apart))
+              ∙ read.sums f;
+        })
 
     pub ring_begins : BeginsRing p old
-        (record { units = units; part = part; ball = ball; value = 0; next = 0; size = 0; begun = old.begun + 1 }) cost
+        (record { units = units; part = part; width = width; ball = ball; value = 0; next = 0; size = 0; begun = old.begun + 1 }) cost
     ring_begins =
         let number = ring_number (near_rows p) (rows_of_ring p new) (near_parts p) units (near_query p) part same_rows in
         let power : 0 < 2 ^ length (near_part p part) = pow_pos (length (near_part p part)) in
@@ -205,6 +222,7 @@ module _ (words : ℕ) (p : NearPlanned) (plan : IsNearPlanned words p) (old : R
             units_are = units_size;
             total = ap sum raised_is ∙ raised_sum units part cheapest.within ∙ ap (λ n. n + 1) (ap sum same ∙ place.total);
             part = omega (arith, units_size, cheapest.within);
+            width = width_is;
             ball = in_width;
             value = power;
             next = omega arith;
@@ -221,17 +239,19 @@ module _ (words : ℕ) (p : NearPlanned) (plan : IsNearPlanned words p) (old : R
         }
 
 -- a walk that has begun no ring
-pub rings_start : (words : ℕ) (p : NearPlanned) → IsNearPlanned words p → length (near_parts p) ≤ PARTS_MOST → (ball : List ℕ) → ball ≡ []
+pub rings_start : (words : ℕ) (p : NearPlanned) → IsNearPlanned words p → length (near_parts p) ≤ PARTS_MOST → (width : ℕ) → width ≡ length (near_part p 0)
+    → (ball : List ℕ) → ball ≡ []
     → StartsRings p (record {
       units = replicate (length (near_parts p)) 0;
       part = 0;
+      width = width;
       ball = ball;
       value = 0;
       next = 0;
       size = 0;
       begun = 0;
     })
-rings_start words p plan few ball none =
+rings_start words p plan few width is_width ball none =
     let some = plan.probed.version.laid.layout.some_part in
     let power : 0 < 2 ^ length (near_part p 0) = pow_pos (length (near_part p 0)) in
     record {
@@ -240,6 +260,7 @@ rings_start words p plan few ball none =
         units_are = length-replicate (length (near_parts p)) 0;
         total = start_sum (length (near_parts p));
         part = some;
+        width = is_width;
         ball = subst (All (λ value. value < 2 ^ length (near_part p 0))) (sym none) (λ k d within. absurd (omega arith));
         value = power;
         next = omega arith;

@@ -5,7 +5,7 @@ use Rattle.std.specs.Coded.{Coded, code_by, coded×, coded_list, coded_ℕ, code
 use Rattle.hamming_model.specs.declared.hit.Hit.{Hit}
 use Rattle.hamming_model.specs.Layouts.{part_value}
 use Rattle.hamming_model.specs.Scan.{hit_of}
-use Rattle.ball_walk.specs.Balls.{ring}
+use Rattle.ball_walk.specs.Flips.{flipped_ring}
 use Rattle.threshold_model.specs.Vectors.{row_counts}
 use Rattle.threshold_dp.specs.Radii.{RadiusPlans, PlansRadii}
 use Rattle.shard_version.specs.Tables.{Tabled, tabled_code}
@@ -85,10 +85,11 @@ near_counts plan = row_counts (near_rows plan) (near_parts plan) (near_query pla
 abbrev pub near_list : NearPlanned → ℕ → ℕ → List (ℕ × List ℕ)
 near_list plan part value = probed_list plan.version part value
 
--- the values of a part at one distance from the query's
+-- the values of a part at one distance from the query's, in the order of its flips
 abbrev pub near_ring : NearPlanned → ℕ → ℕ → List ℕ
 near_ring plan part apart =
-    ring (part_value (near_query plan) (near_part plan part)) (length (near_part plan part)) apart
+    flipped_ring (part_value (near_query plan) (near_part plan part))
+    (length (near_part plan part)) apart
 
 -- a query on a version whose codes have so many words, planned for all radii up to its bits
 pub record IsNearPlanned (words : ℕ) (plan : NearPlanned) : Type 0 where

@@ -12,11 +12,12 @@ use Rattle.shard_probe.specs.Probed.{rows_in}
 use Rattle.ring_walk.specs.NearPlanned.{NearPlanned, near_rows, near_parts, near_part, near_query}
 use Rattle.ring_walk.specs.NearPlanned.{near_list, near_counts, near_ring}
 
--- the units of the parts before this ring, the part of the ring, its values that are left, the
--- posting list of a value, and how many rings were begun
+-- the units of the parts before this ring, the part of the ring and its width, its values that are
+-- left, the posting list of a value, and how many rings were begun
 pub record RingPlace : Type 0 where
   pub units : List ℕ
   pub part : ℕ
+  pub width : ℕ
   pub ball : List ℕ
   pub value : ℕ
   pub next : ℕ
@@ -61,6 +62,7 @@ pub record IsRingPlace (plan : NearPlanned) (place : RingPlace) : Type 0 where
   pub units_are : length place.units ≡ length (near_parts plan)
   pub total : sum (units_after place) ≡ place.begun
   pub part : place.part < length (near_parts plan)
+  pub width : place.width ≡ length (near_part plan place.part)
   pub ball : All (λ value. value < 2 ^ length (near_part plan place.part)) place.ball
   pub value : place.value < 2 ^ length (near_part plan place.part)
   pub next : place.next ≤ place.size

@@ -12,7 +12,7 @@ ghost use Rattle.ring_walk.specs.NearPlanned.{near_parts, near_part, near_query,
 ghost use Rattle.ring_walk.specs.NearPlanned.{near_list, near_ring};
 ghost use Rattle.ring_walk.specs.RingWalks.{new_hit};
 
-use ball_walk::Ball;
+use ball_walk::{Flipped, Flips};
 use gph_codes::Code;
 use hamming_model::Hit;
 use read_meter::{NoMemory, Steps};
@@ -137,11 +137,20 @@ impl<const W: usize> NearPlan<W> {
         self.radii.choose(radius, out);
     }
 
-    // The values of a part at one distance from the query's.
-    pub(crate) fn ring(&self, part: usize, apart: u32) -> Ball
+    // Which values of a part are at each distance from one.
+    pub(crate) fn flips(&self, part: usize) -> &Flips
         requires { part < length (near_parts self.now) }
-        ensures values { result ≡ near_ring self.now part apart }
-        ensures in_width { All (λ value. value < 2 ^ length (near_part self.now part)) result }
+        ensures { result.now ≡ length (near_part self.now part) }
+    {
+        self.probe.flips(part)
+    }
+
+    // The values of a part at one distance from the query's.
+    pub(crate) fn ring(&self, part: usize, apart: u32) -> Flipped
+        requires { part < length (near_parts self.now) }
+        ensures values { result.values ≡ near_ring self.now part apart }
+        ensures width { result.width ≡ length (near_part self.now part) }
+        ensures in_width { All (λ value. value < 2 ^ length (near_part self.now part)) result.values }
     {
         self.probe.ring(part, apart)
     }

@@ -7,7 +7,7 @@ ghost use Rattle.ring_walk.specs.RingWalks.{IsRingPlace, StartsRings, BeginsRing
 ghost use Rattle.ring_walk.specs.RingWalks.{hits_of_ring, new_hit, new_of, units_after};
 
 use crate::near_plan::NearPlan;
-use ball_walk::Ball;
+use ball_walk::Flipped;
 use gph_codes::Code;
 use hamming_model::Hit;
 use read_meter::{NoMemory, Steps};
@@ -20,7 +20,7 @@ pub struct RingWalk {
     // the units of each part before the ring that is read
     units: Vec<u32>,
     part: usize,
-    ball: Ball,
+    ball: Flipped,
     // the value whose posting list is read, the next place in it, and its length
     value: u16,
     next: u32,
@@ -36,7 +36,8 @@ impl Model for RingWalk {
     ghost view = { λ w. record {
       units = w.units.items;
       part = w.part;
-      ball = w.ball;
+      width = w.ball.width;
+      ball = w.ball.values;
       value = w.value;
       next = w.next;
       size = w.size;
@@ -59,7 +60,7 @@ impl RingWalk {
         Ok(RingWalk {
             units,
             part: 0,
-            ball: Ball::new(0, 1, -1),
+            ball: Flipped::ball(plan.flips(0), 0, -1),
             value: 0,
             next: 0,
             size: 0,
@@ -135,7 +136,7 @@ impl RingWalk {
         ensures after { units_after self.new ≡ units_after self.old }
         ensures begun { self.new.begun ≡ self.old.begun }
     {
-        let Some(value) = self.ball.next() else {
+        let Some(value) = self.ball.next(plan.flips(self.part)) else {
             unreachable!()
         };
         self.value = value;

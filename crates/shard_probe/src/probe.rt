@@ -6,13 +6,13 @@ ghost use Rattle.std.specs.Arc.{arc_value};
 ghost use Rattle.hamming_model.specs.Codes.{distance};
 ghost use Rattle.hamming_model.specs.declared.limits.TheConstants.{PARTS_MOST, WORDS_MOST};
 ghost use Rattle.hamming_model.specs.Layouts.{part_distance, part_value};
-ghost use Rattle.ball_walk.specs.Balls.{ball, ring};
+ghost use Rattle.ball_walk.specs.Flips.{flipped_ball, flipped_ring};
 ghost use Rattle.threshold_model.specs.Vectors.{units_of};
 ghost use Rattle.shard_probe.specs.Probed.{KeepsCode, KeepCodes, IsProbed, probed_of};
 ghost use Rattle.shard_probe.specs.Probed.{parts_in, part_in, code_in, counts_round, probed_list, rows_in};
 
 use crate::part_values::values_of;
-use ball_walk::Ball;
+use ball_walk::{Flipped, Flips};
 use count_table::changes_follow_a_list;
 use gph_codes::{Code, dist, dist_under, part_distance_is_under_the_mask};
 use read_meter::{NoMemory, Steps};
@@ -106,31 +106,42 @@ impl<const W: usize> Probe<W> {
             .levels(self.values[part], out);
     }
 
-    /// The values of a part that are within a radius of the query's.
-    pub fn ball(&self, part: usize, radius: i32) -> Ball
+    /// Which values of a part are at each distance from one: a walk over values of the part reads them.
+    pub fn flips(&self, part: usize) -> &Flips
+        requires { part < length (parts_in self.now.version) }
+        ensures { result.now ≡ length (part_in self.now.version part) }
+    {
+        changes_follow_a_list();
+        self.version.counts(part as u32).flips()
+    }
+
+    /// The values of a part that are within a radius of the query's, ring by ring.
+    pub fn ball(&self, part: usize, radius: i32) -> Flipped
         requires part { part < length (parts_in self.now.version) }
         requires radius { negsuc 0 ≤ℤ radius }
         ensures values { let positions = part_in self.now.version part in
-            result ≡ ball (part_value (code_in self.now.version self.now.stored) positions)
+            result.values
+            ≡ flipped_ball (part_value (code_in self.now.version self.now.stored) positions)
             (length positions) (units_of radius) }
+        ensures width { result.width ≡ length (part_in self.now.version part) }
         ensures in_width { All (λ value.
-            value < 2 ^ length (part_in self.now.version part)) result }
+            value < 2 ^ length (part_in self.now.version part)) result.values }
     {
-        let width = self.version.layout().width(part as u32);
-        Ball::new(self.values[part], width, radius)
+        Flipped::ball(self.flips(part), self.values[part], radius)
     }
 
     /// The values of a part at one distance from the query's.
-    pub fn ring(&self, part: usize, apart: u32) -> Ball
+    pub fn ring(&self, part: usize, apart: u32) -> Flipped
         requires part { part < length (parts_in self.now.version) }
         ensures values { let positions = part_in self.now.version part in
-            result ≡ ring (part_value (code_in self.now.version self.now.stored) positions)
+            result.values
+            ≡ flipped_ring (part_value (code_in self.now.version self.now.stored) positions)
             (length positions) apart }
+        ensures width { result.width ≡ length (part_in self.now.version part) }
         ensures in_width { All (λ value.
-            value < 2 ^ length (part_in self.now.version part)) result }
+            value < 2 ^ length (part_in self.now.version part)) result.values }
     {
-        let width = self.version.layout().width(part as u32);
-        Ball::ring(self.values[part], width, apart)
+        Flipped::ring(self.flips(part), self.values[part], apart)
     }
 
     /// How long the posting list of a part's value is.

@@ -6,16 +6,16 @@ use Rattle.std.proofs.lemmas.List.{drop_more, drop_all, take_all, length-take-le
 use Rattle.hamming_model.specs.declared.hit.Hit.{Hit}
 use Rattle.hamming_model.specs.Scan.{hit_of}
 use Rattle.threshold_model.specs.Finding.{threshold_at}
-use Rattle.search_model.specs.Reading.{parts_read, number_read, unpadded}
+use Rattle.search_model.specs.Reading.{number_read, unpadded}
 use Rattle.search_model.specs.Keeping.{is_kept, hits_kept, hits_of_parts}
 use Rattle.shard_probe.specs.Probed.{rows_in}
 use Rattle.shard_probe.proofs.RunLemmas.{passed_joined, rest_cut, run_size}
 use Rattle.shard_walk.specs.Planned.{Planned, parts_of, part_of, planned_query, list_of, kept_of}
-use Rattle.shard_walk.specs.Walks.{Place, IsWalkPlace, BeginsValue, PassesPart, part_begun, value_begun, after_run, rest_of_list, rows_left, reads_left, hits_left, values_of, values_left}
+use Rattle.shard_walk.specs.Walks.{Place, IsWalkPlace, BeginsValue, PassesPart, part_begun, value_begun, after_run, parts_walked, rest_of_list, rows_left, reads_left, hits_left, values_of, values_left}
 
 -- what the parts after one read
 abbrev later : Planned → ℕ → List (List (ℕ × List ℕ))
-later p part = parts_read (list_of p) (part + 1) (drop (part + 1) (parts_of p)) (drop (part + 1) p.thresholds) (planned_query p)
+later p part = parts_walked (list_of p) (part + 1) (drop (part + 1) (parts_of p)) (drop (part + 1) p.thresholds) (planned_query p)
 
 module _ (p : Planned) (w : Place) (place : IsWalkPlace p w) where
   module _ (count : ℕ) (run : List (ℕ × List ℕ)) (within : w.next + count ≤ w.size)
@@ -51,6 +51,7 @@ module _ (p : Planned) (w : Place) (place : IsWalkPlace p w) where
     few_parts = place.few_parts;
     thresholds = place.thresholds;
     part = place.part;
+    width = place.width;
     ball = place.ball;
     value = place.value;
     next = within;
@@ -83,6 +84,7 @@ module _ (p : Planned) (w : Place) (place : IsWalkPlace p w) where
               few_parts = place.few_parts;
               thresholds = place.thresholds;
               part = place.part;
+              width = place.width;
               ball = all;
               value = below;
               next = omega arith;
@@ -98,7 +100,7 @@ module _ (p : Planned) (w : Place) (place : IsWalkPlace p w) where
     end_reads none last =
         ap number_read (rows_done
         ∙ ap (λ values. flat_map (list_of p w.part) values ∷ later p w.part) none
-        ∙ ap (λ layout. [] ∷ parts_read (list_of p) (w.part + 1) layout (drop (w.part + 1) p.thresholds) (planned_query p))
+        ∙ ap (λ layout. [] ∷ parts_walked (list_of p) (w.part + 1) layout (drop (w.part + 1) p.thresholds) (planned_query p))
         (drop_all (w.part + 1) (parts_of p) last))
 
 -- a run of postings was read, so many
@@ -132,10 +134,10 @@ module _ (p : Planned) (part : ℕ) (size : length p.thresholds ≡ length (part
   thresholds_cut = drop_more p.thresholds part (negsuc 0) (omega arith)
 
   -- a part that begins has all its rows left, and so have those after it
-  pub begun_rows : rows_left p (part_begun p part) ≡ parts_read (list_of p) part (drop part (parts_of p)) (drop part p.thresholds) (planned_query p)
+  pub begun_rows : rows_left p (part_begun p part) ≡ parts_walked (list_of p) part (drop part (parts_of p)) (drop part p.thresholds) (planned_query p)
   begun_rows =
-      sym (ap (λ layout. parts_read (list_of p) part layout (drop part p.thresholds) (planned_query p)) parts_cut
-      ∙ ap (λ ts. parts_read (list_of p) part (part_of p part ∷ drop (part + 1) (parts_of p)) ts (planned_query p)) thresholds_cut)
+      sym (ap (λ layout. parts_walked (list_of p) part layout (drop part p.thresholds) (planned_query p)) parts_cut
+      ∙ ap (λ ts. parts_walked (list_of p) part (part_of p part ∷ drop (part + 1) (parts_of p)) ts (planned_query p)) thresholds_cut)
 
   pub begun_values : values_left p (part_begun p part) ≡ values_of (drop part (parts_of p)) (drop part p.thresholds) (planned_query p)
   begun_values =

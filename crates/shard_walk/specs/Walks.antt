@@ -5,32 +5,40 @@ use Rattle.std.specs.List.{flat_map}
 use Rattle.hamming_model.specs.declared.hit.Hit.{Hit}
 use Rattle.hamming_model.specs.declared.limits.TheConstants.{PARTS_MOST}
 use Rattle.hamming_model.specs.Layouts.{part_value}
-use Rattle.ball_walk.specs.Balls.{ball}
+use Rattle.ball_walk.specs.Flips.{flipped_ball}
 use Rattle.threshold_model.specs.Vectors.{units_of}
 use Rattle.threshold_model.specs.Finding.{threshold_at}
-use Rattle.search_model.specs.Reading.{parts_read, number_read}
+use Rattle.search_model.specs.Reading.{number_read}
 use Rattle.search_model.specs.Keeping.{hits_of_parts}
 use Rattle.shard_walk.specs.Planned.{Planned, parts_of, part_of, planned_query, list_of}
 
--- the part, the values of its ball that are left, and the posting list of a value: the next place
--- in it, and where it ends
+-- the part and its width, the values of its ball that are left, and the posting list of a value:
+-- the next place in it, and where it ends
 pub record Place : Type 0 where
   pub part : ℕ
+  pub width : ℕ
   pub ball : List ℕ
   pub value : ℕ
   pub next : ℕ
   pub size : ℕ
 
--- the ball of a part
+-- the ball of a part, ring by ring
 abbrev pub ball_of : Planned → ℕ → List ℕ
 ball_of plan part =
-    ball (part_value (planned_query plan) (part_of plan part)) (length (part_of plan part))
+    flipped_ball (part_value (planned_query plan) (part_of plan part)) (length (part_of plan part))
     (units_of (threshold_at plan.thresholds part))
 
 -- a part of which nothing was read
 abbrev pub part_begun : Planned → ℕ → Place
 part_begun plan part =
-    record { part = part; ball = ball_of plan part; value = 0; next = 0; size = 0 }
+    record {
+      part = part;
+      width = length (part_of plan part);
+      ball = ball_of plan part;
+      value = 0;
+      next = 0;
+      size = 0;
+    }
 
 -- a value of the ball is next, and no posting of it was read
 abbrev pub value_begun : Planned → Place → ℕ → List ℕ → Place
@@ -50,11 +58,21 @@ after_run place count = record place { next = place.next + count }
 abbrev pub rest_of_list : Planned → Place → List (ℕ × List ℕ)
 rest_of_list plan place = drop place.next (take place.size (list_of plan place.part place.value))
 
+-- the postings of each part from this one on, where each part has lists of its own: list by list,
+-- as the values of its ball come
+abbrev pub parts_walked : (ℕ → ℕ → List (ℕ × List ℕ)) → ℕ → List (List ℕ) → List ℤ → List ℕ
+    → List (List (ℕ × List ℕ))
+parts_walked lists number [] thresholds query = []
+parts_walked lists number (part ∷ layout) [] query = []
+parts_walked lists number (part ∷ layout) (t ∷ ts) query =
+    flat_map (lists number) (flipped_ball (part_value query part) (length part) (units_of t))
+    ∷ parts_walked lists (number + 1) layout ts query
+
 -- the rows that are left to read, by part
 abbrev pub rows_left : Planned → Place → List (List (ℕ × List ℕ))
 rows_left plan place =
     (rest_of_list plan place ++ flat_map (list_of plan place.part) place.ball)
-    ∷ parts_read (list_of plan) (place.part + 1) (drop (place.part + 1) (parts_of plan))
+    ∷ parts_walked (list_of plan) (place.part + 1) (drop (place.part + 1) (parts_of plan))
     (drop (place.part + 1) plan.thresholds) (planned_query plan)
 
 -- how many they are
@@ -72,7 +90,8 @@ abbrev pub values_of : List (List ℕ) → List ℤ → List ℕ → ℕ
 values_of [] thresholds query = 0
 values_of (part ∷ parts) [] query = 0
 values_of (part ∷ parts) (t ∷ ts) query =
-    length (ball (part_value query part) (length part) (units_of t)) + values_of parts ts query
+    length (flipped_ball (part_value query part) (length part) (units_of t))
+    + values_of parts ts query
 
 -- how many values of balls are left
 abbrev pub values_left : Planned → Place → ℕ
@@ -86,6 +105,7 @@ pub record IsWalkPlace (plan : Planned) (place : Place) : Type 0 where
   pub few_parts : length (parts_of plan) ≤ PARTS_MOST
   pub thresholds : length plan.thresholds ≡ length (parts_of plan)
   pub part : place.part < length (parts_of plan)
+  pub width : place.width ≡ length (part_of plan place.part)
   pub ball : All (λ value. value < 2 ^ length (part_of plan place.part)) place.ball
   pub value : place.value < 2 ^ length (part_of plan place.part)
   pub next : place.next ≤ place.size

@@ -9,7 +9,7 @@ ghost use Rattle.shard_walk.specs.Planned.{list_of, is_found, part_found, kept_h
 ghost use Rattle.shard_probe.specs.Probed.{KeepsCode, rows_in};
 ghost use Rattle.shard_walk.specs.Walks.{ball_of};
 
-use ball_walk::Ball;
+use ball_walk::{Flipped, Flips};
 use gph_codes::Code;
 use hamming_model::Hit;
 use read_meter::{NoMemory, Steps};
@@ -106,11 +106,20 @@ impl<const W: usize> Plan<W> {
         self.probe.parts()
     }
 
-    // The values of a part that are within its threshold of the query's.
-    pub(crate) fn ball(&self, part: usize) -> Ball
+    // Which values of a part are at each distance from one.
+    pub(crate) fn flips(&self, part: usize) -> &Flips
         requires { part < length (parts_of self.now) }
-        ensures values { result ≡ ball_of self.now part }
-        ensures in_width { All (λ value. value < 2 ^ length (part_of self.now part)) result }
+        ensures { result.now ≡ length (part_of self.now part) }
+    {
+        self.probe.flips(part)
+    }
+
+    // The values of a part that are within its threshold of the query's.
+    pub(crate) fn ball(&self, part: usize) -> Flipped
+        requires { part < length (parts_of self.now) }
+        ensures values { result.values ≡ ball_of self.now part }
+        ensures width { result.width ≡ length (part_of self.now part) }
+        ensures in_width { All (λ value. value < 2 ^ length (part_of self.now part)) result.values }
         ensures plan { IsPlanned W self.now }
     {
         let radius = self.thresholds.entries()[part];

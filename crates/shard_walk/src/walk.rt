@@ -7,7 +7,7 @@ ghost use Rattle.shard_walk.specs.Planned.{AreStoredRows, kept_of, parts_of, pla
 ghost use Rattle.shard_walk.specs.Walks.{IsWalkPlace, BeginsValue, PassesPart, part_begun, hits_left, reads_left, values_left};
 
 use crate::plan::Plan;
-use ball_walk::{Ball, ball_sums_add_up};
+use ball_walk::{Flipped, ball_sums_add_up, flips_make_rings};
 use gph_codes::Code;
 use read_meter::Steps;
 use search_model::{lists_read_by_parts, near_rows_are_kept_once, rows_read_are_the_cost};
@@ -17,7 +17,7 @@ use std::marker::Model;
 #[derive(Drop)]
 pub struct Walk {
     part: usize,
-    ball: Ball,
+    ball: Flipped,
     // the value whose posting list is read, the next place in it, and its length
     value: u16,
     next: u32,
@@ -29,7 +29,14 @@ impl Model for Walk {
 
     ghost Value = { Place };
 
-    ghost view = { λ w. record { part = w.part; ball = w.ball; value = w.value; next = w.next; size = w.size } };
+    ghost view = { λ w. record {
+      part = w.part;
+      width = w.ball.width;
+      ball = w.ball.values;
+      value = w.value;
+      next = w.next;
+      size = w.size;
+    } };
 }
 
 impl Walk {
@@ -45,6 +52,7 @@ impl Walk {
         rows_read_are_the_cost();
         lists_read_by_parts();
         ball_sums_add_up();
+        flips_make_rings();
         plan.parts();
         Walk::at_part(plan, 0)
     }
@@ -121,7 +129,7 @@ impl Walk {
         ensures begun { result ≡ true → BeginsValue plan.now self.old self.new }
         ensures none { result ≡ false → (self.new ≡ self.old) × (self.old.ball ≡ []) }
     {
-        let Some(value) = self.ball.next() else {
+        let Some(value) = self.ball.next(plan.flips(self.part)) else {
             return false;
         };
         self.value = value;

@@ -21,12 +21,14 @@ returns-clause-begins g c =
     subst (λ n. BeginsRing p old (record {
       units = own.units.items;
       part = part;
-      ball = c.ring-self-inside.result;
+      width = c.ring-self-inside.result.width;
+      ball = c.ring-self-inside.result.values;
       value = 0;
       next = 0;
       size = 0;
       begun = n + 1;
     }) c.cheapest-ring.result.cost) (sym begun)
     (ring_begins g.row.W p c.parts.ensures.plan old c.requires.place own.units.items units part c.cheapest-ring.result.cost
-    cheapest cost c.ring-self-inside.result (c.ring-self-inside.ensures.values ∙ ap (near_ring p part) apart)
+    cheapest cost c.ring-self-inside.result.width c.ring-self-inside.ensures.width c.ring-self-inside.result.values
+    (c.ring-self-inside.ensures.values ∙ ap (near_ring p part) apart)
     c.ring-self-inside.ensures.in_width)
