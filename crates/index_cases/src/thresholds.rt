@@ -40,10 +40,8 @@ impl PartCounts for Distances {
 
     ghost counts = { λ distances. nearer_at distances.at };
 
-    fn count_levels(&self, part: usize, out: &mut [u32]) {
-        for units in 0..out.len() {
-            out[units] = reached(&self.at[part], units as u32);
-        }
+    fn count(&self, part: usize, radius: i32) -> u32 {
+        reached(&self.at[part], (radius + 1) as u32)
     }
 
     ghost starts = { λ distances part _. nearer_starts distances.at part };
@@ -79,7 +77,7 @@ impl Distances {
         let mut counts = Vec::new(alloc);
         for part in 0..parts {
             for units in 0..tau + 2 {
-                counts.push(reached(&self.at[part], units))?;
+                counts.push(self.count(part, units as i32 - 1))?;
             }
         }
         Ok(counts)
@@ -165,9 +163,9 @@ fn the_choices_of_the_worked_examples(rt: HostRuntime) {
     let mut woven = Distances::far();
     woven.at[0] = [0, 2, 4, 0, FAR, FAR, FAR, FAR];
     woven.at[1] = [0, 2, 4, 1, FAR, FAR, FAR, FAR];
-    assert!(rt; reached(&halves.at[0], 0) + reached(&halves.at[1], 2) == 2);
-    assert!(rt; reached(&halves.at[0], 1) + reached(&halves.at[1], 1) == 4);
-    assert!(rt; reached(&halves.at[0], 2) + reached(&halves.at[1], 0) == 3);
+    assert!(rt; halves.count(0, -1) + halves.count(1, 1) == 2);
+    assert!(rt; halves.count(0, 0) + halves.count(1, 0) == 4);
+    assert!(rt; halves.count(0, 1) + halves.count(1, -1) == 3);
     expect_choice(&rt, rt.alloc(), &halves, 1, 2, &[-1, 1]);
     expect_choice(&rt, rt.alloc(), &halves, 0, 1, &[-1, 0]);
     expect_choice(&rt, rt.alloc(), &halves, 8, 4, &[-1, 8]);

@@ -93,6 +93,19 @@ impl<const W: usize> Probe<W> {
         self.version.layout().bits()
     }
 
+    /// How many rows are within a radius of the query at a part.
+    pub fn within(&self, part: usize, radius: i32) -> u32
+        requires part { part < length (parts_in self.now.version) }
+        requires radius { negsuc 0 ≤ℤ radius }
+        ensures { result ≡ counts_round self.now.version self.now.stored part (units_of radius) }
+    {
+        counts_are_of_the_rows();
+        changes_follow_a_list();
+        self.version
+            .counts(part as u32)
+            .within(self.values[part], radius)
+    }
+
     /// How many rows are nearer to the query at a part than each number of units.
     pub fn levels(&self, part: usize, out: &mut [u32])
         requires { part < length (parts_in self.now.version) }

@@ -16,6 +16,10 @@ impl<const W: usize> PartCounts for Probe<W> {
 
     ghost rises = { λ probe part _. counts_rise probe.version probe.stored part };
 
+    fn count(&self, part: usize, radius: i32) -> u32 {
+        self.within(part, radius)
+    }
+
     fn count_levels(&self, part: usize, out: &mut [u32]) {
         self.levels(part, out);
     }

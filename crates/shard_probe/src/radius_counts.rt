@@ -1,6 +1,7 @@
 //! The counts of a version's rows round a query.
 
-ghost use Rattle.std.specs.Prelude.{◌≡◌, ◌+◌, ◌<◌, ◌≤◌, length, IfOk};
+ghost use Rattle.std.specs.Prelude.{◌≡◌, ◌+◌, ◌<◌, ◌≤◌, length, IfOk, pos, negsuc, ◌≤ℤ◌};
+ghost use Rattle.threshold_model.specs.Vectors.{units_of};
 ghost use Rattle.shard_probe.specs.Counted.{HasCounts, IsTable, count_in};
 ghost use Rattle.shard_probe.specs.Probed.{counts_round, parts_in};
 
@@ -70,9 +71,16 @@ impl PartCounts for RadiusCounts {
 
     ghost rises = { λ table part less. table.lawful.rises part less };
 
-    fn count_levels(&self, part: usize, out: &mut [u32]) {
-        for units in 0..out.len() {
-            out[units] = self.at(part, units);
-        }
+    fn count(&self, part: usize, radius: i32) -> u32 {
+        self.at(part, units_within(radius))
     }
+}
+
+// How many distances lie within a radius.
+fn units_within(radius: i32) -> usize
+    requires low { negsuc 0 ≤ℤ radius }
+    requires high { radius ≤ℤ pos 512 }
+    ensures { result ≡ units_of radius }
+{
+    (radius + 1) as usize
 }
