@@ -1,12 +1,15 @@
 -- What a query on a version keeps: its values at the parts.
 use Rattle.std.proofs.Common.{◌≡◌, ℕ, ◌+◌, ◌-◌, ◌*◌, ◌^◌, ◌<◌, ◌≤◌, List, [], length, replicate}
-use Rattle.std.proofs.Common.{get_or, sym, ap, ◌∙◌, subst, arith}
+use Rattle.std.proofs.Common.{get_or, refl, sym, ap, ◌∙◌, subst, arith}
 use Rattle.std.proofs.lemmas.List.{get_or-map, length-append, length-replicate}
 use Rattle.hamming_model.specs.Codes.{IsCode, StandsFor}
 use Rattle.hamming_model.specs.Layouts.{part_value, part_distance}
 use Rattle.threshold_model.specs.Finding.{part_distances}
 use Rattle.search_model.proofs.PostingLemmas.{value_below}
 use Rattle.shard_probe.specs.Kept.{AreValues}
+use Rattle.std.specs.Prelude.{ℤ, pos, negsuc}
+use Rattle.ball_walk.specs.Balls.{radius_units}
+use Rattle.threshold_model.specs.Vectors.{units_of}
 
 -- the value of a code at a part, below the bound of its width
 pub value_small : (bits : ℕ) (parts : List (List ℕ)) (query values : List ℕ) (part value width : ℕ)
@@ -40,3 +43,8 @@ alike_at layout part stored other code query less same =
     sym (get_or-map (λ positions. part_distance positions stored other) layout part [] 0 less)
     ∙ ap (λ ns. get_or ns part 0) same
     ∙ get_or-map (λ positions. part_distance positions code query) layout part [] 0 less
+
+-- a radius allows as many units, whether a ball counts them or a threshold
+pub same_units : (radius : ℤ) → radius_units radius ≡ units_of radius
+same_units (pos n) = omega arith
+same_units (negsuc n) = refl
