@@ -16,7 +16,7 @@ use Rattle.ball_walk.proofs.FlipLemmas.{flipped_sum}
 use Rattle.search_model.specs.Reading.{HasSame, unpadded}
 use Rattle.search_model.proofs.PostingLemmas.{value_below}
 use Rattle.search_model.proofs.SameLemmas.{sum_flat_map}
-use Rattle.shard_probe.specs.Probed.{rows_in}
+use Rattle.shard_probe.specs.Probed.{entry_rows}
 use Rattle.shard_probe.proofs.RunLemmas.{passed_joined, rest_cut, run_size}
 use Rattle.ring_model.proofs.RingLemmas.{ring_same, ring_number, raised_sum, start_sum, met_by_none}
 use Rattle.hamming_model.specs.declared.limits.TheConstants.{PARTS_MOST}
@@ -71,25 +71,25 @@ module _ (p : NearPlanned) (w : RingPlace) (place : IsRingPlace p w) where
   }
 
   module _ (count : ℕ) (run : List (ℕ × List ℕ)) (within : w.next + count ≤ w.size)
-      (is_run : rows_in p.version run ≡ take count (drop w.next (near_list p w.part w.value))) where
-    rows_cut : rows_of_ring p w ≡ rows_in p.version run ++ rows_of_ring p (record w { next = w.next + count })
+      (is_run : entry_rows p.version run ≡ take count (drop w.next (near_list p w.part w.value))) where
+    rows_cut : rows_of_ring p w ≡ entry_rows p.version run ++ rows_of_ring p (record w { next = w.next + count })
     rows_cut =
         let list = near_list p w.part w.value in
         ap (λ rest. rest ++ flat_map (near_list p w.part) w.ball)
         (rest_cut list w.next w.size count within
         ∙ ap (λ rows. rows ++ drop (w.next + count) (take w.size list)) (sym is_run))
-        ∙ append_assoc (rows_in p.version run) (drop (w.next + count) (take w.size list)) (flat_map (near_list p w.part) w.ball)
+        ∙ append_assoc (entry_rows p.version run) (drop (w.next + count) (take w.size list)) (flat_map (near_list p w.part) w.ball)
 
     pub ring_hits_read : hits_of_ring p w ≡ new_of p w.units run ++ hits_of_ring p (record w { next = w.next + count })
     ring_hits_read =
         ap (hits_new (near_parts p) w.units (near_query p)) rows_cut
         ∙ passed_joined (hit_of (near_query p)) (λ row. not (is_met (near_parts p) w.units (near_query p) row))
-        (rows_in p.version run) (rows_of_ring p (record w { next = w.next + count }))
+        (entry_rows p.version run) (rows_of_ring p (record w { next = w.next + count }))
 
     pub ring_reads_read : length (rows_of_ring p w) ≡ length (rows_of_ring p (record w { next = w.next + count })) + length run
     ring_reads_read =
         let cut = ap length rows_cut in
-        let joined = length-append (rows_in p.version run) (rows_of_ring p (record w { next = w.next + count })) in
+        let joined = length-append (entry_rows p.version run) (rows_of_ring p (record w { next = w.next + count })) in
         let mapped = length-map run (unpadded (near_bits p)) in
         omega arith
 
@@ -102,7 +102,7 @@ pub record ReadsRun (p : NearPlanned) (old new : RingPlace) (run : List (ℕ × 
 
 pub reads_run : (p : NearPlanned) (own : RingPlace) → IsRingPlace p own → (inside : RingPlace) → inside ≡ own
     → (count most : ℕ) → count ≡ min (inside.size - inside.next) most → (run : List (ℕ × List ℕ))
-    → rows_in p.version run ≡ take count (drop inside.next (near_list p inside.part inside.value))
+    → entry_rows p.version run ≡ take count (drop inside.next (near_list p inside.part inside.value))
     → ReadsRun p own (record inside { next = inside.next + count }) run count
 reads_run p own place inside same count most least run rows =
     let next = ap (λ (w : RingPlace). w.next) same in

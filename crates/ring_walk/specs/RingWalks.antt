@@ -8,7 +8,7 @@ use Rattle.hamming_model.specs.Scan.{hit_of}
 use Rattle.ring_model.specs.Rings.{is_met, hits_met, hits_new, units_raised, rows_apart}
 use Rattle.ring_model.specs.Rings.{ring_cost, IsCheapest}
 use Rattle.search_model.specs.Reading.{HasSame}
-use Rattle.shard_probe.specs.Probed.{rows_in}
+use Rattle.shard_probe.specs.Probed.{entry_rows}
 use Rattle.ring_walk.specs.NearPlanned.{NearPlanned, near_rows, near_parts, near_part, near_query}
 use Rattle.ring_walk.specs.NearPlanned.{near_list, near_counts, near_ring}
 
@@ -54,7 +54,7 @@ new_hit plan units row =
 -- the hits of those rows of a run of postings that no part finds at these units
 abbrev pub new_of : NearPlanned → List ℕ → List (ℕ × List ℕ) → List Hit
 new_of plan units run =
-    hits_new (near_parts plan) units (near_query plan) (rows_in plan.version run)
+    hits_new (near_parts plan) units (near_query plan) (entry_rows plan.version run)
 
 -- a place in the ring of a part
 pub record IsRingPlace (plan : NearPlanned) (place : RingPlace) : Type 0 where

@@ -6,7 +6,7 @@ ghost use Rattle.std.specs.Arc.{arc_value};
 ghost use Rattle.hamming_model.specs.declared.limits.TheConstants.{PARTS_MOST, WORDS_MOST};
 ghost use Rattle.threshold_model.specs.Finding.{part_distances};
 ghost use Rattle.ring_model.specs.Rings.{IsCheapest, is_below_some, ring_cost};
-ghost use Rattle.shard_probe.specs.Probed.{KeepsCode, KeepCodes, code_in, rows_in};
+ghost use Rattle.shard_probe.specs.Probed.{KeepsCode, KeepCodes, code_in, entry_rows};
 ghost use Rattle.ring_walk.specs.NearPlanned.{IsNearPlanned, PlansNear, near_rows, near_bits};
 ghost use Rattle.ring_walk.specs.NearPlanned.{near_parts, near_part, near_query, near_counts};
 ghost use Rattle.ring_walk.specs.NearPlanned.{near_list, near_ring};
@@ -176,7 +176,7 @@ impl<const W: usize> NearPlan<W> {
         requires part { part < length (near_parts self.now) }
         requires value { value < 2 ^ length (near_part self.now part) }
         requires places { from + count ≤ length (near_list self.now part value) }
-        ensures rows { rows_in self.now.version result.now
+        ensures rows { entry_rows self.now.version result.now
             ≡ take count (drop from (near_list self.now part value)) }
         ensures stored { KeepCodes W self.now.version result.now }
         ensures steps { steps.new ≡ steps.old + count }

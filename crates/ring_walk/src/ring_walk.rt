@@ -119,7 +119,8 @@ impl RingWalk {
     ) -> Option<Hit>
         requires place { IsRingPlace plan.now self.now }
         requires stored { KeepsCode W plan.now.version code.now }
-        ensures { result ≡ new_hit plan.now self.now.units (key, code_in plan.now.version code.now) }
+        ensures { result
+            ≡ new_hit plan.now self.now.units (key, code_in plan.now.version code.now) }
     {
         plan.new_hit(self.units.as_slice(), key, code)
     }

@@ -47,12 +47,12 @@ abbrev pub KeepCodes : ℕ → Tabled → List (ℕ × List ℕ) → Type 0
 KeepCodes words version entries = All (λ entry. KeepsCode words version entry.1) entries
 
 -- the rows whose codes entries keep
-abbrev pub rows_in : Tabled → List (ℕ × List ℕ) → List (ℕ × List ℕ)
-rows_in version entries = map (unpadded version.contents.layout.bits) entries
+abbrev pub entry_rows : Tabled → List (ℕ × List ℕ) → List (ℕ × List ℕ)
+entry_rows version entries = map (unpadded version.contents.layout.bits) entries
 
 -- the rows in the posting list of a part's value, in the order of the list
 abbrev pub probed_list : Tabled → ℕ → ℕ → List (ℕ × List ℕ)
-probed_list version part value = rows_in version (posting_list (table_at version part) value)
+probed_list version part value = entry_rows version (posting_list (table_at version part) value)
 
 -- how many of a version's rows are nearer to a query at a part than so many units
 abbrev pub counts_round : Tabled → List ℕ → ℕ → ℕ → ℕ

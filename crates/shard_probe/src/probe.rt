@@ -9,7 +9,7 @@ ghost use Rattle.hamming_model.specs.Layouts.{part_distance, part_value};
 ghost use Rattle.ball_walk.specs.Flips.{flipped_ball, flipped_ring};
 ghost use Rattle.threshold_model.specs.Vectors.{units_of};
 ghost use Rattle.shard_probe.specs.Probed.{KeepsCode, KeepCodes, IsProbed, probed_of};
-ghost use Rattle.shard_probe.specs.Probed.{parts_in, part_in, code_in, counts_round, probed_list, rows_in};
+ghost use Rattle.shard_probe.specs.Probed.{parts_in, part_in, code_in, counts_round, probed_list, entry_rows};
 
 use crate::part_values::values_of;
 use ball_walk::{Flipped, Flips};
@@ -178,7 +178,7 @@ impl<const W: usize> Probe<W> {
         requires part { part < length (parts_in self.now.version) }
         requires value { value < 2 ^ length (part_in self.now.version part) }
         requires places { from + count ≤ length (probed_list self.now.version part value) }
-        ensures rows { rows_in self.now.version result.now
+        ensures rows { entry_rows self.now.version result.now
             ≡ take count (drop from (probed_list self.now.version part value)) }
         ensures stored { KeepCodes W self.now.version result.now }
         ensures steps { steps.new ≡ steps.old + count }

@@ -8,7 +8,8 @@ ghost use Rattle.hit_source.specs.Moves.{PollAnswers};
 ghost use Rattle.hit_source.specs.Work.{Works, IsStopped};
 ghost use Rattle.shard_query.specs.Opening.{AsksRange, BeginsRange, opened_code};
 ghost use Rattle.shard_query.specs.Tasks.{IsTask, with_kept};
-ghost use Rattle.shard_walk.specs.Planned.{AreStoredRows, kept_of};
+ghost use Rattle.shard_probe.specs.Probed.{KeepCodes};
+ghost use Rattle.shard_walk.specs.Planned.{kept_of};
 
 use gph_codes::Code;
 use hamming_model::Hit;
@@ -154,7 +155,7 @@ impl<const W: usize> RangeTask<W> {
 
 // Adds the hits that a part keeps of a run of postings behind those that were found.
 fn keep<const W: usize>(window: &mut HitWindow, plan: &Plan<W>, part: usize, run: &[(u64, Code<W>)])
-    requires stored { AreStoredRows W plan.now run.now }
+    requires stored { KeepCodes W plan.now.version run.now }
     requires room { length window.old.found + length (kept_of plan.now part run.now)
         ≤ window.old.capacity }
     ensures { window.new ≡ with_kept window.old (kept_of plan.now part run.now) }

@@ -8,7 +8,7 @@ use Rattle.hamming_model.specs.Scan.{hit_of}
 use Rattle.threshold_model.specs.Finding.{threshold_at}
 use Rattle.search_model.specs.Reading.{number_read, unpadded}
 use Rattle.search_model.specs.Keeping.{is_kept, hits_kept, hits_of_parts}
-use Rattle.shard_probe.specs.Probed.{rows_in}
+use Rattle.shard_probe.specs.Probed.{entry_rows}
 use Rattle.shard_probe.proofs.RunLemmas.{passed_joined, rest_cut, run_size}
 use Rattle.shard_walk.specs.Planned.{Planned, parts_of, part_of, planned_query, list_of, kept_of}
 use Rattle.shard_walk.specs.Walks.{Place, IsWalkPlace, BeginsValue, PassesPart, part_begun, value_begun, after_run, parts_walked, rest_of_list, rows_left, reads_left, hits_left, values_of, values_left}
@@ -19,30 +19,30 @@ later p part = parts_walked (list_of p) (part + 1) (drop (part + 1) (parts_of p)
 
 module _ (p : Planned) (w : Place) (place : IsWalkPlace p w) where
   module _ (count : ℕ) (run : List (ℕ × List ℕ)) (within : w.next + count ≤ w.size)
-      (is_run : rows_in p.version run ≡ take count (drop w.next (list_of p w.part w.value))) where
+      (is_run : entry_rows p.version run ≡ take count (drop w.next (list_of p w.part w.value))) where
     abbrev then : List (ℕ × List ℕ)
     then = rest_of_list p (after_run w count) ++ flat_map (list_of p w.part) w.ball
 
-    rows_cut : rows_left p w ≡ (rows_in p.version run ++ then) ∷ later p w.part
+    rows_cut : rows_left p w ≡ (entry_rows p.version run ++ then) ∷ later p w.part
     rows_cut =
         ap (λ rest. (rest ++ flat_map (list_of p w.part) w.ball) ∷ later p w.part)
         (rest_cut (list_of p w.part w.value) w.next w.size count within
         ∙ ap (λ rows. rows ++ rest_of_list p (after_run w count)) (sym is_run))
         ∙ ap (λ rows. rows ∷ later p w.part)
-        (append_assoc (rows_in p.version run) (rest_of_list p (after_run w count)) (flat_map (list_of p w.part) w.ball))
+        (append_assoc (entry_rows p.version run) (rest_of_list p (after_run w count)) (flat_map (list_of p w.part) w.ball))
 
     pub run_hits : hits_left p w ≡ kept_of p w.part run ++ hits_left p (after_run w count)
     run_hits =
         let rest : List Hit = hits_of_parts (parts_of p) p.thresholds (planned_query p) p.tau (w.part + 1) (later p w.part) in
         ap (hits_of_parts (parts_of p) p.thresholds (planned_query p) p.tau w.part) rows_cut
         ∙ ap (λ hits. hits ++ rest) (passed_joined (hit_of (planned_query p)) (is_kept (parts_of p) p.thresholds (planned_query p) p.tau w.part)
-        (rows_in p.version run) then)
+        (entry_rows p.version run) then)
         ∙ append_assoc (kept_of p w.part run) (hits_kept (parts_of p) p.thresholds (planned_query p) p.tau w.part then) rest
 
     pub run_reads : reads_left p w ≡ reads_left p (after_run w count) + length run
     run_reads =
         let cut = ap number_read rows_cut in
-        let joined = length-append (rows_in p.version run) then in
+        let joined = length-append (entry_rows p.version run) then in
         let mapped = length-map run (unpadded p.version.contents.layout.bits) in
         omega arith
 
@@ -111,7 +111,7 @@ pub record ReadsRun (p : Planned) (old new : Place) (run : List (ℕ × List ℕ
 
 pub reads_run : (p : Planned) (own : Place) → IsWalkPlace p own → (inside : Place) → inside ≡ own
     → (count most : ℕ) → count ≡ min (inside.size - inside.next) most → (run : List (ℕ × List ℕ))
-    → rows_in p.version run ≡ take count (drop inside.next (list_of p inside.part inside.value))
+    → entry_rows p.version run ≡ take count (drop inside.next (list_of p inside.part inside.value))
     → ReadsRun p own (after_run inside count) run count
 reads_run p own place inside same count most least run rows =
     let next = ap (λ (w : Place). w.next) same in

@@ -10,7 +10,7 @@ use Rattle.threshold_model.specs.Finding.{first_part, part_distances, threshold_
 use Rattle.search_model.specs.Keeping.{is_kept, hits_kept}
 use Rattle.shard_version.specs.Contents.{IsVersion}
 use Rattle.shard_version.specs.Tables.{Tabled, tabled_code, HasTables}
-use Rattle.shard_probe.specs.Probed.{parts_in, part_in, code_in, probed_list, rows_in, KeepsCode, KeepCodes}
+use Rattle.shard_probe.specs.Probed.{parts_in, part_in, code_in, probed_list, entry_rows, KeepsCode}
 
 -- the version, the words of the query, its radius, and the threshold vector with its cost
 pub record Planned : Type 0 where
@@ -62,10 +62,6 @@ code_of_plan plan stored = code_in plan.version stored
 abbrev pub IsStored : ℕ → Planned → List ℕ → Type 0
 IsStored words plan stored = KeepsCode words plan.version stored
 
--- entries whose words all keep a code
-abbrev pub AreStoredRows : ℕ → Planned → List (ℕ × List ℕ) → Type 0
-AreStoredRows words plan entries = KeepCodes words plan.version entries
-
 -- the code of the query
 abbrev pub planned_query : Planned → List ℕ
 planned_query plan = code_of_plan plan plan.stored
@@ -96,7 +92,7 @@ kept_hit plan part row =
 abbrev pub kept_of : Planned → ℕ → List (ℕ × List ℕ) → List Hit
 kept_of plan part run =
     hits_kept (parts_of plan) plan.thresholds (planned_query plan) plan.tau part
-    (rows_in plan.version run)
+    (entry_rows plan.version run)
 
 -- the thresholds are the first of the cheapest vectors, for codes of so many words
 pub record IsPlanned (words : ℕ) (plan : Planned) : Type 0 where

@@ -4,9 +4,9 @@ ghost use Rattle.std.specs.Prelude.{◌≡◌, ◌+◌, ◌^◌, ◌<◌, ◌≤
 ghost use Rattle.std.specs.Arc.{arc_value};
 ghost use Rattle.hamming_model.specs.declared.limits.TheConstants.{WORDS_MOST};
 ghost use Rattle.threshold_model.specs.Vectors.{units_of};
-ghost use Rattle.shard_walk.specs.Planned.{IsPlanned, PlansQuery, IsStored, AreStoredRows, parts_of, part_of, code_of_plan};
+ghost use Rattle.shard_walk.specs.Planned.{IsPlanned, PlansQuery, IsStored, parts_of, part_of, code_of_plan};
 ghost use Rattle.shard_walk.specs.Planned.{list_of, is_found, part_found, kept_hit};
-ghost use Rattle.shard_probe.specs.Probed.{KeepsCode, rows_in};
+ghost use Rattle.shard_probe.specs.Probed.{KeepsCode, KeepCodes, entry_rows};
 ghost use Rattle.shard_walk.specs.Walks.{ball_of};
 
 use ball_walk::{Flipped, Flips};
@@ -147,9 +147,9 @@ impl<const W: usize> Plan<W> {
         requires part { part < length (parts_of self.now) }
         requires value { value < 2 ^ length (part_of self.now part) }
         requires places { from + count ≤ length (list_of self.now part value) }
-        ensures rows { rows_in self.now.version result.now
+        ensures rows { entry_rows self.now.version result.now
             ≡ take count (drop from (list_of self.now part value)) }
-        ensures stored { AreStoredRows W self.now result.now }
+        ensures stored { KeepCodes W self.now.version result.now }
         ensures steps { steps.new ≡ steps.old + count }
     {
         self.probe.block(part, value, from, count, steps)

@@ -3,7 +3,8 @@
 ghost use Rattle.std.specs.Prelude.{◌≡◌, ◌+◌, ◌-◌, ◌<◌, ◌≤◌, ◌↔◌, ◌++◌, IsTrue, true, false, min, [], length};
 ghost use Rattle.hamming_model.specs.Scan.{in_order, scan};
 ghost use Rattle.threshold_model.specs.Bounds.{values_of_parts};
-ghost use Rattle.shard_walk.specs.Planned.{AreStoredRows, kept_of, parts_of, planned_query};
+ghost use Rattle.shard_probe.specs.Probed.{KeepCodes};
+ghost use Rattle.shard_walk.specs.Planned.{kept_of, parts_of, planned_query};
 ghost use Rattle.shard_walk.specs.Walks.{IsWalkPlace, BeginsValue, PassesPart, part_begun, hits_left, reads_left, values_left};
 
 use crate::plan::Plan;
@@ -82,7 +83,7 @@ impl Walk {
         requires place { IsWalkPlace plan.now self.old }
         ensures place { IsWalkPlace plan.now self.new }
         ensures number { length result.now ≡ min (self.old.size - self.old.next) most }
-        ensures stored { AreStoredRows W plan.now result.now }
+        ensures stored { KeepCodes W plan.now.version result.now }
         ensures hits { hits_left plan.now self.old
             ≡ kept_of plan.now self.old.part result.now ++ hits_left plan.now self.new }
         ensures reads { reads_left plan.now self.old
