@@ -59,7 +59,8 @@ fn word_end(begun: &[u8]) -> usize
 // How many bytes the first whole blocks have that have no space.
 fn blocks_end(begun: &[u8]) -> usize
     ensures within { result ≤ length begun.now }
-    ensures goes_on { words begun.now ≡ words_after (take result begun.now) (drop result begun.now) }
+    ensures goes_on { words begun.now
+        ≡ words_after (take result begun.now) (drop result begun.now) }
 {
     let mut end = 0;
     while begun.len() - end >= BLOCK && has_no_space(&begun[end..end + BLOCK]) {

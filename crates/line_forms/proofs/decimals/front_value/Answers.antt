@@ -8,8 +8,7 @@ use Rattle.line_forms.proofs.decimals.front_value.Goals as goal
 pub overflow_mul-value : goal.overflow_mul-value
 overflow_mul-value c =
     let small = value_small c.args.word.now (c.loop-digit.digit-index + 1) 19 c.requires.short c.requires.digits in
-    let more = digits_value_more 10 c.args.word.now c.loop-digit.digit-index (omega arith) in
-    omega arith
+    omega (arith, digits_value_more 10 c.args.word.now c.loop-digit.digit-index (omega arith))
 
 pub overflow_sub-digit : goal.overflow_sub-digit
 overflow_sub-digit c =
