@@ -2,10 +2,11 @@
 use Rattle.std.proofs.Common.{◌≡◌, ℕ, zero, suc, ◌+◌, ◌-◌, ◌*◌, ◌/◌, ◌%◌, ◌^◌, ◌<◌, ◌≤◌, ◌&&◌, ◌||◌, Bool, true, false, List, [], ◌∷◌, ◌++◌, length, take, drop, replicate, get_or, Option, Some, None, Result, Ok, Err, is_some, All, refl, sym, ap, ◌∙◌, arith, append_assoc, inl, inr}
 use Rattle.std.specs.Prelude.{MatchResult, slice_index, nat_le}
 use Rattle.std.specs.Char.{digit_value}
+use Rattle.std.specs.List.{list_all}
 use Rattle.std.proofs.lemmas.Bool.{and_parts, cases_lt, or_cases}
 use Rattle.std.proofs.lemmas.Bool.Decides.{nat_tests}
 use Rattle.std.proofs.lemmas.Grind.{flat_map-append}
-use Rattle.std.proofs.lemmas.List.{length-take-le, take-take, take-replicate, drop-replicate, get_or-take}
+use Rattle.std.proofs.lemmas.List.{length-take-le, take-take, take-replicate, drop-replicate, get_or-take, take_more}
 use borrow.Author.Tests.{leb-true}
 use Rattle.std.proofs.Math.Seq.{take-append-add, take-append_seam}
 use Rattle.std.proofs.lemmas.List.Elements.{All-cons, All-nil}
@@ -69,7 +70,7 @@ bits_of-pair high low below_high below_low =
 abbrev ok_number : ℕ → Result ℕ FromHexError
 ok_number number = Ok number
 
-abbrev ok_bytes : List ℕ → Result (List ℕ) FromHexError
+abbrev pub ok_bytes : List ℕ → Result (List ℕ) FromHexError
 ok_bytes bytes = Ok bytes
 
 -- two digits and those after them spell a byte and those after it
@@ -101,6 +102,54 @@ code_of_pairs i (a ∷ b ∷ rest) bytes h =
     let more = bind_ok (decode_pairs (i + 2) rest) _ bytes pair.2 in
     code_of_pair a b high.0 low.0 pair.0 rest more.0 bytes (digit_read a i high.0 (hex_digit_value a) high.1)
     (digit_read b (i + 1) low.0 (hex_digit_value b) low.1) low.2 more.2 (code_of_pairs (i + 2) rest more.0 more.1)
+
+-- one of bytes that are all digits
+pub digit_at : (text : List ℕ) (place : ℕ) → list_all is_hex_digit text ≡ true → place < length text → is_hex_digit (get_or text place 0) ≡ true
+digit_at [] place all below = absurd (omega (arith, below))
+digit_at (byte ∷ text) zero all below = (and_parts (is_hex_digit byte) (list_all is_hex_digit text) all).0
+digit_at (byte ∷ text) (suc place) all below =
+    digit_at text place (and_parts (is_hex_digit byte) (list_all is_hex_digit text) all).1 (omega (arith, below))
+
+-- no digits spell no bytes
+pub no_pairs : decode_pairs 0 [] ≡ Ok []
+unfolding decode_pairs
+no_pairs = refl
+
+-- a pair of digits and those after it
+with_pair : (x y i byte : ℕ) (text bytes : List ℕ) → pair_value x y i ≡ Ok byte → decode_pairs (i + 2) text ≡ Ok bytes
+    → decode_pairs i (x ∷ y ∷ text) ≡ Ok (byte ∷ bytes)
+unfolding decode_pairs
+with_pair x y i byte text bytes pair more = rw (pair, more) refl
+
+last_pair : (i a b high low : ℕ) → hex_digit_value a ≡ Some high → hex_digit_value b ≡ Some low → pair_value a b i ≡ Ok (high * 16 + low)
+last_pair i a b high low read_a read_b = rw (read_a, read_b) refl
+
+-- one pair of digits more
+pub pair_more : (i : ℕ) (text bytes : List ℕ) (a b high low : ℕ) → decode_pairs i text ≡ Ok bytes
+    → hex_digit_value a ≡ Some high → hex_digit_value b ≡ Some low
+    → decode_pairs i (text ++ a ∷ b ∷ []) ≡ Ok (bytes ++ (high * 16 + low) ∷ [])
+unfolding decode_pairs
+pair_more i [] bytes a b high low h read_a read_b =
+    let e : [] ≡ bytes = cc in
+    with_pair a b i (high * 16 + low) [] [] (last_pair i a b high low read_a read_b) refl
+    ∙ ap (λ l. ok_bytes (l ++ (high * 16 + low) ∷ [])) e
+pair_more i (x ∷ []) bytes a b high low h read_a read_b = cc h
+pair_more i (x ∷ y ∷ text) bytes a b high low h read_a read_b =
+    let pair = bind_ok (pair_value x y i) _ bytes h in
+    let more = bind_ok (decode_pairs (i + 2) text) _ bytes pair.2 in
+    let e : pair.0 ∷ more.0 ≡ bytes = cc more.2 in
+    with_pair x y i pair.0 (text ++ a ∷ b ∷ []) (more.0 ++ (high * 16 + low) ∷ []) pair.1
+    (pair_more (i + 2) text more.0 a b high low more.1 read_a read_b)
+    ∙ ap (λ l. ok_bytes (l ++ (high * 16 + low) ∷ [])) e
+
+-- the first bytes with two more
+pub two_more : (text : List ℕ) (n : ℕ) → n + 2 ≤ length text
+    → take (n + 2) text ≡ take n text ++ get_or text n 0 ∷ get_or text (n + 1) 0 ∷ []
+two_more text n room =
+    let last : n + 2 ≡ n + 1 + 1 = omega arith in
+    ap (λ i. take i text) last ∙ take_more text (n + 1) 0 (omega (arith, room))
+    ∙ ap (λ l. l ++ get_or text (n + 1) 0 ∷ []) (take_more text n 0 (omega (arith, room)))
+    ∙ append_assoc (take n text) (get_or text n 0 ∷ []) (get_or text (n + 1) 0 ∷ [])
 
 -- digits that spell bytes
 read_ok : (text old new : List ℕ) (number : ℕ) (d : Result (List ℕ) FromHexError) → decode_of text ≡ d

@@ -1,8 +1,9 @@
 //! The bytes of words, the top byte of the first word first.
 
-ghost use Rattle.std.specs.Prelude.{◌≡◌, ℕ, ◌+◌, ◌*◌, ◌++◌, ◌≤◌, length, take, drop};
+ghost use Rattle.std.specs.Prelude.{◌≡◌, ℕ, ◌+◌, ◌*◌, ◌++◌, ◌<◌, ◌≤◌, length, take, drop, Ok, Some, true};
+ghost use Rattle.std.specs.List.{list_all};
 ghost use Rattle.gph_codes.specs.Words.{IsWords, byte_bits, word_bits};
-ghost use Rattle.hex.specs.Hex.{IsBytes};
+ghost use Rattle.hex.specs.Hex.{IsBytes, decode_of, hex_digit_value, is_hex_digit};
 ghost use Rattle.gph_codes.specs.Spelling.{Spells};
 ghost use Rattle.hamming_model.specs.Codes.{bits_of};
 ghost use Rattle.hamming_model.specs.declared.limits.TheConstants.{WORDS_MOST};
@@ -18,7 +19,53 @@ pub fn spell(text: &[u8], number: usize, bytes: &mut [u8]) -> Result<(), FromHex
     requires pairs { length text.now ≡ 2 * number }
     ensures { Spells text.now number bytes.old bytes.new result }
 {
+    if are_digits(text) {
+        put_pairs(text, &mut bytes[..number]);
+        return Ok(());
+    }
+    // This call names the first byte that is no digit.
     hex::decode_to_slice(text, &mut bytes[..number])
+}
+
+// Whether every byte is a hexadecimal digit. Looks at all of them, so that a machine can look at many at once.
+fn are_digits(text: &[u8]) -> bool
+    ensures { result ≡ list_all is_hex_digit text.now }
+{
+    let mut all = true;
+    for byte in text {
+        all &= is_digit(*byte);
+    }
+    all
+}
+
+// Each bound is judged, with no branch.
+fn is_digit(byte: u8) -> bool
+    ensures { result ≡ is_hex_digit byte }
+{
+    let decimal = (b'0' <= byte) & (byte <= b'9');
+    let upper = (b'A' <= byte) & (byte <= b'F');
+    let lower = (b'a' <= byte) & (byte <= b'f');
+    decimal | upper | lower
+}
+
+// Writes the bytes that pairs of digits spell.
+fn put_pairs(text: &[u8], bytes: &mut [u8])
+    requires pairs { length text.now ≡ 2 * length bytes.old }
+    requires digits { list_all is_hex_digit text.now ≡ true }
+    ensures { decode_of text.now ≡ Ok bytes.new }
+{
+    for place in 0..bytes.len() {
+        bytes[place] = digit_value(text[2 * place]) * 16 + digit_value(text[2 * place + 1]);
+    }
+}
+
+// The value of a digit, with no branch: its low four bits, and nine more for a letter.
+fn digit_value(digit: u8) -> u8
+    requires { is_hex_digit digit ≡ true }
+    ensures value { hex_digit_value digit ≡ Some result }
+    ensures small { result < 16 }
+{
+    digit % 16 + digit / 64 * 9
 }
 
 /// The words of a buffer's first bytes.

@@ -1,5 +1,5 @@
 -- The words of a line.
-use Rattle.std.specs.Prelude.{ℕ, ◌==◌, ◌≢◌, ◌&&◌, nat_le, if◌then◌else◌, List, [], ◌∷◌, ◌++◌, Bool}
+use Rattle.std.specs.Prelude.{ℕ, ◌==◌, ◌≢◌, ◌&&◌, nat_le, if◌then◌else◌, List, [], ◌∷◌, ◌++◌, Bool, not}
 use Rattle.std.specs.List.{list_all}
 
 -- a begun word, if it has a byte
@@ -21,6 +21,10 @@ words line = words_after [] line
 -- every byte is printable ASCII
 abbrev pub is_printable : List ℕ → Bool
 is_printable line = list_all (λ byte. nat_le 32 byte && nat_le byte 126) line
+
+-- no byte is a space
+abbrev pub has_no_space : List ℕ → Bool
+has_no_space bytes = list_all (λ byte. not (byte == 32)) bytes
 
 -- the bytes begin with a word, or there are none
 abbrev pub IsBegun : List ℕ → Type 0

@@ -36,7 +36,11 @@ pub fn is_decimal(most: usize, word: &[u8]) -> bool
 fn are_digits(word: &[u8]) -> bool
     ensures { result ≡ list_all (λ byte. nat_lt (digit_value byte) 10) word.now }
 {
-    word.iter().all(|byte| matches!(*byte, b'0'..=b'9'))
+    let mut all = true;
+    for byte in word {
+        all &= byte.is_ascii_digit();
+    }
+    all
 }
 
 /// The number that at most twenty decimal digits write.
@@ -46,9 +50,23 @@ pub fn value_of(word: &[u8]) -> u128
     ensures value { result ≡ digits_value 10 word.now }
     ensures small { (most : ℕ) → length word.now ≤ most → result < 10 ^ most }
 {
-    let mut value = 0;
+    // All but the last digit write a number of 64 bits.
+    let Some((last, front)) = word.split_last() else {
+        return 0;
+    };
+    u128::from(front_value(front)) * 10 + u128::from(*last - b'0')
+}
+
+// The number that at most nineteen decimal digits write.
+fn front_value(word: &[u8]) -> u64
+    requires short { length word.now ≤ 19 }
+    requires digits { AllDigits 10 word.now }
+    ensures value { result ≡ digits_value 10 word.now }
+    ensures small { result < 10 ^ 19 }
+{
+    let mut value: u64 = 0;
     for digit in word {
-        value = value * 10 + u128::from(*digit - b'0');
+        value = value * 10 + u64::from(*digit - b'0');
     }
     value
 }

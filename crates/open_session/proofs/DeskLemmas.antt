@@ -8,7 +8,7 @@ use Rattle.session_desk.specs.Calls.{OnlyLearns, TellsLayout}
 use Rattle.open_session.specs.KeptBuild.{KeepsBuilds}
 use Rattle.shard_rebuild.specs.ShardBuilds.{SeesMore}
 use Rattle.shard_rebuild.proofs.BuildLemmas.{build_lasts, learns_more}
-use Rattle.std.proofs.Common.{zero, suc, ◌+◌, ◌-◌, ◌≤◌, slice_index_or, None, refl, arith}
+use Rattle.std.proofs.Common.{zero, suc, ◌≤◌, slice_index_or, None, refl, arith}
 use Rattle.std.proofs.lemmas.List.{length-map}
 use Rattle.session_model.specs.Upkeep.{entries_beyond}
 use Rattle.query_opening.specs.Pinning.{ComesOn}

@@ -1,52 +1,21 @@
 -- Lemmas on the layouts that a session has in memory: one query more, whose layouts are compared with the last of their shards.
-use Rattle.std.proofs.Common.{◌≡◌, ℕ, zero, suc, ◌+◌, ◌<◌, ◌≤◌, ◌==◌, min, Bool, true, false, cond}
+use Rattle.std.proofs.Common.{◌≡◌, ℕ, zero, suc, ◌+◌, ◌<◌, ◌≤◌, ◌==◌, min, false, cond}
 use Rattle.std.proofs.Common.{List, [], ◌∷◌, ◌++◌, length, map, take, drop, slice_index_or, Option, Some, None}
 use Rattle.std.proofs.Common.{refl, sym, ap, ◌∙◌, subst, arith, inl, inr, append_assoc, length-append}
 use Rattle.std.specs.List.{AllByRecursion}
 use Rattle.std.specs.Option.{option_or}
-use Rattle.std.specs.Str.{bytes_eq}
 use Rattle.std.specs.declared.alloc.Global.{Global}
 use Rattle.std.specs.declared.sync.Arc.{Arc}
 use Rattle.std.proofs.lemmas.Bool.{eq-eqb, ne_eqb}
 use Rattle.std.proofs.lemmas.List.{map-append}
-use Rattle.std.proofs.lemmas.Slice.Eq.{bytes_eq-Decides}
-use Rattle.part_layout.specs.Faults.{IsReadBack}
-use Rattle.part_layout.specs.Grammar.{spelled}
-use Rattle.part_layout.specs.Laid.{Laid}
-use Rattle.part_layout.specs.Text.{layout_text}
 use Rattle.shard_version.specs.Tables.{Tabled}
 use Rattle.versioned_shard.specs.Shards.{contents_at}
 use Rattle.query_opening.specs.Pinning.{contents_of_all}
 use Rattle.session_model.specs.Ledger.{layout_at}
 use Rattle.session_model.specs.Told.{ShardLayouts, ToldLayout, is_same_layout, last_told, layout_from, pinned_anew, told_from}
-use Rattle.session_model.proofs.ToldLemmas.{IsLastOr, is_same, last_append, last_pinned, same_is, told_last, told_more}
+use Rattle.session_model.proofs.ToldLemmas.{IsLastOr, last_append, last_pinned, told_last, told_more}
 use Rattle.open_session.specs.declared.pinned_layouts.LayoutFrom.{LayoutFrom}
 use Rattle.open_session.specs.Pinned.{PinnedSoFar, PinsMore, has_told, layouts_in, told_layout, told_next}
-
--- ---- layouts by their texts
-
-same_tests : (one other : Bool) → (one ≡ true → other ≡ true) → (other ≡ true → one ≡ true) → one ≡ other
-same_tests true other there back = sym (there refl)
-same_tests false true there back = back refl
-same_tests false false there back = refl
-
--- layouts are the same where their texts are
-pub same_texts : (one other : Laid) → IsReadBack one → IsReadBack other
-    → bytes_eq (layout_text one.parts) (layout_text other.parts) ≡ is_same_layout one.parts other.parts
-same_texts one other first second =
-    let texts = bytes_eq-Decides (layout_text one.parts) (layout_text other.parts) in
-    same_tests (bytes_eq (layout_text one.parts) (layout_text other.parts)) (is_same_layout one.parts other.parts)
-    (λ is. is_same one.parts other.parts (sym first.same_parts ∙ ap spelled (texts.0 is) ∙ second.same_parts))
-    (λ is. texts.1 (ap layout_text (same_is one.parts other.parts is)))
-
-differ_by : (one other : List (List ℕ)) (same : Bool) → is_same_layout one other ≡ same
-    → (length one ≡ length other → ⊥) → same ≡ false
-differ_by one other true is differ = absurd (differ (ap length (same_is one other is)))
-differ_by one other false is differ = refl
-
--- layouts of as many parts alone are the same
-pub other_parts : (one other : List (List ℕ)) → (length one ≡ length other → ⊥) → false ≡ is_same_layout one other
-other_parts one other differ = sym (differ_by one other (is_same_layout one other) refl differ)
 
 -- ---- the last that is told of a shard
 

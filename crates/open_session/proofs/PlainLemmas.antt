@@ -11,7 +11,7 @@ use Rattle.query_protocol.specs.Requests.{Plan, Cancel, Layout, Repart, Swap, Se
 use Rattle.query_protocol.specs.Requests as request
 use Rattle.query_protocol.specs.Replies.{LineReply}
 use Rattle.query_protocol.specs.Replies as reply
-use Rattle.session_model.specs.State.{Build, Query, State, open_queries, query_of}
+use Rattle.session_model.specs.State.{Query, State, open_queries, query_of}
 use Rattle.session_model.specs.Builds.{was_moved, was_swapped}
 use Rattle.session_model.specs.Entries.{Exchange, Stays, code_reply}
 use Rattle.session_model.specs.Openings.{OpensUnlessMany, OpensUnlessUsed, most_open}

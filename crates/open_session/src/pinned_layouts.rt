@@ -1,13 +1,15 @@
 //! The layouts that the queries of a session pinned.
 
-ghost use Rattle.std.specs.Prelude.{◌≡◌, ◌≤◌, ◌++◌, [], length, map, take, OnErr, OnOk};
+ghost use Rattle.std.specs.Prelude.{◌≡◌, ◌<◌, ◌≤◌, ◌++◌, [], length, map, take, OnErr, OnOk};
 ghost use Rattle.std.specs.Arc.{arc_value};
+ghost use Rattle.std.specs.Str.{bytes_eq};
 ghost use Rattle.hamming_model.specs.declared.limits.TheConstants.{SHARDS_MOST};
+ghost use Rattle.part_layout.specs.Laid.{part_at};
 ghost use Rattle.query_opening.specs.Pinning.{contents_of_all};
 ghost use Rattle.session_model.specs.Told.{is_same_layout};
 ghost use Rattle.open_session.specs.Pinned.{PinsMore, has_told, layouts_in, pinned_in, told_layout, told_next};
 
-use part_layout::{Layout, text_of_layouts};
+use part_layout::Layout;
 use read_meter::NoMemory;
 use shard_version::Version;
 use std::alloc::Global;
@@ -98,13 +100,36 @@ fn is_told(told: &[LayoutFrom], shard: u32, layout: &Layout) -> bool
     false
 }
 
-// Whether two layouts are the same. The text of a layout tells its parts.
+// Whether two layouts are the same: as many parts, each with the same positions in the same order.
 fn is_same(one: &Layout, other: &Layout) -> bool
     ensures { result ≡ is_same_layout one.now.parts other.now.parts }
 {
-    text_of_layouts();
-    if one.parts() != other.parts() {
+    let parts = one.parts();
+    if parts != other.parts() {
         return false;
     }
-    one.text().bytes() == other.text().bytes()
+    for part in 0..parts {
+        if !is_same_part(one, other, part) {
+            return false;
+        }
+    }
+    true
+}
+
+// Whether a part has the same positions in two layouts, in the same order.
+fn is_same_part(one: &Layout, other: &Layout, part: u32) -> bool
+    requires one { part < length one.now.parts }
+    requires other { part < length other.now.parts }
+    ensures { result ≡ bytes_eq (part_at one.now part) (part_at other.now part) }
+{
+    let width = one.width(part);
+    if width != other.width(part) {
+        return false;
+    }
+    for place in 0..width {
+        if one.position(part, place) != other.position(part, place) {
+            return false;
+        }
+    }
+    true
 }

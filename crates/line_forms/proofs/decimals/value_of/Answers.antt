@@ -1,29 +1,24 @@
-use Rattle.std.proofs.Common.{get_or, arith}
-use Rattle.std.proofs.lemmas.Int.Digits.{digits_value_more}
-use Rattle.std.proofs.lemmas.Str.{digit_value_digit}
-use Rattle.std.proofs.lemmas.Str.Parse.{digit_at}
-use Rattle.line_forms.proofs.FormLemmas.{value_small}
+use Rattle.std.proofs.Common.{[], ◌≤◌, arith}
+use Rattle.line_forms.proofs.FormLemmas.{by_last, whole_small}
 use Rattle.line_forms.proofs.decimals.value_of.Goals as goal
 
-pub overflow_mul-value : goal.overflow_mul-value
-overflow_mul-value c =
-    let small = value_small c.args.word.now c.loop-digit.digit-index 20 c.requires.short c.requires.digits in omega arith
+pub returns-in_default-clause-small : goal.returns-in_default-clause-small
+returns-in_default-clause-small c = λ most short. let none : 0 ≤ most = omega arith in whole_small [] most none tt
 
-pub overflow_sub-digit : goal.overflow_sub-digit
-overflow_sub-digit c =
-    let range = digit_at c.args.word.now c.loop-digit.digit-index c.requires.digits (omega arith) in omega arith
+pub front_value-requires-clause-digits : goal.front_value-requires-clause-digits
+front_value-requires-clause-digits c =
+    (by_last c.args.word.now c.in-Some.front.now c.in-Some.last.now c.in-Some.ensures.cases.0 c.requires.digits).0
 
-pub overflow_add-value : goal.overflow_add-value
-overflow_add-value c =
-    let small = value_small c.args.word.now c.loop-digit.digit-index 20 c.requires.short c.requires.digits in omega arith
+pub overflow_sub-last : goal.overflow_sub-last
+overflow_sub-last c =
+    let last = by_last c.args.word.now c.in-Some.front.now c.in-Some.last.now c.in-Some.ensures.cases.0 c.requires.digits in omega (arith, last.1)
 
-pub loop-digit-preserved : goal.loop-digit-preserved
-loop-digit-preserved c =
-    let range = digit_at c.args.word.now c.loop-digit.digit-index c.requires.digits (omega arith) in
-    let digit = digit_value_digit (get_or c.args.word.now c.loop-digit.digit-index 0) range in
-    let more = digits_value_more 10 c.args.word.now c.loop-digit.digit-index (omega arith) in
-    omega arith
+pub returns-clause-value : goal.returns-clause-value
+returns-clause-value c =
+    let last = by_last c.args.word.now c.in-Some.front.now c.in-Some.last.now c.in-Some.ensures.cases.0 c.requires.digits in
+    omega (arith, last.2, c.from.ensures, c.from-2.ensures, c.front_value.ensures.value)
 
 pub returns-clause-small : goal.returns-clause-small
 returns-clause-small c = λ most short.
-    let small = value_small c.args.word.now c.loop-digit.digit-index most short c.requires.digits in omega arith
+    let last = by_last c.args.word.now c.in-Some.front.now c.in-Some.last.now c.in-Some.ensures.cases.0 c.requires.digits in
+    omega (arith, last.2, c.from.ensures, c.from-2.ensures, c.front_value.ensures.value, whole_small c.args.word.now most short c.requires.digits)
