@@ -1,5 +1,5 @@
--- What a table of flips keeps: all numbers of its width, and where those with so many ones begin; and
--- what a walk over it keeps.
+-- What a table of flips keeps: all numbers of its width, and where those with so many ones begin;
+-- and what a walk over it keeps.
 -- No public clause cites this module.
 use Rattle.std.specs.Prelude.{◌≡◌, ℕ, ◌+◌, ◌^◌, ◌<◌, ◌≤◌, List, length, map, take, drop, slice_index}
 use Rattle.std.specs.Int.RustNames.{bit_xor}

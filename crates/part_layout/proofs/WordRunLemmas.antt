@@ -14,7 +14,7 @@ use Rattle.hamming_model.specs.Codes.{StandsFor}
 use Rattle.hamming_model.specs.Layouts.{part_value}
 use Rattle.gph_codes.specs.Words.{word_bits}
 use Rattle.gph_codes.proofs.BitsLemmas.{get_or-word_bits}
-use Rattle.part_layout.specs.Kept.{IsKept, RunsOn, laid_of}
+use Rattle.part_layout.specs.Kept.{IsLaidInRuns, RunsOn, laid_of}
 use Rattle.part_layout.specs.Laid.{Laid, part_at}
 use Rattle.part_layout.proofs.LayoutLemmas.{part_below}
 
@@ -138,10 +138,10 @@ one_run_more parts runs done run before told =
 
 -- what is kept of a part that runs on in one word
 pub run_of_part : (bits : ℕ) (parts : List (Vec ℕ)) (runs : List (Option ℕ)) (laid : Laid) (part first : ℕ) (own : Option ℕ)
-    → laid_of bits parts ≡ laid → IsKept (laid_of bits parts) runs → part < length laid.parts → own ≡ get_or runs part own → own ≡ Some first
+    → laid_of bits parts ≡ laid → IsLaidInRuns (laid_of bits parts) runs → part < length laid.parts → own ≡ get_or runs part own → own ≡ Some first
     → RunsOn (part_at laid part) first × (first + length (part_at laid part) ≤ laid.bits)
 run_of_part bits parts runs laid part first own seen kept below is told =
-    let shown : IsKept laid runs = rw seen at kept in
+    let shown : IsLaidInRuns laid runs = rw seen at kept in
     let sized = shown.runs_are.number in
     let here : get_or runs part None ≡ Some first = get_or_default runs part None own (omega arith) ∙ sym is ∙ told in
     let run = shown.runs_are.each part first below here in

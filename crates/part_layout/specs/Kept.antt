@@ -25,7 +25,7 @@ pub record AreRuns (parts : List (List ℕ)) (runs : List (Option ℕ)) : Type 0
       → RunsOn (slice_index_or parts part []) first
 
 -- a layout, and which of its parts run on in one word
-pub record IsKept (laid : Laid) (runs : List (Option ℕ)) : Type 0 where
+pub record IsLaidInRuns (laid : Laid) (runs : List (Option ℕ)) : Type 0 where
   pub is_laid : IsLaid laid
   pub runs_are : AreRuns laid.parts runs
 

@@ -35,7 +35,7 @@ pub struct Layout {
 }
 
 impl Model for Layout {
-    ghost use Rattle.part_layout.specs.Kept.{IsKept, laid_of};
+    ghost use Rattle.part_layout.specs.Kept.{IsLaidInRuns, laid_of};
     ghost use Rattle.part_layout.specs.Laid.{Laid, laid_code};
 
     ghost Value = { Laid };
@@ -44,7 +44,7 @@ impl Model for Layout {
 
     ghost view = { λ kept. laid_of kept.bits kept.parts.items };
 
-    ghost invariant = { λ kept. IsKept (laid_of kept.bits kept.parts.items) kept.runs.items };
+    ghost invariant = { λ kept. IsLaidInRuns (laid_of kept.bits kept.parts.items) kept.runs.items };
 }
 
 impl Layout {

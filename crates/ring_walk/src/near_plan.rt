@@ -150,7 +150,8 @@ impl<const W: usize> NearPlan<W> {
         requires { part < length (near_parts self.now) }
         ensures values { result.values ≡ near_ring self.now part apart }
         ensures width { result.width ≡ length (near_part self.now part) }
-        ensures in_width { All (λ value. value < 2 ^ length (near_part self.now part)) result.values }
+        ensures in_width { All (λ value.
+            value < 2 ^ length (near_part self.now part)) result.values }
     {
         self.probe.ring(part, apart)
     }

@@ -28,7 +28,8 @@ module _ (tau : ℕ) (rows : List (Vec ℕ)) (others : List ℕ) (table : PairTa
       let number = length-map rows (λ (row : Vec ℕ). row.items) in
       two_tried splits agrees three (sample_table_of tau rows others).levels pair values value next_values next_value (omega arith) counted few few_next
       least (omega arith)
-      (subst (λ xs. IsLeastJoint (levels_of values value (tau + 2)) xs (tau + 1) least) is_next (subst (λ xs. IsLeastJoint xs next (tau + 1) least) is_first is))
+      (subst (λ xs. IsLeastJoint (levels_of values value (tau + 2)) xs (tau + 1) least) is_next (subst (λ xs. IsLeastJoint xs next (tau + 1) least)
+      is_first is))
       ∙ of_table
 
   pub tried_by_three : (beside : List ℕ) → beside ≡ others → 3 ≤ length rows → IsTurnedTo pair table

@@ -2,7 +2,8 @@
 use Rattle.std.proofs.Common.{◌≡◌, ℤ, ℕ, zero, suc, ◌+◌, ◌-◌, ◌*◌, ◌<◌, ◌≤◌, List, [], ◌∷◌, ◌++◌, length, take, get_or, map}
 use Rattle.std.proofs.Common.{drop, set, refl, sym, ap, ◌∙◌, subst, arith}
 use Rattle.std.proofs.Math.Nat.{mul_comm}
-use Rattle.std.proofs.lemmas.List.{length-take-le, length-drop, length-append, take_at, drop_at, drop-drop, get_or-take, get_or-drop, get_or-set_same, drop-set-lt, append_assoc}
+use Rattle.std.proofs.lemmas.List.{length-take-le, length-drop, length-append, take_at, drop_at}
+use Rattle.std.proofs.lemmas.List.{drop-drop, get_or-take, get_or-drop, get_or-set_same, drop-set-lt, append_assoc}
 use Rattle.std.proofs.lemmas.Nat.{mul-add-lt}
 use borrow.Rule.Slice.PartMut.{put_mid, post_of}
 use Rattle.threshold_model.specs.Splits.{units_total, split_cost, threshold_of, IsBest}
@@ -147,7 +148,8 @@ module _ (count : ℕ → ℕ → ℕ) (width parts units pick : ℕ) (asked cos
       (λ x le. omega (arith, asks.counts x (omega arith), solved.cost (units - x) (omega arith))) in
       let best = best_more count 0 (length others) units pick (follow others)
       (λ left le. solved.best left (omega arith)) (same_first (joint_cost asked costs units) joint units pick agree first) in
-      subst (λ n. IsBest count 0 (suc n) units (follow (pick_rows width (suc parts) (set picks units pick)) units)) (rows_number width parts (drop (1 * width) picks))
+      subst (λ n. IsBest count 0 (suc n) units (follow (pick_rows width (suc parts) (set picks units pick)) units)) (rows_number width parts (drop (1
+      * width) picks))
       (subst (IsBest count 0 (suc (length others)) units) (sym first_split) best)
 
   pub first_cost : joint_cost asked costs units pick ≡ split_cost count 0 (follow (pick_rows width (suc parts) (set picks units pick)) units)

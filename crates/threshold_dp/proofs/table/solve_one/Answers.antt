@@ -34,6 +34,7 @@ returns-clause-cost g c =
     let asks = subst (λ n. AreAsked count 0 n c.read_counts.new.asked) c.solve_from.auto.asked c.read_counts.ensures.asked in
     let room : width ≤ length picks = omega (arith, c.solve_from.auto.picks, row_within 0 c.args.parts width (omega arith) (omega arith)) in
     c.cheapest_units-pick.ensures.cost
-    ∙ subst (λ n. joint_cost c.read_counts.new.asked c.solve_from.new.costs units pick ≡ split_cost count 0 (follow (pick_rows width n (set picks units pick)) units)) more
+    ∙ subst (λ n. joint_cost c.read_counts.new.asked c.solve_from.new.costs units pick ≡ split_cost count 0 (follow (pick_rows width n (set picks
+    units pick)) units)) more
     (first_cost count width (c.args.parts - 1) units pick c.read_counts.new.asked c.solve_from.new.costs picks (omega arith) room asks
     c.solve_from.ensures.solved c.cheapest_units-pick.ensures.first)

@@ -31,7 +31,8 @@ returns-clause-values c =
 
 pub returns-clause-in_width : goal.returns-clause-in_width
 returns-clause-in_width c =
-    let P : ℕ → Type 0 = λ w. All (λ other. other < 2 ^ w) (flipped_from c.args.value c.width-width.result c.start-at.result (c.start.result - c.start-at.result)) in
+    let P : ℕ → Type 0 = λ w. All (λ other. other < 2 ^ w) (flipped_from c.args.value c.width-width.result c.start-at.result (c.start.result -
+    c.start-at.result)) in
     subst P c.width-width.ensures.width
     ((begins_ring c.args.value c.args.flips.now c.requires.in_width c.width-width.result c.args.apart c.start-at.result c.start.result
     c.width-width.ensures.width c.width-width.ensures.small c.if-apart-width.false c.start-at.ensures c.start.ensures).below)

@@ -44,7 +44,8 @@ come-requires g c = (
 pub returns-in_default-come-clause-step : goal.returns-in_default-come-clause-step
 returns-in_default-come-clause-step g c =
     subst (λ (w : WorldView). WorldStep w.setting w.state (Advance c.args.query c.args.shard) (Err NoMemory)
-    (state_seen c.self.inside.bits c.self.inside.journal (slice_set c.self.inside.places.items c.args.shard c.come.new.place) c.self.inside.queries.items)) c.self.view_is
+    (state_seen c.self.inside.bits c.self.inside.journal (slice_set c.self.inside.places.items c.args.shard c.come.new.place)
+    c.self.inside.queries.items)) c.self.view_is
     (advance_lacks c.self.inside.bits c.self.inside.room c.self.inside.journal c.self.inside.places.items c.self.inside.queries.items
     c.self.invariant c.args.query c.index-held.result.now
     (found_there c.self.inside.queries.items c.args.query c.index-held.result.now

@@ -27,11 +27,13 @@ remove_from_each-requires g c =
 pub invariant_of-self : goal.invariant_of-self
 invariant_of-self g c =
     kept_deleted _ _ _ _ c.self.inside.rows c.self.inside.tables.items c.self.invariant c.args.self.contents
-    (ap (λ (version : Tabled). version.contents) c.self.view_is) c.args.key c.requires.present c.in_ok-code.code c.in_ok-code.ensures.code _ (c.deref-2.ensures ∙ c.layout.ensures ∙ c.deref.ensures)
+    (ap (λ (version : Tabled). version.contents) c.self.view_is) c.args.key c.requires.present c.in_ok-code.code c.in_ok-code.ensures.code _
+    (c.deref-2.ensures ∙ c.layout.ensures ∙ c.deref.ensures)
     _ c.in_ok-code.ensures.removed c.changes_follow_a_list.ensures.removed c.remove_from_each.new.tables.items c.in_ok-remove_from_each.ensures
 
 pub returns : goal.returns
 returns g c =
     seen_deleted _ _ _ _ c.self.inside.rows c.self.inside.tables.items c.self.invariant c.args.self.contents
-    (ap (λ (version : Tabled). version.contents) c.self.view_is) c.args.key c.requires.present c.in_ok-code.code c.in_ok-code.ensures.code _ (c.deref-2.ensures ∙ c.layout.ensures ∙ c.deref.ensures)
+    (ap (λ (version : Tabled). version.contents) c.self.view_is) c.args.key c.requires.present c.in_ok-code.code c.in_ok-code.ensures.code _
+    (c.deref-2.ensures ∙ c.layout.ensures ∙ c.deref.ensures)
     _ c.in_ok-code.ensures.removed
