@@ -3,6 +3,7 @@
 #![tactic(auto)]
 
 mod desk;
+mod pinned_layout;
 mod shards;
 mod solo;
 

@@ -12,6 +12,7 @@ ghost use Rattle.session_desk.specs.Desks.{IsOwnFront, left_at, new_desk};
 ghost use Rattle.session_desk.specs.Solos.{desk_of};
 
 use crate::desk::Desk;
+use crate::pinned_layout::PinnedLayout;
 use crate::shards::{first_layout, first_shard, pin_shard, swap_shard, text_of};
 use commit_journal::{Decided, Front, Journal};
 use entry_log::Op;
@@ -32,7 +33,7 @@ pub struct SoloDesk<const W: usize> {
     last: u64,
     shards: Vec<Shard<W>>,
     // position and layout of each shard's last pin
-    pins: Vec<Option<(u64, LayoutText)>>,
+    pins: Vec<Option<(u64, PinnedLayout)>>,
     done: u64,
     late: u64,
 }
@@ -145,7 +146,8 @@ impl<const W: usize> Desk<W> for SoloDesk<W> {
     ) -> Result<Arc<Version<W>>, NoMemory> {
         let place = shard as usize;
         let version = pin_shard(&self.journal, &mut self.shards[place], front, steps)?;
-        self.pins[place] = Some((front.position(), text_of(&version)));
+        let layout = PinnedLayout::of(&version)?;
+        self.pins[place] = Some((front.position(), layout));
         Ok(version)
     }
 
