@@ -1,0 +1,38 @@
+//! What the words after `repart` ask.
+
+ghost use Rattle.line_forms.specs.Words.{words};
+ghost use Rattle.part_layout.specs.Laid.{IsCodeSize};
+ghost use Rattle.trace_lines.specs.EventAsked.{repart_asked};
+ghost use Rattle.trace_lines.specs.EventForms.{two_words};
+ghost use Rattle.trace_lines.specs.EventRequests.{AsksWithMemory};
+
+use crate::faults::of_word;
+use crate::forms::{layout_of, two_words};
+use crate::EventRequest;
+use line_forms::shard_of;
+use query_protocol::LineFault;
+use read_meter::NoMemory;
+use std::alloc::Global;
+
+// The words after `repart`: a shard and a layout.
+pub(crate) fn read_repart<const W: usize>(
+    alloc: Global,
+    bits: u32,
+    after: &[u8],
+) -> Result<EventRequest<W>, LineFault>
+    requires { IsCodeSize bits }
+    ensures { AsksWithMemory W bits result (repart_asked bits (two_words (words after.now))) }
+{
+    let (shard, text) = match two_words(after) {
+        Ok(two) => two,
+        Err(fault) => return Err(LineFault::Bad(fault)),
+    };
+    let Some(shard) = shard_of(shard) else {
+        return Err(LineFault::Bad(of_word(2)));
+    };
+    match layout_of(alloc, bits, text) {
+        None => Err(LineFault::Bad(of_word(3))),
+        Some(Ok(layout)) => Ok(EventRequest::BuildStart { shard, layout }),
+        Some(Err(NoMemory)) => Err(LineFault::NoMemory),
+    }
+}
