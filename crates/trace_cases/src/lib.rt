@@ -6,3 +6,5 @@
 mod answers;
 #[cfg(test)]
 mod lines;
+#[cfg(test)]
+mod served;

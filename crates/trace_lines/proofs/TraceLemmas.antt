@@ -142,3 +142,17 @@ begins all_runs z s sound = record {
   formed = tt;
   answers = all_runs z s [] [] s tt sound refl;
 }
+
+-- the state after a run is sound
+sound_after : (z : Setting) (s : WorldState) (events : List Event) (answers : List Answer) (t : WorldState)
+    → IsSound z s → IsSoundRun z s events answers t → IsSound z t
+sound_after z s [] [] t sound run = subst (IsSound z) (sym run) sound
+sound_after z s [] (a ∷ answers) t sound run = absurd run
+sound_after z s (e ∷ events) [] t sound run = absurd run
+sound_after z s (e ∷ events) (a ∷ answers) t sound run = sound_after z run.0 events answers t run.2 run.3
+
+-- so is that after a trace
+pub stays_sound : (z : Setting) (s : WorldState) (lines texts : List (List ℕ)) (t : WorldState)
+    → IsSound z s → IsTrace z s lines texts t → IsSound z t
+stays_sound z s lines texts t sound trace =
+    sound_after z s (events_met trace.met) (answers_met trace.met) t sound trace.answers.run

@@ -1,5 +1,6 @@
 -- What an event that was read is: it keeps its code with zeros after the code's own bits.
 use Rattle.std.specs.Prelude.{◌≡◌, ℕ, ◌≤◌, take, Option, Some, None, Result, Ok, Err, IfOk}
+use Rattle.std.specs.Arc.{arc_value}
 use Rattle.hamming_model.specs.Codes.{StandsFor}
 use Rattle.hamming_model.specs.Recoded.{IsStoredOperation}
 use Rattle.hamming_model.specs.Scan.{Range, Near}
@@ -24,7 +25,7 @@ event_of bits (kept.Pin query shard) = Pin query shard
 event_of bits (kept.Poll query shard budget) = Poll query shard budget
 event_of bits (kept.Give query) = Give query
 event_of bits (kept.Cancel query) = Cancel query
-event_of bits (kept.BuildStart shard layout) = BuildStart shard layout
+event_of bits (kept.BuildStart shard layout) = BuildStart shard (arc_value layout)
 event_of bits (kept.BuildStep shard rows) = BuildStep shard rows
 event_of bits (kept.Follow shard) = Follow shard
 event_of bits (kept.Swap shard) = Swap shard
@@ -37,7 +38,7 @@ IsFit W bits (kept.OpenRange who tau stored) =
     StandsFor W bits stored (take bits stored) × (tau ≤ bits)
 IsFit W bits (kept.OpenNear who k stored) = StandsFor W bits stored (take bits stored) × (1 ≤ k)
 IsFit W bits (kept.Poll query shard budget) = 1 ≤ budget
-IsFit W bits (kept.BuildStart shard layout) = IsLayoutFor bits layout
+IsFit W bits (kept.BuildStart shard layout) = IsLayoutFor bits (arc_value layout)
 IsFit W bits other = Unit {0}
 
 -- what was asked, its code cut so

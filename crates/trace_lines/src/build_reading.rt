@@ -1,8 +1,10 @@
 //! What the words after `repart` ask.
 
+ghost use Rattle.line_forms.specs.Forms.{shard_form};
 ghost use Rattle.line_forms.specs.Words.{words};
 ghost use Rattle.part_layout.specs.Laid.{IsCodeSize};
-ghost use Rattle.trace_lines.specs.EventAsked.{repart_asked};
+ghost use Rattle.query_protocol.specs.ShardsAsked.{layout_form};
+ghost use Rattle.trace_lines.specs.EventAsked.{repart_asked, repart_of};
 ghost use Rattle.trace_lines.specs.EventForms.{two_words};
 ghost use Rattle.trace_lines.specs.EventRequests.{AsksWithMemory};
 
@@ -23,10 +25,24 @@ pub(crate) fn read_repart<const W: usize>(
     requires { IsCodeSize bits }
     ensures { AsksWithMemory W bits result (repart_asked bits (two_words (words after.now))) }
 {
-    let (shard, text) = match two_words(after) {
-        Ok(two) => two,
-        Err(fault) => return Err(LineFault::Bad(fault)),
-    };
+    match two_words(after) {
+        Ok((shard, text)) => read_build(alloc, bits, shard, text),
+        Err(fault) => Err(LineFault::Bad(fault)),
+    }
+}
+
+// A shard and a layout.
+#[tactic(auto, using(crate::proofs::FormLemmas::laid_again))]
+fn read_build<const W: usize>(
+    alloc: Global,
+    bits: u32,
+    shard: &[u8],
+    text: &[u8],
+) -> Result<EventRequest<W>, LineFault>
+    requires { IsCodeSize bits }
+    ensures { AsksWithMemory W bits result
+        (repart_of bits (shard_form shard.now) (layout_form bits text.now)) }
+{
     let Some(shard) = shard_of(shard) else {
         return Err(LineFault::Bad(of_word(2)));
     };

@@ -7,6 +7,7 @@ ghost use Rattle.trace_lines.specs.EventRequests.{event_of};
 use entry_log::Op;
 use gph_codes::Code;
 use part_layout::Layout;
+use std::sync::Arc;
 
 /// An event of a world. Queries are numbered in the order of their openings, from 0.
 #[derive(Drop)]
@@ -28,7 +29,7 @@ pub enum EventRequest<const W: usize> {
     /// A query is cancelled.
     Cancel { query: u32 },
     /// A build of a shard begins.
-    BuildStart { shard: u32, layout: Layout },
+    BuildStart { shard: u32, layout: Arc<Layout> },
     /// A build places so many rows at most.
     BuildStep { shard: u32, rows: u32 },
     /// A build follows the history to its end.
@@ -44,7 +45,8 @@ impl<const W: usize> EventRequest<W> {
         ensures { (bits : ℕ) → result ≡ subject (event_of bits self.now) }
     {
         match self {
-            EventRequest::Commit { op, .. } => op.key(),
+            EventRequest::Commit { op: Op::Add { key, .. }, .. } => *key,
+            EventRequest::Commit { op: Op::Delete { key }, .. } => *key,
             EventRequest::OpenRange { .. }
             | EventRequest::OpenNear { .. }
             | EventRequest::Poll { .. } => 0,

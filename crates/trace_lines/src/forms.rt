@@ -1,6 +1,7 @@
 //! The words that a line has left, so many of them, and what a word of each form stands for.
 
 ghost use Rattle.std.specs.Prelude.{◌≡◌, ◌≤◌, [], ◌∷◌, Some, Err, is_some, IfOk, IfSome, MatchResult};
+ghost use Rattle.std.specs.Arc.{arc_value};
 ghost use Rattle.line_forms.specs.Words.{words};
 ghost use Rattle.part_layout.specs.Laid.{IsCodeSize};
 ghost use Rattle.query_protocol.specs.Asked.{nearest_of};
@@ -16,6 +17,7 @@ use part_layout::{Layout, LayoutFault};
 use query_protocol::Bad;
 use read_meter::NoMemory;
 use std::alloc::Global;
+use std::sync::Arc;
 
 // The one word that is left.
 pub(crate) fn one_word(after: &[u8]) -> Result<&[u8], Bad>
@@ -103,20 +105,32 @@ pub(crate) fn nearest_of(word: &[u8]) -> Option<u32>
 }
 
 // The layout of so many bits that a text spells, where it spells one, and maybe no memory for it.
-pub(crate) fn layout_of(alloc: Global, bits: u32, text: &[u8]) -> Option<Result<Layout, NoMemory>>
+pub(crate) fn layout_of(
+    alloc: Global,
+    bits: u32,
+    text: &[u8],
+) -> Option<Result<Arc<Layout>, NoMemory>>
     requires { IsCodeSize bits }
     ensures form { is_some result ≡ is_some (layout_form bits text.now) }
     ensures layout { IfSome result (λ read. IfOk read (λ layout.
-        layout_form bits text.now ≡ Some layout.parts)) }
-    ensures fit { IfSome result (λ read. IfOk read (λ layout. IsLayoutFor bits layout)) }
+        layout_form bits text.now ≡ Some (arc_value layout).parts)) }
+    ensures fit { IfSome result (λ read. IfOk read (λ layout.
+        IsLayoutFor bits (arc_value layout))) }
 {
     match Layout::parse(alloc, bits, text) {
         Ok(layout) => {
             // The layout's own call says that it is one.
             let _parts = layout.parts();
-            Some(Ok(layout))
+            Some(shared(alloc, layout))
         }
         Err(LayoutFault::NoMemory) => Some(Err(NoMemory)),
         Err(_) => None,
     }
+}
+
+// The layout where many may hold it.
+fn shared(alloc: Global, layout: Layout) -> Result<Arc<Layout>, NoMemory>
+    ensures { IfOk result (λ shared. arc_value shared ≡ layout) }
+{
+    Ok(Arc::new(alloc, layout)?)
 }

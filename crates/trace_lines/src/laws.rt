@@ -18,10 +18,12 @@ pub fn what_is_read_is_formed()
         IsFit W z.bits request → IsFormed z (event_of z.bits request) }
 {}
 
-/// Law: a trace goes on line by line. Before the first line nothing is answered; a line that is no event leaves the world as it is, and
-/// one that is an event is a step of it.
+/// Law: a trace goes on line by line, from a world that keeps the rules to one that does. Before the first line nothing is answered; a line
+/// that is no event leaves the world as it is, and one that is an event is a step of it.
 pub fn a_trace_goes_on()
     ensures begins { (z : Setting) (s : WorldState) → IsSound z s → IsTrace z s [] [] s }
+    ensures sound { (z : Setting) (s : WorldState) (lines texts : List (List ℕ)) (t : WorldState) →
+        IsSound z s → IsTrace z s lines texts t → IsSound z t }
     ensures told { (z : Setting) (s : WorldState) (lines texts : List (List ℕ)) (t : WorldState)
         (line : List ℕ) (met : LineMet) → IsTrace z s lines texts t → Becomes z.bits line met →
         IsNoEvent met →

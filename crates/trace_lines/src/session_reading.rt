@@ -100,13 +100,17 @@ fn read_deleting<const W: usize>(
 }
 
 // The fault of a commit whose third word names no form: it may have as many words as one of the forms.
+#[tactic(auto, using(crate::proofs::FormLemmas::no_form_of_commit))]
 fn no_form_of_commit(bits: u32, who: &[u8], after: &[u8]) -> Bad
     ensures { commit_of bits (who_form who.now) None (words after.now) ≡ Err result }
 {
-    if one_word(after).is_err() && two_words(after).is_err() {
-        return other_number_of_words();
+    if let Ok(_) = one_word(after) {
+        return formless(who);
     }
-    formless(who)
+    match two_words(after) {
+        Ok(_) => formless(who),
+        Err(fault) => fault,
+    }
 }
 
 // The fault of a third word that names no form.
@@ -203,11 +207,12 @@ fn read_near<const W: usize>(
 }
 
 // The fault of an opening whose third word names no form: it may have as many words as the forms.
+#[tactic(auto, using(crate::proofs::FormLemmas::no_form_of_opening))]
 fn no_form_of_opening(bits: u32, who: &[u8], after: &[u8]) -> Bad
     ensures { open_of bits (who_form who.now) None (words after.now) ≡ Err result }
 {
-    if two_words(after).is_err() {
-        return other_number_of_words();
+    match two_words(after) {
+        Ok(_) => formless(who),
+        Err(fault) => fault,
     }
-    formless(who)
 }

@@ -1,0 +1,130 @@
+-- Lemmas on what a world has answered: one line more.
+use Rattle.std.proofs.Common.{◌≡◌, ℕ, ◌+◌, ◌≤◌, false, List, [], ◌∷◌, ◌++◌, slice_index, refl, sym, ap, ◌∙◌, subst, arith}
+use Rattle.part_layout.specs.declared.config.Config.{Config}
+use Rattle.session_model.specs.Ledger.{Ledgers}
+use Rattle.trace_lines.specs.Traces.{Becomes, IsNoEvent, IsTrace, LineMet, Met, met_text}
+use Rattle.world_model.specs.Events.{Setting, Event, IsFormed, Commit, Open, Advance, Pin, Poll, Give, Cancel, BuildStart, BuildStep, Follow, Swap}
+use Rattle.world_model.specs.Ledgers.{IsSumOfBounds, reads_on, reads_there}
+use Rattle.world_model.specs.Runs.{Answer}
+use Rattle.world_model.specs.Sound.{IsSound}
+use Rattle.world_model.specs.WorldState.{WorldState}
+use Rattle.world_model.specs.WorldStep.{WorldStep}
+use Rattle.world_traces.specs.Meeting.{CountsPolls}
+use Rattle.world_traces.specs.Traced.{CountsReads, IsTraced, first_world, setting_for}
+
+-- ---- what the laws say
+
+abbrev pub ToldGoesOn : Type 0
+ToldGoesOn = (z : Setting) (s : WorldState) (lines texts : List (List ℕ)) (t : WorldState)
+    (line : List ℕ) (met : LineMet) → IsTrace z s lines texts t → Becomes z.bits line met → IsNoEvent met
+    → IsTrace z s (lines ++ line ∷ []) (texts ++ met_text met ∷ []) t
+
+abbrev pub MetGoesOn : Type 0
+MetGoesOn = (z : Setting) (s : WorldState) (lines texts : List (List ℕ)) (t : WorldState)
+    (line : List ℕ) (event : Event) (answer : Answer) (after : WorldState) → IsSound z s
+    → IsTrace z s lines texts t → Becomes z.bits line (Met event answer) → IsFormed z event
+    → WorldStep z t event answer after
+    → IsTrace z s (lines ++ line ∷ []) (texts ++ met_text (Met event answer) ∷ []) after
+
+abbrev pub StaysSound : Type 0
+StaysSound = (z : Setting) (s : WorldState) (lines texts : List (List ℕ)) (t : WorldState)
+    → IsSound z s → IsTrace z s lines texts t → IsSound z t
+
+abbrev pub OthersReadNothing : Type 0
+OthersReadNothing = (z : Setting) (s : WorldState) (shard : ℕ) (event : Event) (answer : Answer) (t : WorldState)
+    → IsSound z s → reads_there shard event ≡ false → WorldStep z s event answer t
+    → reads_on shard t.queries ≡ reads_on shard s.queries
+
+abbrev pub ReadWithin : Type 0
+ReadWithin = (z : Setting) (s : WorldState) (shard : ℕ) → IsSound z s
+    → (sum : ℕ) × IsSumOfBounds z s.history shard s.queries sum × (reads_on shard s.queries ≤ sum)
+
+-- ---- ledgers
+
+-- an event that reads nothing raises no ledger
+none_read : (z : Setting) (s : WorldState) (shard start : ℕ) (event : Event) (answer : Answer) (t : WorldState)
+    (from to : List ℕ) → OthersReadNothing → IsSound z s → reads_there shard event ≡ false
+    → WorldStep z s event answer t → to ≡ from → slice_index from shard ≡ start + reads_on shard s.queries
+    → slice_index to shard ≡ start + reads_on shard t.queries
+none_read z s shard start event answer t from to others sound none step same so_far =
+    let kept = others z s shard event answer t sound none step in
+    ap (λ (l : List ℕ). slice_index l shard) same ∙ so_far ∙ ap (λ (n : ℕ). start + n) (sym kept)
+
+-- each event counts what the queries read
+counts_on : (z : Setting) (s : WorldState) (shard start : ℕ) (event : Event) (answer : Answer) (t : WorldState)
+    (from to : List ℕ) → OthersReadNothing → IsSound z s → WorldStep z s event answer t
+    → CountsPolls s t event from to → slice_index from shard ≡ start + reads_on shard s.queries
+    → slice_index to shard ≡ start + reads_on shard t.queries
+counts_on z s shard start (Poll query polled budget) answer t from to others sound step counts so_far =
+    omega (arith, counts shard, so_far)
+counts_on z s shard start (Commit who op) answer t from to others sound step counts so_far =
+    none_read z s shard start (Commit who op) answer t from to others sound refl step counts so_far
+counts_on z s shard start (Open who ask) answer t from to others sound step counts so_far =
+    none_read z s shard start (Open who ask) answer t from to others sound refl step counts so_far
+counts_on z s shard start (Advance q k) answer t from to others sound step counts so_far =
+    none_read z s shard start (Advance q k) answer t from to others sound refl step counts so_far
+counts_on z s shard start (Pin q k) answer t from to others sound step counts so_far =
+    none_read z s shard start (Pin q k) answer t from to others sound refl step counts so_far
+counts_on z s shard start (Give q) answer t from to others sound step counts so_far =
+    none_read z s shard start (Give q) answer t from to others sound refl step counts so_far
+counts_on z s shard start (Cancel q) answer t from to others sound step counts so_far =
+    none_read z s shard start (Cancel q) answer t from to others sound refl step counts so_far
+counts_on z s shard start (BuildStart k layout) answer t from to others sound step counts so_far =
+    none_read z s shard start (BuildStart k layout) answer t from to others sound refl step counts so_far
+counts_on z s shard start (BuildStep k rows) answer t from to others sound step counts so_far =
+    none_read z s shard start (BuildStep k rows) answer t from to others sound refl step counts so_far
+counts_on z s shard start (Follow k) answer t from to others sound step counts so_far =
+    none_read z s shard start (Follow k) answer t from to others sound refl step counts so_far
+counts_on z s shard start (Swap k) answer t from to others sound step counts so_far =
+    none_read z s shard start (Swap k) answer t from to others sound refl step counts so_far
+
+-- ---- lines
+
+-- a line more that is no event; upkeep is of no account
+pub told_line : ToldGoesOn → (config : Config) (s : WorldState) (start now now' : Ledgers)
+    (lines texts : List (List ℕ)) (line : List ℕ) (met : LineMet) → now'.reads ≡ now.reads
+    → IsTraced config s start now lines texts → Becomes config.bits line met → IsNoEvent met
+    → IsTraced config s start now' (lines ++ line ∷ []) (texts ++ met_text met ∷ [])
+told_line told config s start now now' lines texts line met same traced become is = record {
+  trace = told (setting_for config) (first_world config) lines texts s line met traced.trace become is;
+  reads = record {
+    each = λ shard. ap (λ (l : List ℕ). slice_index l shard) same ∙ traced.reads.each shard;
+    within = traced.reads.within;
+  };
+}
+
+-- a line more that is an event
+pub met_line : MetGoesOn → StaysSound → OthersReadNothing → ReadWithin → (config : Config)
+    → IsSound (setting_for config) (first_world config) → (s t : WorldState) (start now now' : Ledgers)
+    (lines texts : List (List ℕ)) (line : List ℕ) (event : Event) (answer : Answer)
+    → IsTraced config s start now lines texts → Becomes config.bits line (Met event answer)
+    → IsFormed (setting_for config) event → WorldStep (setting_for config) s event answer t
+    → CountsPolls s t event now.reads now'.reads
+    → IsTraced config t start now' (lines ++ line ∷ []) (texts ++ met_text (Met event answer) ∷ [])
+met_line met stays others within config first s t start now now' lines texts line event answer traced become formed step counts =
+    let z = setting_for config in
+    let trace = met z (first_world config) lines texts s line event answer t first traced.trace become formed step in
+    let sound = stays z (first_world config) lines texts s first traced.trace in
+    let sound' = stays z (first_world config) (lines ++ line ∷ []) (texts ++ met_text (Met event answer) ∷ []) t first trace in
+    record {
+      trace = trace;
+      reads = record {
+        each = λ shard. counts_on z s shard (slice_index start.reads shard) event answer t now.reads now'.reads others sound step
+            counts (traced.reads.each shard);
+        within = λ shard. within z t shard sound';
+      };
+    }
+
+-- before the first line
+pub begins_traced : (config : Config) (s : WorldState) (now : Ledgers)
+    → ((z : Setting) (s : WorldState) → IsSound z s → IsTrace z s [] [] s) → ReadWithin
+    → IsSound (setting_for config) (first_world config) → s ≡ first_world config → IsTraced config s now now [] []
+begins_traced config s now begins within first is =
+    let z = setting_for config in
+    subst (λ (w : WorldState). IsTraced config w now now [] []) (sym is) (record {
+      trace = begins z (first_world config) first;
+      reads = record {
+        each = λ shard. omega arith;
+        within = λ shard. within z (first_world config) shard first;
+      };
+    })
