@@ -100,7 +100,6 @@ fn read_deleting<const W: usize>(
 }
 
 // The fault of a commit whose third word names no form: it may have as many words as one of the forms.
-#[tactic(auto, using(crate::proofs::FormLemmas::no_form_of_commit))]
 fn no_form_of_commit(bits: u32, who: &[u8], after: &[u8]) -> Bad
     ensures { commit_of bits (who_form who.now) None (words after.now) ≡ Err result }
 {
@@ -207,7 +206,6 @@ fn read_near<const W: usize>(
 }
 
 // The fault of an opening whose third word names no form: it may have as many words as the forms.
-#[tactic(auto, using(crate::proofs::FormLemmas::no_form_of_opening))]
 fn no_form_of_opening(bits: u32, who: &[u8], after: &[u8]) -> Bad
     ensures { open_of bits (who_form who.now) None (words after.now) ≡ Err result }
 {
