@@ -8,9 +8,9 @@ ghost use Rattle.trace_lines.specs.EventAsked.{repart_asked, repart_of};
 ghost use Rattle.trace_lines.specs.EventForms.{two_words};
 ghost use Rattle.trace_lines.specs.EventRequests.{AsksWithMemory};
 
+use crate::EventRequest;
 use crate::faults::of_word;
 use crate::forms::{layout_of, two_words};
-use crate::EventRequest;
 use line_forms::shard_of;
 use query_protocol::LineFault;
 use read_meter::NoMemory;

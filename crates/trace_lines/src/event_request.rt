@@ -45,8 +45,14 @@ impl<const W: usize> EventRequest<W> {
         ensures { (bits : ℕ) → result ≡ subject (event_of bits self.now) }
     {
         match self {
-            EventRequest::Commit { op: Op::Add { key, .. }, .. } => *key,
-            EventRequest::Commit { op: Op::Delete { key }, .. } => *key,
+            EventRequest::Commit {
+                op: Op::Add { key, .. },
+                ..
+            } => *key,
+            EventRequest::Commit {
+                op: Op::Delete { key },
+                ..
+            } => *key,
             EventRequest::OpenRange { .. }
             | EventRequest::OpenNear { .. }
             | EventRequest::Poll { .. } => 0,

@@ -7,11 +7,11 @@ mod build_reading;
 mod event_request;
 mod event_word;
 mod faults;
-mod session_reading;
 mod forms;
 mod laws;
 mod query_reading;
 mod reading;
+mod session_reading;
 
 pub use answer::write_answer;
 pub use event_request::EventRequest;

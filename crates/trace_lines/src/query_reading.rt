@@ -8,9 +8,9 @@ ghost use Rattle.trace_lines.specs.EventAsked.{shard_alone, shard_and_rows};
 ghost use Rattle.trace_lines.specs.EventForms.{three_words};
 ghost use Rattle.trace_lines.specs.EventRequests.{AsksAs};
 
+use crate::EventRequest;
 use crate::faults::of_word;
 use crate::forms::{one_word, query_of, three_words, two_words};
-use crate::EventRequest;
 use line_forms::{count_of, shard_of};
 use query_protocol::Bad;
 

@@ -13,8 +13,8 @@ ghost use Rattle.trace_lines.specs.declared.event_word.EventWord.TheVariants.{Re
 
 use crate::build_reading::read_repart;
 use crate::faults::{no_event_word, no_text};
-use crate::session_reading::{read_commit, read_open};
 use crate::query_reading::{query_alone, query_and_shard, read_poll, shard_alone, shard_and_rows};
+use crate::session_reading::{read_commit, read_open};
 use crate::{EventRequest, EventWord};
 use line_forms::{is_printable, next_word};
 use query_protocol::{Bad, LineFault};

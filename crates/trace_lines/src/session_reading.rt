@@ -11,19 +11,16 @@ ghost use Rattle.trace_lines.specs.EventForms.{one_word, two_words};
 ghost use Rattle.trace_lines.specs.EventRequests.{AsksAs};
 ghost use Rattle.trace_lines.specs.declared.event_word.OpenForm.TheVariants.{RangeForm, NearForm};
 
+use crate::EventRequest;
 use crate::event_word::{CommitForm, OpenForm};
 use crate::faults::{of_word, other_number_of_words};
 use crate::forms::{nearest_of, one_word, two_words, who_of};
-use crate::EventRequest;
 use entry_log::Op;
 use line_forms::{code_of, key_of, next_word, radius_of};
 use query_protocol::Bad;
 
 // The words after `commit`.
-pub(crate) fn read_commit<const W: usize>(
-    bits: u32,
-    after: &[u8],
-) -> Result<EventRequest<W>, Bad>
+pub(crate) fn read_commit<const W: usize>(bits: u32, after: &[u8]) -> Result<EventRequest<W>, Bad>
     requires few_words { W ≤ WORDS_MOST }
     requires allowed { IsAllowed W bits }
     ensures { AsksAs W bits result (commit_asked bits (words after.now)) }
@@ -55,11 +52,7 @@ fn commit_form(word: &[u8]) -> Option<CommitForm>
 }
 
 // A session's commit that adds, by the words after its form.
-fn read_adding<const W: usize>(
-    bits: u32,
-    who: &[u8],
-    after: &[u8],
-) -> Result<EventRequest<W>, Bad>
+fn read_adding<const W: usize>(bits: u32, who: &[u8], after: &[u8]) -> Result<EventRequest<W>, Bad>
     requires few_words { W ≤ WORDS_MOST }
     requires allowed { IsAllowed W bits }
     ensures { AsksAs W bits result
@@ -123,10 +116,7 @@ fn formless(who: &[u8]) -> Bad
 }
 
 // The words after `open`.
-pub(crate) fn read_open<const W: usize>(
-    bits: u32,
-    after: &[u8],
-) -> Result<EventRequest<W>, Bad>
+pub(crate) fn read_open<const W: usize>(bits: u32, after: &[u8]) -> Result<EventRequest<W>, Bad>
     requires few_words { W ≤ WORDS_MOST }
     requires allowed { IsAllowed W bits }
     ensures { AsksAs W bits result (open_asked bits (words after.now)) }
@@ -158,11 +148,7 @@ fn open_form(word: &[u8]) -> Option<OpenForm>
 }
 
 // A session's range query, by the words after its form.
-fn read_range<const W: usize>(
-    bits: u32,
-    who: &[u8],
-    after: &[u8],
-) -> Result<EventRequest<W>, Bad>
+fn read_range<const W: usize>(bits: u32, who: &[u8], after: &[u8]) -> Result<EventRequest<W>, Bad>
     requires few_words { W ≤ WORDS_MOST }
     requires allowed { IsAllowed W bits }
     ensures { AsksAs W bits result
@@ -182,11 +168,7 @@ fn read_range<const W: usize>(
 }
 
 // A session's query for the nearest rows, by the words after its form.
-fn read_near<const W: usize>(
-    bits: u32,
-    who: &[u8],
-    after: &[u8],
-) -> Result<EventRequest<W>, Bad>
+fn read_near<const W: usize>(bits: u32, who: &[u8], after: &[u8]) -> Result<EventRequest<W>, Bad>
     requires few_words { W ≤ WORDS_MOST }
     requires allowed { IsAllowed W bits }
     ensures { AsksAs W bits result
