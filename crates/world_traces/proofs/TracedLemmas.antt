@@ -1,5 +1,6 @@
 -- Lemmas on what a world has answered: one line more.
 use Rattle.std.proofs.Common.{◌≡◌, ℕ, ◌+◌, ◌≤◌, false, List, [], ◌∷◌, ◌++◌, slice_index, refl, sym, ap, ◌∙◌, subst, arith}
+use Rattle.line_answers.specs.Answered.{AnswersNext}
 use Rattle.part_layout.specs.declared.config.Config.{Config}
 use Rattle.session_model.specs.Ledger.{Ledgers}
 use Rattle.trace_lines.specs.Traces.{Becomes, IsNoEvent, IsTrace, LineMet, Met, met_text}
@@ -81,39 +82,39 @@ counts_on z s shard start (Swap k) answer t from to others sound step counts so_
 -- ---- lines
 
 -- a line more that is no event; upkeep is of no account
-pub told_line : ToldGoesOn → (config : Config) (s : WorldState) (start now now' : Ledgers)
-    (lines texts : List (List ℕ)) (line : List ℕ) (met : LineMet) → now'.reads ≡ now.reads
-    → IsTraced config s start now lines texts → Becomes config.bits line met → IsNoEvent met
-    → IsTraced config s start now' (lines ++ line ∷ []) (texts ++ met_text met ∷ [])
-told_line told config s start now now' lines texts line met same traced become is = record {
-  trace = told (setting_for config) (first_world config) lines texts s line met traced.trace become is;
-  reads = record {
-    each = λ shard. ap (λ (l : List ℕ). slice_index l shard) same ∙ traced.reads.each shard;
-    within = traced.reads.within;
-  };
-}
+pub told_line : ToldGoesOn → (config : Config) (s : WorldState) (now now' : Ledgers) (line text : List ℕ) (met : LineMet)
+    → Becomes config.bits line met → IsNoEvent met → text ≡ met_text met → now'.reads ≡ now.reads
+    → AnswersNext (IsTraced config s) (IsTraced config s) now now' line text
+told_line told config s now now' line text met become is written same = λ start lines texts traced.
+    subst (λ (t : List ℕ). IsTraced config s start now' (lines ++ line ∷ []) (texts ++ t ∷ [])) (sym written) (record {
+      trace = told (setting_for config) (first_world config) lines texts s line met traced.trace become is;
+      reads = record {
+        each = λ shard. ap (λ (l : List ℕ). slice_index l shard) same ∙ traced.reads.each shard;
+        within = traced.reads.within;
+      };
+    })
 
 -- a line more that is an event
 pub met_line : MetGoesOn → StaysSound → OthersReadNothing → ReadWithin → (config : Config)
-    → IsSound (setting_for config) (first_world config) → (s t : WorldState) (start now now' : Ledgers)
-    (lines texts : List (List ℕ)) (line : List ℕ) (event : Event) (answer : Answer)
-    → IsTraced config s start now lines texts → Becomes config.bits line (Met event answer)
+    → IsSound (setting_for config) (first_world config) → (s t : WorldState) (now now' : Ledgers)
+    (line text : List ℕ) (event : Event) (answer : Answer) → Becomes config.bits line (Met event answer)
     → IsFormed (setting_for config) event → WorldStep (setting_for config) s event answer t
-    → CountsPolls s t event now.reads now'.reads
-    → IsTraced config t start now' (lines ++ line ∷ []) (texts ++ met_text (Met event answer) ∷ [])
-met_line met stays others within config first s t start now now' lines texts line event answer traced become formed step counts =
+    → CountsPolls s t event now.reads now'.reads → text ≡ met_text (Met event answer)
+    → AnswersNext (IsTraced config s) (IsTraced config t) now now' line text
+met_line met stays others within config first s t now now' line text event answer become formed step counts written =
+    λ start lines texts traced.
     let z = setting_for config in
     let trace = met z (first_world config) lines texts s line event answer t first traced.trace become formed step in
     let sound = stays z (first_world config) lines texts s first traced.trace in
     let sound' = stays z (first_world config) (lines ++ line ∷ []) (texts ++ met_text (Met event answer) ∷ []) t first trace in
-    record {
+    subst (λ (w : List ℕ). IsTraced config t start now' (lines ++ line ∷ []) (texts ++ w ∷ [])) (sym written) (record {
       trace = trace;
       reads = record {
         each = λ shard. counts_on z s shard (slice_index start.reads shard) event answer t now.reads now'.reads others sound step
             counts (traced.reads.each shard);
         within = λ shard. within z t shard sound';
       };
-    }
+    })
 
 -- before the first line
 pub begins_traced : (config : Config) (s : WorldState) (now : Ledgers)

@@ -2,6 +2,7 @@
 //! Whatever lines follow one another, each query answers its own prefix, and the ledgers rise by what the queries read.
 #![tactic(auto)]
 
+mod answering;
 mod meets_events;
 mod tracing;
 

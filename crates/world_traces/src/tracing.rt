@@ -8,17 +8,15 @@ ghost use Rattle.session_model.specs.Ledger.{Ledgers};
 ghost use Rattle.world_model.specs.Events.{IsLayoutFor};
 ghost use Rattle.world_traces.specs.Traced.{IsTraced, first_layout, first_world, setting_for};
 
+use crate::answering::{answer_line, answer_long_line};
 use crate::meets_events::MeetsEvents;
 use byte_lines::LineBuf;
 use line_answers::LineAnswers;
 use part_layout::Config;
-use query_protocol::{LineFault, Reply};
 use read_meter::{Meters, Steps};
 use std::alloc::Global;
 use std::marker::Model;
-use trace_lines::{
-    a_trace_goes_on, line_too_long, read_event_line, what_is_read_is_formed, write_answer,
-};
+use trace_lines::a_trace_goes_on;
 use world_model::{each_event_keeps_the_rules, reads_are_bounded};
 
 /// A world with what it was asked for.
@@ -73,24 +71,18 @@ impl<const W: usize, C: MeetsEvents<W>> LineAnswers for Tracing<W, C> {
         upkeep: &mut Steps<M>,
         meters: &mut Meters<L>,
     ) {
-        a_trace_goes_on();
-        what_is_read_is_formed();
-        each_event_keeps_the_rules();
-        reads_are_bounded();
-        match read_event_line::<W>(self.alloc, self.config.bits, line) {
-            Ok(None) => {}
-            Ok(Some(request)) => {
-                let subject = request.subject();
-                let answer = self.world.meet(request, upkeep, meters);
-                write_answer(subject, &answer, out);
-            }
-            Err(LineFault::Bad(fault)) => Reply::Bad(fault).write(out),
-            Err(LineFault::NoMemory) => Reply::NoMemory.write(out),
-        }
+        answer_line::<W, _, _, _>(
+            self.alloc,
+            &self.config,
+            &mut self.world,
+            line,
+            out,
+            upkeep,
+            meters,
+        );
     }
 
     fn answer_long(&mut self, out: &mut LineBuf) {
-        a_trace_goes_on();
-        Reply::Bad(line_too_long()).write(out);
+        answer_long_line(out);
     }
 }
