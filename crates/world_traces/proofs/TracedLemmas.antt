@@ -1,9 +1,12 @@
 -- Lemmas on what a world has answered: one line more.
-use Rattle.std.proofs.Common.{◌≡◌, ℕ, ◌+◌, ◌≤◌, false, List, [], ◌∷◌, ◌++◌, slice_index, refl, sym, ap, ◌∙◌, subst, arith}
+use Rattle.std.proofs.Common.{◌≡◌, ℕ, ◌+◌, ◌≤◌, false, List, [], ◌∷◌, ◌++◌, None, Some, Ok, Err, slice_index, refl, sym, ap, ◌∙◌, subst, arith}
 use Rattle.line_answers.specs.Answered.{AnswersNext}
 use Rattle.part_layout.specs.declared.config.Config.{Config}
 use Rattle.session_model.specs.Ledger.{Ledgers}
-use Rattle.trace_lines.specs.Traces.{Becomes, IsNoEvent, IsTrace, LineMet, Met, met_text}
+use Rattle.query_protocol.specs.declared.bad.LineFault.TheVariants as line
+use Rattle.trace_lines.specs.EventLines.{EventReading}
+use Rattle.trace_lines.specs.EventRequests.{ReadsEvent}
+use Rattle.trace_lines.specs.Traces.{Becomes, IsNoEvent, IsTrace, LineMet, Met, ReadsLayout, met_text}
 use Rattle.world_model.specs.Events.{Setting, Event, IsFormed, Commit, Open, Advance, Pin, Poll, Give, Cancel, BuildStart, BuildStep, Follow, Swap}
 use Rattle.world_model.specs.Ledgers.{IsSumOfBounds, reads_on, reads_there}
 use Rattle.world_model.specs.Runs.{Answer}
@@ -80,6 +83,12 @@ counts_on z s shard start (Swap k) answer t from to others sound step counts so_
     none_read z s shard start (Swap k) answer t from to others sound refl step counts so_far
 
 -- ---- lines
+
+-- where there was no memory for a layout, the line asks for one
+pub asks_layout : (W bits : ℕ) (reading : EventReading) → ReadsEvent W bits (Err line.NoMemory) reading → ReadsLayout reading
+asks_layout W bits (Ok None) unread = absurd unread
+asks_layout W bits (Ok (Some event)) unread = unread
+asks_layout W bits (Err fault) unread = absurd unread
 
 -- a line more that is no event; upkeep is of no account
 pub told_line : ToldGoesOn → (config : Config) (s : WorldState) (now now' : Ledgers) (line text : List ℕ) (met : LineMet)
