@@ -1,11 +1,14 @@
 -- Lemmas on what a world has answered: one line more.
-use Rattle.std.proofs.Common.{◌≡◌, ℕ, ◌+◌, ◌≤◌, false, List, [], ◌∷◌, ◌++◌, None, Some, Ok, Err, slice_index, refl, sym, ap, ◌∙◌, subst, arith}
+use Rattle.std.proofs.Common.{◌≡◌, ℕ, ◌+◌, ◌≤◌, false, List, [], ◌∷◌, ◌++◌, Option, None, Some, Ok, Err, slice_index, refl, sym, ap, ◌∙◌, subst, arith}
 use Rattle.line_answers.specs.Answered.{AnswersNext}
 use Rattle.part_layout.specs.declared.config.Config.{Config}
 use Rattle.session_model.specs.Ledger.{Ledgers}
+use Rattle.query_protocol.specs.declared.bad.Bad.{Bad}
+use Rattle.query_protocol.specs.declared.bad.LineFault.{LineFault}
 use Rattle.query_protocol.specs.declared.bad.LineFault.TheVariants as line
 use Rattle.trace_lines.specs.EventLines.{EventReading}
-use Rattle.trace_lines.specs.EventRequests.{ReadsEvent}
+use Rattle.trace_lines.specs.EventRequests.{IsFit, ReadsEvent, event_of}
+use Rattle.trace_lines.specs.declared.event_request.EventRequest.{EventRequest}
 use Rattle.trace_lines.specs.Traces.{Becomes, IsNoEvent, IsTrace, LineMet, Met, ReadsLayout, met_text}
 use Rattle.world_model.specs.Events.{Setting, Event, IsFormed, Commit, Open, Advance, Pin, Poll, Give, Cancel, BuildStart, BuildStep, Follow, Swap}
 use Rattle.world_model.specs.Ledgers.{IsSumOfBounds, reads_on, reads_there}
@@ -84,11 +87,35 @@ counts_on z s shard start (Swap k) answer t from to others sound step counts so_
 
 -- ---- lines
 
--- where there was no memory for a layout, the line asks for one
-pub asks_layout : (W bits : ℕ) (reading : EventReading) → ReadsEvent W bits (Err line.NoMemory) reading → ReadsLayout reading
-asks_layout W bits (Ok None) unread = absurd unread
-asks_layout W bits (Ok (Some event)) unread = unread
-asks_layout W bits (Err fault) unread = absurd unread
+-- ---- what was read
+
+-- a line without words
+pub reads_nothing : {W : ℕ} (bits : ℕ) (reading : EventReading) (read : Option (EventRequest W))
+    → ReadsEvent W bits (Ok read) reading → read ≡ None → reading ≡ Ok None
+reads_nothing {W} bits reading read reads is = subst (λ (r : Option (EventRequest W)). ReadsEvent W bits (Ok r) reading) is reads
+
+-- an event, which is fit
+pub reads_event : {W : ℕ} (bits : ℕ) (reading : EventReading) (read : Option (EventRequest W)) (request : EventRequest W)
+    → ReadsEvent W bits (Ok read) reading → read ≡ Some request
+    → (reading ≡ Ok (Some (event_of bits request))) × IsFit W bits request
+reads_event {W} bits reading read request reads is =
+    subst (λ (r : Option (EventRequest W)). ReadsEvent W bits (Ok r) reading) is reads
+
+-- a fault
+pub reads_fault : {W : ℕ} (bits : ℕ) (reading : EventReading) (read : LineFault) (fault : Bad)
+    → ReadsEvent W bits (Err read) reading → read ≡ line.Bad fault → reading ≡ Err fault
+reads_fault {W} bits reading read fault reads is = subst (λ (r : LineFault). ReadsEvent W bits (Err r) reading) is reads
+
+-- a layout for which there was no memory
+asks_layout : {W : ℕ} (bits : ℕ) (reading : EventReading) → ReadsEvent W bits (Err line.NoMemory) reading → ReadsLayout reading
+asks_layout bits (Ok None) unread = absurd unread
+asks_layout bits (Ok (Some event)) unread = unread
+asks_layout bits (Err fault) unread = absurd unread
+
+pub reads_no_layout : {W : ℕ} (bits : ℕ) (reading : EventReading) (read : LineFault)
+    → ReadsEvent W bits (Err read) reading → read ≡ line.NoMemory → ReadsLayout reading
+reads_no_layout {W} bits reading read reads is =
+    asks_layout {W} bits reading (subst (λ (r : LineFault). ReadsEvent W bits (Err r) reading) is reads)
 
 -- a line more that is no event; upkeep is of no account
 pub told_line : ToldGoesOn → (config : Config) (s : WorldState) (now now' : Ledgers) (line text : List ℕ) (met : LineMet)
