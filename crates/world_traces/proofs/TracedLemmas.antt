@@ -102,20 +102,20 @@ reads_event {W} bits reading read request reads is =
     subst (λ (r : Option (EventRequest W)). ReadsEvent W bits (Ok r) reading) is reads
 
 -- a fault
-pub reads_fault : {W : ℕ} (bits : ℕ) (reading : EventReading) (read : LineFault) (fault : Bad)
+pub reads_fault : (W bits : ℕ) (reading : EventReading) (read : LineFault) (fault : Bad)
     → ReadsEvent W bits (Err read) reading → read ≡ line.Bad fault → reading ≡ Err fault
-reads_fault {W} bits reading read fault reads is = subst (λ (r : LineFault). ReadsEvent W bits (Err r) reading) is reads
+reads_fault W bits reading read fault reads is = subst (λ (r : LineFault). ReadsEvent W bits (Err r) reading) is reads
 
 -- a layout for which there was no memory
-asks_layout : {W : ℕ} (bits : ℕ) (reading : EventReading) → ReadsEvent W bits (Err line.NoMemory) reading → ReadsLayout reading
-asks_layout bits (Ok None) unread = absurd unread
-asks_layout bits (Ok (Some event)) unread = unread
-asks_layout bits (Err fault) unread = absurd unread
+asks_layout : (W bits : ℕ) (reading : EventReading) → ReadsEvent W bits (Err line.NoMemory) reading → ReadsLayout reading
+asks_layout W bits (Ok None) unread = absurd unread
+asks_layout W bits (Ok (Some event)) unread = unread
+asks_layout W bits (Err fault) unread = absurd unread
 
-pub reads_no_layout : {W : ℕ} (bits : ℕ) (reading : EventReading) (read : LineFault)
+pub reads_no_layout : (W bits : ℕ) (reading : EventReading) (read : LineFault)
     → ReadsEvent W bits (Err read) reading → read ≡ line.NoMemory → ReadsLayout reading
-reads_no_layout {W} bits reading read reads is =
-    asks_layout {W} bits reading (subst (λ (r : LineFault). ReadsEvent W bits (Err r) reading) is reads)
+reads_no_layout W bits reading read reads is =
+    asks_layout W bits reading (subst (λ (r : LineFault). ReadsEvent W bits (Err r) reading) is reads)
 
 -- a line more that is no event; upkeep is of no account
 pub told_line : ToldGoesOn → (config : Config) (s : WorldState) (now now' : Ledgers) (line text : List ℕ) (met : LineMet)
