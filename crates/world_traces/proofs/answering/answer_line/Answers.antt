@@ -49,7 +49,7 @@ returns-in-Err-Bad-clause-answers g c =
     let counted = ledgers c.args.meters.now c.args.upkeep.now in
     told_line c.a_trace_goes_on.ensures.told c.args.config.now (g.C.MeetsEvents.state c.args.world.now) counted counted
     c.args.line.now c.write.new.out (Faulty c.in-Err-Bad.fault)
-    (reads_fault _ c.args.config.now.bits (event_reading c.args.config.now.bits c.args.line.now) c.in-Err-Bad.field-0
+    (reads_fault g.row.W c.args.config.now.bits (event_reading c.args.config.now.bits c.args.line.now) c.in-Err-Bad.field-0
     c.in-Err-Bad.fault c.in-Err-Bad.ensures c.in-Err-Bad.field-0-is) tt c.write.ensures refl
 
 pub returns-in-Err-NoMemory-clause-answers : goal.returns-in-Err-NoMemory-clause-answers
@@ -58,6 +58,6 @@ returns-in-Err-NoMemory-clause-answers g c =
     let config = c.args.config.now in
     told_line c.a_trace_goes_on.ensures.told config (g.C.MeetsEvents.state c.args.world.now) counted counted
     c.args.line.now c.write-in-Err-NoMemory.new.out Unread
-    (reads_no_layout _ config.bits (event_reading config.bits c.args.line.now) c.in-Err-NoMemory.field-0
+    (reads_no_layout g.row.W config.bits (event_reading config.bits c.args.line.now) c.in-Err-NoMemory.field-0
     c.in-Err-NoMemory.ensures c.in-Err-NoMemory.field-0-is) tt
     c.write-in-Err-NoMemory.ensures refl
