@@ -20,6 +20,7 @@ struct Postings;
 struct Upkeep;
 
 // Answers each line by how many bytes it has, and a long one by a word; an empty one isn't answered.
+#[derive(Drop)]
 struct Lengths;
 
 impl LineAnswers for Lengths {
