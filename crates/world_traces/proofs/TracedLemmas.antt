@@ -17,7 +17,7 @@ use Rattle.world_model.specs.Sound.{IsSound}
 use Rattle.world_model.specs.WorldState.{WorldState}
 use Rattle.world_model.specs.WorldStep.{WorldStep}
 use Rattle.world_traces.specs.Meeting.{CountsPolls}
-use Rattle.world_traces.specs.Traced.{CountsReads, IsTraced, first_world, setting_for}
+use Rattle.world_traces.specs.Traced.{IsTraced, first_world, setting_for}
 
 -- ---- what the laws say
 
