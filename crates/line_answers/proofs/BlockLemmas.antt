@@ -14,7 +14,7 @@ use Rattle.line_io.specs.declared.source.Failed.{Failed}
 use Rattle.session_model.specs.Ledger.{Ledgers}
 use Rattle.line_answers.specs.Answered.{Answering, AnswersInOrder}
 use Rattle.line_answers.specs.Flow.{Moment, HasAnswered, WasBroken, StandsAfter, StandsAtEnd, FlowsOn, AnswersCut, AnswersLine}
-use Rattle.line_answers.proofs.FlowLemmas.{AfterLine, line_more, broken_more, one_line}
+use Rattle.line_answers.proofs.FlowLemmas.{line_more, broken_more, one_line}
 
 -- nothing was added to an output
 nothing_more : (output : List ℕ) → output ≡ output ++ []

@@ -1,14 +1,13 @@
 -- Lemmas on lines that were answered: one more line, and lines behind those.
-use Rattle.std.proofs.Common.{◌≡◌, ℕ, ◌≤◌, Option, Some, Result, Ok, Err, List, [], ◌∷◌, ◌++◌, length, take}
-use Rattle.std.proofs.Common.{refl, sym, ap, ◌∙◌, subst, arith, append-nil, append_assoc, length-append}
+use Rattle.std.proofs.Common.{◌≡◌, ℕ, ◌≤◌, Some, Result, Ok, Err, List, [], ◌∷◌, ◌++◌, length, take}
+use Rattle.std.proofs.Common.{refl, sym, ap, ◌∙◌, arith, append-nil, append_assoc}
 use Rattle.std.specs.Io.KnownBytes.{Appends}
-use Rattle.std.specs.List.{flat_map}
 use Rattle.byte_lines.specs.Cut.{TellsOf}
 use Rattle.byte_lines.specs.declared.cutter.Cut.{Cut}
 use Rattle.byte_lines.specs.declared.cutter.Cut.TheVariants.{Line, Long}
 use Rattle.line_io.specs.declared.source.Failed.{Failed}
 use Rattle.session_model.specs.Ledger.{Ledgers}
-use Rattle.line_answers.specs.Answered.{Answering, AnswersInOrder, BreaksOff, joined_texts}
+use Rattle.line_answers.specs.Answered.{Answering, AnswersInOrder, joined_texts}
 use Rattle.line_answers.specs.Flow.{Moment, AnswersLine, WasBroken}
 
 -- the texts of some answers, and of one more

@@ -1,6 +1,6 @@
 -- How far a call is that answers lines, and what a piece of its input makes of it.
 -- No public clause cites this module.
-use Rattle.std.specs.Prelude.{◌≡◌, ℕ, ◌<◌, ◌≤◌, true, Option, Some, Result, Ok, Err, List, [], ◌∷◌, ◌++◌, length, take}
+use Rattle.std.specs.Prelude.{◌≡◌, ℕ, ◌≤◌, true, Option, Some, Result, Ok, Err, List, [], ◌∷◌, ◌++◌, length}
 use Rattle.std.specs.Io.KnownBytes.{Appends, Consumes}
 use Rattle.byte_lines.specs.Cut.{held_of, TellsOf}
 use Rattle.byte_lines.specs.Lines.{ended_lines, lines, unended}

@@ -22,8 +22,8 @@ pub trait LineAnswers {
     )
         requires short { length line.now ≤ LINE_MOST }
         requires empty { out.old ≡ [] }
-        ensures { AnswersNext (answered self.old) (answered self.new) (ledgers meters.old upkeep.old)
-            (ledgers meters.new upkeep.new) line.now out.new };
+        ensures { AnswersNext (answered self.old) (answered self.new)
+            (ledgers meters.old upkeep.old) (ledgers meters.new upkeep.new) line.now out.new };
 
     /// Answers a line of more than 4,096 bytes, whichever it was.
     fn answer_long(&mut self, out: &mut LineBuf)

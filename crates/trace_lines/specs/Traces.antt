@@ -1,5 +1,5 @@
 -- A trace: the lines that a world reads, and what it answers to each.
-use Rattle.std.specs.Prelude.{◌≡◌, ℕ, List, [], ◌∷◌, ◌++◌, map, Option, Some, None, Result, Ok, Err}
+use Rattle.std.specs.Prelude.{◌≡◌, ℕ, List, [], ◌∷◌, map, Some, None, Ok, Err}
 use Rattle.std.specs.List.{AllByRecursion}
 use Rattle.query_protocol.specs.Replies.{reply_line}
 use Rattle.query_protocol.specs.Replies as reply
