@@ -6,4 +6,5 @@ pub mod HeldLemmas
 pub mod OpenLemmas
 pub mod PlaceLemmas
 pub mod RefusalLemmas
+pub mod RunLemmas
 pub mod StartLemmas

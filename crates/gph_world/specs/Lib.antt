@@ -2,7 +2,9 @@ pub mod Asks
 pub mod Behind
 pub mod Calls
 pub mod Codes
+pub mod Happenings
 pub mod Kept
+pub mod Rising
 pub mod Seen
 pub mod Sources
 pub mod Worlds

@@ -6,12 +6,16 @@ mod advancing;
 mod ask;
 mod cancelling;
 mod commits;
+mod event;
 mod held;
 mod opening;
 mod place;
 mod starting;
+mod stepping;
+mod stubs;
 mod world;
 
 pub use ask::Ask;
+pub use event::Event;
 pub use held::Source;
 pub use world::World;
