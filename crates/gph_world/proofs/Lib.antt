@@ -1,9 +1,12 @@
 pub mod AdvanceLemmas
+pub mod BuildLemmas
 pub mod CancelLemmas
 pub mod CommitLemmas
+pub mod FollowLemmas
 pub mod GrownLemmas
 pub mod HeldLemmas
 pub mod OpenLemmas
 pub mod PlaceLemmas
 pub mod RefusalLemmas
 pub mod StartLemmas
+pub mod SwapLemmas

@@ -1,8 +1,11 @@
 pub mod Asks
 pub mod Behind
+pub mod Builds
 pub mod Calls
 pub mod Codes
 pub mod Kept
 pub mod Seen
 pub mod Sources
+pub mod Swaps
+pub mod Upkeep
 pub mod Worlds

@@ -4,12 +4,15 @@
 
 mod advancing;
 mod ask;
+mod building;
 mod cancelling;
 mod commits;
+mod following;
 mod held;
 mod opening;
 mod place;
 mod starting;
+mod swapping;
 mod world;
 
 pub use ask::Ask;
