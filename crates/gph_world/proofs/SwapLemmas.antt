@@ -90,12 +90,12 @@ module _ {W : ℕ} (bits room : ℕ) (journal : JournalState) (places : List (Pl
       | inl unready ↦ inl (swap_unready z s shard low (place_seen old) is_found (build_seen keeps.build) (ap (option_map build_seen) keeps.is_build)
           unready.0 ∙ ap Some (sym unready.1), stays)
       | inr (inl moved) ↦ inl (swap_moved z s shard low (place_seen old) is_found (build_seen keeps.build) (ap (option_map build_seen) keeps.is_build)
-          moved.0 moved.1.0 ∙ ap Some (sym moved.1.1), stays)
+          moved.0 moved.1 ∙ ap Some (sym moved.2), stays)
       | inr (inr lacks) ↦ inr (record {
-          why_is = lacks.1.1;
+          why_is = lacks.2;
           takes = refl;
           not_refused = may_swap z s shard low (place_seen old) is_found (build_seen keeps.build) (ap (option_map build_seen) keeps.is_build)
-              lacks.0 lacks.1.0;
+              lacks.0 lacks.1;
           leaves = inl stays;
         })
     ]
