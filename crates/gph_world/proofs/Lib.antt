@@ -1,6 +1,8 @@
 pub mod AdvanceLemmas
+pub mod BuildLemmas
 pub mod CancelLemmas
 pub mod CommitLemmas
+pub mod FollowLemmas
 pub mod GrownLemmas
 pub mod HeldLemmas
 pub mod OpenLemmas
@@ -8,3 +10,4 @@ pub mod PlaceLemmas
 pub mod RefusalLemmas
 pub mod RunLemmas
 pub mod StartLemmas
+pub mod SwapLemmas

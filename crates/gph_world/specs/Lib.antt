@@ -1,5 +1,6 @@
 pub mod Asks
 pub mod Behind
+pub mod Builds
 pub mod Calls
 pub mod Codes
 pub mod Happenings
@@ -7,4 +8,6 @@ pub mod Kept
 pub mod Rising
 pub mod Seen
 pub mod Sources
+pub mod Swaps
+pub mod Upkeep
 pub mod Worlds

@@ -4,15 +4,18 @@
 
 mod advancing;
 mod ask;
+mod building;
 mod cancelling;
 mod commits;
 mod event;
+mod following;
 mod held;
 mod opening;
 mod place;
 mod starting;
 mod stepping;
 mod stubs;
+mod swapping;
 mod world;
 
 pub use ask::Ask;

@@ -1,15 +1,12 @@
 //! Stubs.
 
 ghost use Rattle.std.specs.Prelude.{◌≡◌, ◌≤◌};
-ghost use Rattle.std.specs.Arc.{arc_value};
-ghost use Rattle.world_model.specs.Events.{IsLayoutFor, Pin, Poll, Give, BuildStart, BuildStep, Follow, Swap};
+ghost use Rattle.world_model.specs.Events.{Pin, Poll, Give};
 ghost use Rattle.world_model.specs.WorldStep.{WorldStep};
 ghost use Rattle.gph_world.specs.Rising.{RiseByReads};
 
 use crate::world::World;
-use part_layout::Layout;
 use read_meter::{Meters, Steps};
-use std::sync::Arc;
 use world_model::{Refused, Told};
 
 impl<const W: usize> World<W> {
@@ -39,43 +36,6 @@ impl<const W: usize> World<W> {
         ensures step { WorldStep self.old.setting self.old.state (Give query) result self.new.state }
     {
         let _x = query;
-        Err(Refused::NoMemory)
-    }
-    /// Stub.
-    pub fn build_start<M>(&mut self, shard: u32, layout: Arc<Layout>, steps: &mut Steps<M>) -> Result<Told, Refused>
-        requires layout { IsLayoutFor self.old.setting.bits (arc_value layout) }
-        ensures setting { self.new.setting ≡ self.old.setting }
-        ensures step { WorldStep self.old.setting self.old.state (BuildStart shard (arc_value layout)) result self.new.state }
-    {
-        steps.tick();
-        let _x = shard;
-        let _y = layout;
-        Err(Refused::NoMemory)
-    }
-    /// Stub.
-    pub fn build_step<M>(&mut self, shard: u32, rows: u32, steps: &mut Steps<M>) -> Result<Told, Refused>
-        ensures setting { self.new.setting ≡ self.old.setting }
-        ensures step { WorldStep self.old.setting self.old.state (BuildStep shard rows) result self.new.state }
-    {
-        steps.tick();
-        let _x = shard + rows;
-        Err(Refused::NoMemory)
-    }
-    /// Stub.
-    pub fn follow<M>(&mut self, shard: u32, steps: &mut Steps<M>) -> Result<Told, Refused>
-        ensures setting { self.new.setting ≡ self.old.setting }
-        ensures step { WorldStep self.old.setting self.old.state (Follow shard) result self.new.state }
-    {
-        steps.tick();
-        let _x = shard;
-        Err(Refused::NoMemory)
-    }
-    /// Stub.
-    pub fn swap(&mut self, shard: u32) -> Result<Told, Refused>
-        ensures setting { self.new.setting ≡ self.old.setting }
-        ensures step { WorldStep self.old.setting self.old.state (Swap shard) result self.new.state }
-    {
-        let _x = shard;
         Err(Refused::NoMemory)
     }
 }

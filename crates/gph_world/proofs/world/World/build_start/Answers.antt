@@ -1,0 +1,54 @@
+-- A build of the shard begins, if none goes on.
+use Rattle.std.proofs.Common.{◌≡◌, ◌+◌, ◌<◌, ◌≤◌, length, sym, subst, ◌∙◌, arith}
+use Rattle.std.specs.Arc.{arc_value}
+use Rattle.std.specs.Prelude.{slice_set}
+use Rattle.world_model.specs.Events.{BuildStart, IsLayoutFor}
+use Rattle.world_model.specs.WorldStep.{WorldStep}
+use Rattle.gph_world.specs.Seen.{state_seen}
+use Rattle.gph_world.specs.Upkeep.{rows_there}
+use Rattle.gph_world.specs.Worlds.{WorldView}
+use Rattle.gph_world.proofs.BuildLemmas.{kept_there, rows_bound, start_step}
+use Rattle.gph_world.proofs.HeldLemmas.{found_there}
+use Rattle.gph_world.proofs.PlaceLemmas.{stepped_keeps}
+use Rattle.gph_world.proofs.world.World.build_start.Goals as goal
+
+pub begin_build-requires : goal.begin_build-requires
+begin_build-requires g c =
+    let i = c.self.inside in
+    let low : c.args.shard < length i.places.items = omega (arith, c.if-number-len.false, c.len.ensures, i.places.ok.0) in
+    let is : IsLayoutFor i.bits (arc_value c.args.layout) =
+    subst (λ (w : WorldView). IsLayoutFor w.setting.bits (arc_value c.args.layout)) (sym c.self.view_is) c.requires.layout in
+    let kept = kept_there i.bits i.room i.journal i.places.items i.queries.items c.args.shard low c.index_mut.result.now
+    (found_there i.places.items c.args.shard c.index_mut.result.now low c.index_mut.ensures.value) c.self.invariant in
+    (omega arith, (c.self.invariant.few_words, (is.laid, is.bits_are ∙ sym kept.of_shard.layout.bits_are)))
+
+pub invariant_of-self : goal.invariant_of-self
+invariant_of-self g c =
+    let i = c.self.inside in
+    let low : c.args.shard < length i.places.items = omega (arith, c.if-number-len.false, c.len.ensures, i.places.ok.0) in
+    let is : IsLayoutFor i.bits (arc_value c.args.layout) =
+    subst (λ (w : WorldView). IsLayoutFor w.setting.bits (arc_value c.args.layout)) (sym c.self.view_is) c.requires.layout in
+    stepped_keeps i.bits i.room i.journal i.places.items i.queries.items c.args.shard c.begin_build.new.place c.self.invariant
+    (BuildStart c.args.shard (arc_value c.args.layout)) c.begin_build.result is
+    (start_step i.bits i.room i.journal i.places.items i.queries.items c.args.shard low c.index_mut.result.now
+    (found_there i.places.items c.args.shard c.index_mut.result.now low c.index_mut.ensures.value) c.begin_build.new.place (arc_value c.args.layout)
+    c.begin_build.result c.begin_build.ensures.begins)
+
+pub returns-clause-step : goal.returns-clause-step
+returns-clause-step g c =
+    let i = c.self.inside in
+    let low : c.args.shard < length i.places.items = omega (arith, c.if-number-len.false, c.len.ensures, i.places.ok.0) in
+    subst (λ (w : WorldView). WorldStep w.setting w.state (BuildStart c.args.shard (arc_value c.args.layout)) c.begin_build.result
+    (state_seen i.bits i.journal (slice_set i.places.items c.args.shard c.begin_build.new.place) i.queries.items)) c.self.view_is
+    (start_step i.bits i.room i.journal i.places.items i.queries.items c.args.shard low c.index_mut.result.now
+    (found_there i.places.items c.args.shard c.index_mut.result.now low c.index_mut.ensures.value) c.begin_build.new.place (arc_value c.args.layout)
+    c.begin_build.result c.begin_build.ensures.begins)
+
+pub returns-clause-bound : goal.returns-clause-bound
+returns-clause-bound g c =
+    let i = c.self.inside in
+    let low : c.args.shard < length i.places.items = omega (arith, c.if-number-len.false, c.len.ensures, i.places.ok.0) in
+    subst (λ (w : WorldView). c.begin_build.new.steps ≤ c.args.steps.now + rows_there w.state c.args.shard) c.self.view_is
+    (rows_bound i.bits i.room i.journal i.places.items i.queries.items c.args.shard low c.index_mut.result.now
+    (found_there i.places.items c.args.shard c.index_mut.result.now low c.index_mut.ensures.value) c.args.steps.now c.begin_build.new.steps
+    c.begin_build.ensures.bound)
