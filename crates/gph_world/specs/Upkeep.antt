@@ -1,6 +1,8 @@
--- What a build of a shard may cost.
-use Rattle.std.specs.Prelude.{ℕ, ◌-◌, length, Option, Some, None, slice_get}
+-- How many steps of upkeep an event may take.
+use Rattle.std.specs.Prelude.{ℕ, ◌-◌, length, min, Option, Some, None, slice_get}
+use Rattle.world_model.specs.Events.{Event, Advance, Pin, BuildStart, BuildStep, Follow}
 use Rattle.world_model.specs.WorldState.{Rebuild, ShardWithBuild, WorldState}
+use Rattle.gph_world.specs.Behind.{entries_behind}
 
 -- how many rows there are on a shard
 abbrev pub rows_of_place : Option ShardWithBuild → ℕ
@@ -34,3 +36,13 @@ entries_of_build entries (Some build) = entries - build.version.at
 abbrev pub entries_unfollowed : WorldState → ℕ → ℕ
 entries_unfollowed state shard =
     entries_of_build (length state.history) (build_of_place (slice_get state.places shard))
+
+-- the most steps that an event takes: one for each entry that a shard or a build is behind, or for
+-- each row that a build reads or places
+abbrev pub upkeep_most : WorldState → Event → ℕ
+upkeep_most state (Advance query shard) = entries_behind state query shard
+upkeep_most state (Pin query shard) = entries_behind state query shard
+upkeep_most state (BuildStart shard layout) = rows_there state shard
+upkeep_most state (BuildStep shard rows) = min rows (rows_unplaced state shard)
+upkeep_most state (Follow shard) = entries_unfollowed state shard
+upkeep_most state event = 0

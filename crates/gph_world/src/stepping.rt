@@ -1,13 +1,13 @@
 //! One event after another.
 
-ghost use Rattle.std.specs.Prelude.{◌≡◌, List, Some, IfOk, OnErr};
+ghost use Rattle.std.specs.Prelude.{◌≡◌, ◌+◌, ◌≤◌, IfOk, OnErr};
 ghost use Rattle.std.specs.List.{AllByRecursion};
 ghost use Rattle.world_model.specs.Answers.{AnswersAll};
-ghost use Rattle.world_model.specs.Events.{IsFormed};
 ghost use Rattle.world_model.specs.Sound.{IsSound};
 ghost use Rattle.world_model.specs.WorldStep.{WorldStep};
-ghost use Rattle.gph_world.specs.Happenings.{IsEventFor, IsStoredEvent, event_seen, events_seen};
+ghost use Rattle.gph_world.specs.Happenings.{IsEventFor, event_seen, events_seen};
 ghost use Rattle.gph_world.specs.Rising.{RiseByReads};
+ghost use Rattle.gph_world.specs.Upkeep.{upkeep_most};
 
 use crate::event::Event;
 use crate::world::World;
@@ -35,6 +35,8 @@ impl<const W: usize> World<W> {
         ensures step { WorldStep self.old.setting self.old.state
             (event_seen self.old.setting.bits event.entry) result self.new.state }
         ensures ledgers { RiseByReads self.old.state self.new.state meters.old meters.new }
+        ensures bound { upkeep.new ≤ upkeep.old
+            + upkeep_most self.old.state (event_seen self.old.setting.bits event.entry) }
         // What stays.
         ensures setting { self.new.setting ≡ self.old.setting }
         ensures sound { IsSound self.new.setting self.new.state }
