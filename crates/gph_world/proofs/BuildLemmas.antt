@@ -1,5 +1,5 @@
 -- Builds of shards: how they begin and place rows.
-use Rattle.std.proofs.Common.{◌≡◌, ℕ, ◌+◌, ◌<◌, ◌≤◌, ◌-◌, false, true, inl, inr, List, length, Option, Some, None, refl, sym, ap, subst, ◌∙◌, arith}
+use Rattle.std.proofs.Common.{◌≡◌, ℕ, ◌+◌, ◌<◌, ◌≤◌, false, true, inl, inr, List, length, Option, Some, None, refl, sym, ap, subst, ◌∙◌, arith}
 use Rattle.std.specs.Prelude.{is_none, is_some, min, nat_lt, option_map, Err, Ok, Result, slice_get, slice_set}
 use Rattle.std.proofs.lemmas.Bool.{le-ltb, lt-ltb}
 use Rattle.std.proofs.lemmas.Option.{slice_get_past}
@@ -113,14 +113,17 @@ module _ {W : ℕ} (bits room : ℕ) (journal : JournalState) (places : List (Pl
       },
     )
     start_step layout (Err why) is = elim is.1.causes [
-      | inl goes_on ↦ inl (start_refused z s shard low (place_seen old) found layout (seen_some old.build ∙ goes_on.0)
-          ∙ ap Some (sym goes_on.1), same_state bits journal places queries shard old new there is.0)
+      | inl goes_on ↦ inl (
+        start_refused z s shard low (place_seen old) found layout (seen_some old.build ∙ goes_on.0)
+            ∙ ap Some (sym goes_on.1),
+        same_state bits journal places queries shard old new there is.0,
+      )
       | inr lacks ↦ inr (record {
-          why_is = lacks.1;
-          takes = refl;
-          not_refused = may_start z s shard low (place_seen old) found layout (seen_some old.build ∙ lacks.0);
-          leaves = inl (same_state bits journal places queries shard old new there is.0);
-        })
+        why_is = lacks.1;
+        takes = refl;
+        not_refused = may_start z s shard low (place_seen old) found layout (seen_some old.build ∙ lacks.0);
+        leaves = inl (same_state bits journal places queries shard old new there is.0);
+      })
     ]
 
     pub rows_step : (rows : ℕ) (result : Result Told Refused) → PlacesRowsAs rows old new result

@@ -1,12 +1,12 @@
 -- The build of the shard places rows, if there is one.
-use Rattle.std.proofs.Common.{◌≡◌, ◌+◌, ◌<◌, ◌≤◌, length, subst, arith}
+use Rattle.std.proofs.Common.{◌≡◌, ◌+◌, ◌<◌, length, subst, arith}
 use Rattle.std.specs.Prelude.{min, slice_set}
 use Rattle.world_model.specs.Events.{BuildStep}
 use Rattle.world_model.specs.WorldStep.{WorldStep}
 use Rattle.gph_world.specs.Seen.{state_seen}
 use Rattle.gph_world.specs.Upkeep.{rows_unplaced}
 use Rattle.gph_world.specs.Worlds.{WorldView}
-use Rattle.gph_world.proofs.BuildLemmas.{none_unplaced, rows_cost, rows_step}
+use Rattle.gph_world.proofs.BuildLemmas.{rows_cost, rows_step}
 use Rattle.gph_world.proofs.HeldLemmas.{found_there}
 use Rattle.gph_world.proofs.PlaceLemmas.{stepped_keeps}
 use Rattle.gph_world.proofs.world.World.build_step.Goals as goal

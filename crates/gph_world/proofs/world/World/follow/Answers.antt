@@ -16,9 +16,14 @@ use Rattle.gph_world.proofs.world.World.follow.Goals as goal
 pub follow_history-requires : goal.follow_history-requires
 follow_history-requires g c =
     let i = c.self.inside in
-    let low : c.args.shard < length i.places.items = omega (arith, c.if-number-len.false, c.len.ensures, i.places.ok.0) in
-    (omega arith, (omega arith, may_follow i.bits i.room i.journal i.places.items i.queries.items c.self.invariant c.args.shard low c.index_mut.result.now
-    (found_there i.places.items c.args.shard c.index_mut.result.now low c.index_mut.ensures.value)))
+    let low : c.args.shard < length i.places.items = omega (arith, c.if-number-len.false, c.len.ensures, i.places.ok.0) in (
+      omega arith,
+      (
+        omega arith,
+        may_follow i.bits i.room i.journal i.places.items i.queries.items c.self.invariant c.args.shard low c.index_mut.result.now
+            (found_there i.places.items c.args.shard c.index_mut.result.now low c.index_mut.ensures.value),
+      ),
+    )
 
 pub invariant_of-self : goal.invariant_of-self
 invariant_of-self g c =

@@ -1,10 +1,9 @@
 -- The build of the shard may stand in for it, and is swapped in or stays.
-use Rattle.std.proofs.Common.{◌<◌, ◌≤◌, inl, length, refl, sym, subst, arith}
-use Rattle.std.specs.Prelude.{Err, slice_set}
-use Rattle.world_model.specs.declared.refused.Refused.TheVariants.{NoShard}
+use Rattle.std.proofs.Common.{◌<◌, length, subst, arith}
+use Rattle.std.specs.Prelude.{slice_set}
 use Rattle.world_model.specs.Events.{Swap}
 use Rattle.world_model.specs.WorldStep.{WorldStep}
-use Rattle.gph_world.specs.Seen.{setting_seen, state_seen}
+use Rattle.gph_world.specs.Seen.{state_seen}
 use Rattle.gph_world.specs.Worlds.{WorldView}
 use Rattle.gph_world.proofs.HeldLemmas.{found_there}
 use Rattle.gph_world.proofs.PlaceLemmas.{stepped_keeps}
@@ -14,9 +13,11 @@ use Rattle.gph_world.proofs.world.World.swap.Goals as goal
 pub swap_in-requires : goal.swap_in-requires
 swap_in-requires g c =
     let i = c.self.inside in
-    let low : c.args.shard < length i.places.items = omega (arith, c.if-number-len.false, c.len.ensures, i.places.ok.0) in
-    (omega arith, may_be_swapped i.bits i.room i.journal i.places.items i.queries.items c.args.shard low c.index_mut.result.now
-    (found_there i.places.items c.args.shard c.index_mut.result.now low c.index_mut.ensures.value) c.self.invariant)
+    let low : c.args.shard < length i.places.items = omega (arith, c.if-number-len.false, c.len.ensures, i.places.ok.0) in (
+      omega arith,
+      may_be_swapped i.bits i.room i.journal i.places.items i.queries.items c.args.shard low c.index_mut.result.now
+          (found_there i.places.items c.args.shard c.index_mut.result.now low c.index_mut.ensures.value) c.self.invariant,
+    )
 
 pub invariant_of-self : goal.invariant_of-self
 invariant_of-self g c =
