@@ -30,7 +30,7 @@ use Rattle.gph_world.specs.Upkeep.{build_of_place, entries_of_build, entries_unf
 use Rattle.gph_world.specs.declared.held.Held.{Held}
 use Rattle.gph_world.specs.declared.place.Place.{Place}
 use Rattle.gph_world.proofs.BuildLemmas.{becomes, build_is_at, found, kept_there, left_at, no_build_at, none_left_at}
-use Rattle.gph_world.proofs.PlaceLemmas.{same_state}
+use Rattle.gph_world.proofs.PlaceLemmas.{same_state, stepped_keeps}
 use Rattle.gph_world.proofs.RefusalLemmas.{is_shard, refusal_by}
 
 -- a front that was opened and closed again leaves the journal as it was
@@ -140,7 +140,7 @@ module _ {W : ℕ} (bits room : ℕ) (journal : JournalState) (places : List (Pl
       })
     ]
 
-    pub follow_step : (result : Result Told Refused) → FollowsAs journal.history old new result → WorldStep z s (Follow shard) result t
+    follow_step : (result : Result Told Refused) → FollowsAs journal.history old new result → WorldStep z s (Follow shard) result t
     follow_step (Ok said) is = came_step said is
     follow_step (Err why) is = elim is.1 [
       | inl lacks ↦ inl (
@@ -149,3 +149,14 @@ module _ {W : ℕ} (bits room : ℕ) (journal : JournalState) (places : List (Pl
       )
       | inr stays ↦ stays_step why is.0 stays
     ]
+
+    -- the journal is as before
+    pub follow_leaves : (after : JournalState) → after ≡ journal → (result : Result Told Refused) → FollowsAs journal.history old new result
+        → KeepsWorld bits room after (slice_set places shard new) queries
+        × WorldStep z s (Follow shard) result (state_seen bits after (slice_set places shard new) queries)
+    follow_leaves after same result is =
+        subst (λ (one : JournalState). KeepsWorld bits room one (slice_set places shard new) queries
+        × WorldStep z s (Follow shard) result (state_seen bits one (slice_set places shard new) queries)) (sym same) (
+          stepped_keeps bits room journal places queries shard new keeps (Follow shard) result tt (follow_step result is),
+          follow_step result is,
+        )

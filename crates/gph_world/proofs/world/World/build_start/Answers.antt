@@ -41,8 +41,8 @@ module _ (g : _) (c : goal.After-self-1 g) where
 pub invariant_of-self : goal.invariant_of-self
 invariant_of-self g c =
     let i = c.self.inside in
-    stepped_keeps i.bits i.room i.journal i.places.items i.queries.items c.args.shard c.begin_build.new.place c.self.invariant (BuildStart c.args.shard (arc_value c.args.layout))
-    c.begin_build.result
+    stepped_keeps i.bits i.room i.journal i.places.items i.queries.items c.args.shard c.begin_build.new.place c.self.invariant
+    (BuildStart c.args.shard (arc_value c.args.layout)) c.begin_build.result
     (subst (λ (w : WorldView). IsLayoutFor w.setting.bits (arc_value c.args.layout)) (sym c.self.view_is) c.requires.layout) (stepped g c)
 
 pub returns-clause-step : goal.returns-clause-step

@@ -1,16 +1,13 @@
 -- The build of the shard follows the history, if there is one with all rows placed.
-use Rattle.std.proofs.Common.{◌≡◌, ◌+◌, ◌<◌, ◌≤◌, length, Some, sym, subst, arith}
+use Rattle.std.proofs.Common.{◌≡◌, ◌+◌, ◌<◌, ◌≤◌, length, Some, subst, arith}
 use Rattle.std.specs.Prelude.{slice_get, slice_set}
-use Rattle.commit_journal.specs.Journals.{JournalState}
 use Rattle.world_model.specs.Events.{Follow}
 use Rattle.world_model.specs.WorldStep.{WorldStep}
-use Rattle.gph_world.specs.Kept.{KeepsWorld}
-use Rattle.gph_world.specs.Seen.{setting_seen, state_seen}
+use Rattle.gph_world.specs.Seen.{state_seen}
 use Rattle.gph_world.specs.Upkeep.{entries_unfollowed}
 use Rattle.gph_world.specs.Worlds.{WorldView}
-use Rattle.gph_world.proofs.FollowLemmas.{follow_bound, follow_step, may_follow}
+use Rattle.gph_world.proofs.FollowLemmas.{follow_bound, follow_leaves, may_follow}
 use Rattle.gph_world.proofs.HeldLemmas.{found_there}
-use Rattle.gph_world.proofs.PlaceLemmas.{stepped_keeps}
 use Rattle.gph_world.proofs.world.World.follow.Goals as goal
 
 pub follow_history-requires : goal.follow_history-requires
@@ -32,32 +29,19 @@ module _ (g : _) (c : goal.After-self-1 g) where
   there : slice_get c.self.inside.places.items c.args.shard ≡ Some c.index_mut.result.now
   there = found_there c.self.inside.places.items c.args.shard c.index_mut.result.now low c.index_mut.ensures.value
 
-  stepped : WorldStep (setting_seen c.self.inside.bits c.self.inside.room c.self.inside.journal c.self.inside.places.items)
-      (state_seen c.self.inside.bits c.self.inside.journal c.self.inside.places.items c.self.inside.queries.items)
-      (Follow c.args.shard) c.follow_history.result
-      (state_seen c.self.inside.bits c.self.inside.journal (slice_set c.self.inside.places.items c.args.shard c.follow_history.new.place)
-      c.self.inside.queries.items)
-  stepped = follow_step c.self.inside.bits c.self.inside.room c.self.inside.journal c.self.inside.places.items c.self.inside.queries.items
-      c.self.invariant c.args.shard low c.index_mut.result.now there c.follow_history.new.place c.follow_history.result
-      c.follow_history.ensures.follows
-
 pub invariant_of-self : goal.invariant_of-self
 invariant_of-self g c =
     let i = c.self.inside in
-    subst (λ (journal : JournalState). KeepsWorld i.bits i.room journal (slice_set i.places.items c.args.shard c.follow_history.new.place) i.queries.items)
-    (sym c.follow_history.ensures.journal)
-    (stepped_keeps i.bits i.room i.journal i.places.items i.queries.items c.args.shard c.follow_history.new.place c.self.invariant
-    (Follow c.args.shard) c.follow_history.result tt (stepped g c))
+    (follow_leaves i.bits i.room i.journal i.places.items i.queries.items c.self.invariant c.args.shard (low g c) c.index_mut.result.now (there g c)
+    c.follow_history.new.place c.follow_history.new.journal c.follow_history.ensures.journal c.follow_history.result c.follow_history.ensures.follows).0
 
 pub returns-clause-step : goal.returns-clause-step
 returns-clause-step g c =
     let i = c.self.inside in
     subst (λ (w : WorldView). WorldStep w.setting w.state (Follow c.args.shard) c.follow_history.result
     (state_seen i.bits c.follow_history.new.journal (slice_set i.places.items c.args.shard c.follow_history.new.place) i.queries.items)) c.self.view_is
-    (subst (λ (journal : JournalState). WorldStep (setting_seen i.bits i.room i.journal i.places.items)
-    (state_seen i.bits i.journal i.places.items i.queries.items) (Follow c.args.shard) c.follow_history.result
-    (state_seen i.bits journal (slice_set i.places.items c.args.shard c.follow_history.new.place) i.queries.items))
-    (sym c.follow_history.ensures.journal) (stepped g c))
+    (follow_leaves i.bits i.room i.journal i.places.items i.queries.items c.self.invariant c.args.shard (low g c) c.index_mut.result.now (there g c)
+    c.follow_history.new.place c.follow_history.new.journal c.follow_history.ensures.journal c.follow_history.result c.follow_history.ensures.follows).1
 
 pub returns-clause-bound : goal.returns-clause-bound
 returns-clause-bound g c =
