@@ -1,16 +1,15 @@
 -- Builds of shards: how they begin and place rows.
-use Rattle.std.proofs.Common.{◌≡◌, ℕ, ◌+◌, ◌<◌, ◌≤◌, ◌-◌, false, true, inl, inr, List, length, Option, Some, None, refl, sym, ap, subst, ◌∙◌, arith}
+use Rattle.std.proofs.Common.{◌≡◌, ℕ, ◌+◌, ◌<◌, ◌≤◌, false, true, inl, inr, List, length, Option, Some, None, refl, sym, ap, subst, ◌∙◌, arith}
 use Rattle.std.specs.Prelude.{is_none, is_some, min, nat_lt, option_map, Err, Ok, Result, slice_get, slice_set}
 use Rattle.std.proofs.lemmas.Bool.{le-ltb, lt-ltb}
-use Rattle.std.proofs.lemmas.Option.{slice_get_past}
 use Rattle.part_layout.specs.Laid.{Laid}
 use Rattle.version_draft.specs.Unfinished.{Unfinished, begun, with_placed}
 use Rattle.commit_journal.specs.Journals.{JournalState}
 use Rattle.world_model.specs.declared.refused.Refused.{Refused}
-use Rattle.world_model.specs.declared.refused.Refused.TheVariants.{Building, NoBuild, NoShard, Unready}
+use Rattle.world_model.specs.declared.refused.Refused.TheVariants.{Building, NoBuild, Unready}
 use Rattle.world_model.specs.declared.told.Told.{Told}
-use Rattle.world_model.specs.Events.{BuildStart, BuildStep, Event, Setting}
-use Rattle.world_model.specs.Refusals.{cause, cause_of, has_left, lacks_build, lacks_shard, refusal}
+use Rattle.world_model.specs.Events.{BuildStart, BuildStep, Setting}
+use Rattle.world_model.specs.Refusals.{cause, cause_of, has_left, lacks_build, refusal}
 use Rattle.world_model.specs.Sound.{KeepsShard}
 use Rattle.world_model.specs.WorldState.{Rebuild, ShardWithBuild, WorldState, with_place}
 use Rattle.world_model.specs.WorldStep.{WorldStep}
@@ -27,10 +26,6 @@ use Rattle.gph_world.proofs.RefusalLemmas.{cause_at, cause_if, cause_not, is_sha
 seen_some : (found : Option Unfinished) → is_some (option_map build_seen found) ≡ is_some found
 seen_some None = refl
 seen_some (Some build) = refl
-
--- an event on a shard that isn't there is refused for that
-pub beyond_shards : (z : Setting) (s : WorldState) (event : Event) → lacks_shard z event ≡ Some NoShard → refusal z s event ≡ Some NoShard
-beyond_shards z s event beyond = refusal_by z s event _ _ _ _ _ _ _ _ _ _ beyond refl refl refl refl refl refl refl refl refl
 
 -- ---- what a place gives to an event that needs a build
 module _ (places : List ShardWithBuild) (shard : ℕ) (place : ShardWithBuild) (there : slice_get places shard ≡ Some place) where
@@ -113,14 +108,17 @@ module _ {W : ℕ} (bits room : ℕ) (journal : JournalState) (places : List (Pl
       },
     )
     start_step layout (Err why) is = elim is.1.causes [
-      | inl goes_on ↦ inl (start_refused z s shard low (place_seen old) found layout (seen_some old.build ∙ goes_on.0)
-          ∙ ap Some (sym goes_on.1), same_state bits journal places queries shard old new there is.0)
+      | inl goes_on ↦ inl (
+        start_refused z s shard low (place_seen old) found layout (seen_some old.build ∙ goes_on.0)
+            ∙ ap Some (sym goes_on.1),
+        same_state bits journal places queries shard old new there is.0,
+      )
       | inr lacks ↦ inr (record {
-          why_is = lacks.1;
-          takes = refl;
-          not_refused = may_start z s shard low (place_seen old) found layout (seen_some old.build ∙ lacks.0);
-          leaves = inl (same_state bits journal places queries shard old new there is.0);
-        })
+        why_is = lacks.1;
+        takes = refl;
+        not_refused = may_start z s shard low (place_seen old) found layout (seen_some old.build ∙ lacks.0);
+        leaves = inl (same_state bits journal places queries shard old new there is.0);
+      })
     ]
 
     pub rows_step : (rows : ℕ) (result : Result Told Refused) → PlacesRowsAs rows old new result
@@ -139,8 +137,3 @@ module _ {W : ℕ} (bits room : ℕ) (journal : JournalState) (places : List (Pl
       step_refused z s shard low (place_seen old) found rows (ap (option_map build_seen) is.1.none) ∙ ap Some (sym is.1.why_is),
       same_state bits journal places queries shard old new there is.0,
     )
-
--- a shard that isn't there has no row to be placed
-pub none_unplaced : (s : WorldState) (shard before rows : ℕ) → length s.places ≤ shard → before ≡ before + min rows (rows_unplaced s shard)
-none_unplaced s shard before rows past = subst (λ (n : ℕ). before ≡ before + min rows n)
-    (sym (ap (λ (o : Option ShardWithBuild). rows_of_build (build_of_place o)) (slice_get_past s.places shard past))) (omega arith)

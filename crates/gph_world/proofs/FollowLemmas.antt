@@ -1,8 +1,7 @@
 -- A build follows the history to its end.
-use Rattle.std.proofs.Common.{◌≡◌, ℕ, ◌+◌, ◌-◌, ◌<◌, ◌≤◌, inl, inr, List, length, take, Option, Some, None, refl, sym, ap, subst, ◌∙◌, arith}
+use Rattle.std.proofs.Common.{◌≡◌, ℕ, ◌+◌, ◌<◌, ◌≤◌, inl, inr, List, length, take, Option, Some, None, refl, sym, ap, subst, ◌∙◌, arith}
 use Rattle.std.specs.Prelude.{option_map, Err, IfSome, Ok, Result, slice_get, slice_set}
 use Rattle.std.proofs.lemmas.List.{length-map}
-use Rattle.std.specs.FinMap.{insert, remove}
 use Rattle.hamming_model.specs.History.{JournalEntry}
 use Rattle.hamming_model.specs.Recoded.{AreStoredEntries, cut_entry, cut_history}
 use Rattle.shard_version.specs.Contents.{Contents}
@@ -19,7 +18,7 @@ use Rattle.world_model.specs.declared.told.Told.TheVariants as told
 use Rattle.world_model.specs.Events.{Follow, Setting}
 use Rattle.world_model.specs.Refusals.{refusal}
 use Rattle.world_model.specs.ShardSteps.{with_build}
-use Rattle.world_model.specs.Sound.{IsBuild, KeepsShard}
+use Rattle.world_model.specs.Sound.{IsBuild}
 use Rattle.world_model.specs.WorldState.{Rebuild, ShardWithBuild, WorldState, with_place}
 use Rattle.world_model.specs.WorldStep.{WorldStep}
 use Rattle.world_bridge.proofs.CutLemmas.{cut_twice, follows_cut}
@@ -31,7 +30,7 @@ use Rattle.gph_world.specs.Upkeep.{build_of_place, entries_of_build, entries_unf
 use Rattle.gph_world.specs.declared.held.Held.{Held}
 use Rattle.gph_world.specs.declared.place.Place.{Place}
 use Rattle.gph_world.proofs.BuildLemmas.{becomes, build_is_at, found, kept_there, left_at, no_build_at, none_left_at}
-use Rattle.gph_world.proofs.PlaceLemmas.{same_state}
+use Rattle.gph_world.proofs.PlaceLemmas.{same_state, stepped_keeps}
 use Rattle.gph_world.proofs.RefusalLemmas.{is_shard, refusal_by}
 
 -- a front that was opened and closed again leaves the journal as it was
@@ -128,21 +127,36 @@ module _ {W : ℕ} (bits room : ℕ) (journal : JournalState) (places : List (Pl
 
     stays_step : (why : Refused) → new ≡ old → StaysBehind old why → WorldStep z s (Follow shard) (Err why) t
     stays_step why same stays = elim stays.causes [
-      | inl unready ↦ inl (follow_unready z s shard low (place_seen old) is_found (build_seen stays.build)
-          (ap (option_map build_seen) stays.is_build) unready.0 ∙ ap Some (sym unready.1),
-          same_state bits journal places queries shard old new there same)
+      | inl unready ↦ inl (
+        follow_unready z s shard low (place_seen old) is_found (build_seen stays.build)
+            (ap (option_map build_seen) stays.is_build) unready.0 ∙ ap Some (sym unready.1),
+        same_state bits journal places queries shard old new there same,
+      )
       | inr lacks ↦ inr (record {
-          why_is = lacks.1;
-          takes = refl;
-          not_refused = goes_along z s shard low (place_seen old) is_found (build_seen stays.build) (ap (option_map build_seen) stays.is_build) lacks.0;
-          leaves = inl (same_state bits journal places queries shard old new there same);
-        })
+        why_is = lacks.1;
+        takes = refl;
+        not_refused = goes_along z s shard low (place_seen old) is_found (build_seen stays.build) (ap (option_map build_seen) stays.is_build) lacks.0;
+        leaves = inl (same_state bits journal places queries shard old new there same);
+      })
     ]
 
-    pub follow_step : (result : Result Told Refused) → FollowsAs journal.history old new result → WorldStep z s (Follow shard) result t
+    follow_step : (result : Result Told Refused) → FollowsAs journal.history old new result → WorldStep z s (Follow shard) result t
     follow_step (Ok said) is = came_step said is
     follow_step (Err why) is = elim is.1 [
-      | inl lacks ↦ inl (follow_no_build z s shard low (place_seen old) is_found (ap (option_map build_seen) lacks.none) ∙ ap Some (sym lacks.why_is),
-          same_state bits journal places queries shard old new there is.0)
+      | inl lacks ↦ inl (
+        follow_no_build z s shard low (place_seen old) is_found (ap (option_map build_seen) lacks.none) ∙ ap Some (sym lacks.why_is),
+        same_state bits journal places queries shard old new there is.0,
+      )
       | inr stays ↦ stays_step why is.0 stays
     ]
+
+    -- the journal is as before
+    pub follow_leaves : (after : JournalState) → after ≡ journal → (result : Result Told Refused) → FollowsAs journal.history old new result
+        → KeepsWorld bits room after (slice_set places shard new) queries
+        × WorldStep z s (Follow shard) result (state_seen bits after (slice_set places shard new) queries)
+    follow_leaves after same result is =
+        subst (λ (one : JournalState). KeepsWorld bits room one (slice_set places shard new) queries
+        × WorldStep z s (Follow shard) result (state_seen bits one (slice_set places shard new) queries)) (sym same) (
+          stepped_keeps bits room journal places queries shard new keeps (Follow shard) result tt (follow_step result is),
+          follow_step result is,
+        )

@@ -87,17 +87,23 @@ module _ {W : ℕ} (bits room : ℕ) (journal : JournalState) (places : List (Pl
 
     kept_step : (why : Refused) → new ≡ old → KeepsLayout old why → WorldStep z s (Swap shard) (Err why) t
     kept_step why same keeps = elim keeps.causes [
-      | inl unready ↦ inl (swap_unready z s shard low (place_seen old) is_found (build_seen keeps.build) (ap (option_map build_seen) keeps.is_build)
-          unready.0 ∙ ap Some (sym unready.1), stays)
-      | inr (inl moved) ↦ inl (swap_moved z s shard low (place_seen old) is_found (build_seen keeps.build) (ap (option_map build_seen) keeps.is_build)
-          moved.0 moved.1 ∙ ap Some (sym moved.2), stays)
+      | inl unready ↦ inl (
+        swap_unready z s shard low (place_seen old) is_found (build_seen keeps.build) (ap (option_map build_seen) keeps.is_build)
+            unready.0 ∙ ap Some (sym unready.1),
+        stays,
+      )
+      | inr (inl moved) ↦ inl (
+        swap_moved z s shard low (place_seen old) is_found (build_seen keeps.build) (ap (option_map build_seen) keeps.is_build)
+            moved.0 moved.1 ∙ ap Some (sym moved.2),
+        stays,
+      )
       | inr (inr lacks) ↦ inr (record {
-          why_is = lacks.2;
-          takes = refl;
-          not_refused = may_swap z s shard low (place_seen old) is_found (build_seen keeps.build) (ap (option_map build_seen) keeps.is_build)
-              lacks.0 lacks.1;
-          leaves = inl stays;
-        })
+        why_is = lacks.2;
+        takes = refl;
+        not_refused = may_swap z s shard low (place_seen old) is_found (build_seen keeps.build) (ap (option_map build_seen) keeps.is_build)
+            lacks.0 lacks.1;
+        leaves = inl stays;
+      })
     ]
       where
         stays : t ≡ s
@@ -115,7 +121,9 @@ module _ {W : ℕ} (bits room : ℕ) (journal : JournalState) (places : List (Pl
       },
     )
     swap_step (Err why) is = elim is.1 [
-      | inl lacks ↦ inl (swap_no_build z s shard low (place_seen old) is_found (ap (option_map build_seen) lacks.none) ∙ ap Some (sym lacks.why_is),
-          same_state bits journal places queries shard old new there is.0)
+      | inl lacks ↦ inl (
+        swap_no_build z s shard low (place_seen old) is_found (ap (option_map build_seen) lacks.none) ∙ ap Some (sym lacks.why_is),
+        same_state bits journal places queries shard old new there is.0,
+      )
       | inr keeps ↦ kept_step why is.0 keeps
     ]
