@@ -1,9 +1,14 @@
 pub mod AdvanceLemmas
 pub mod CancelLemmas
 pub mod CommitLemmas
+pub mod GatherLemmas
+pub mod GiveLemmas
 pub mod GrownLemmas
 pub mod HeldLemmas
 pub mod OpenLemmas
+pub mod PinLemmas
 pub mod PlaceLemmas
+pub mod PollLemmas
 pub mod RefusalLemmas
+pub mod SourceLemmas
 pub mod StartLemmas

@@ -2,7 +2,10 @@ pub mod Asks
 pub mod Behind
 pub mod Calls
 pub mod Codes
+pub mod Gathers
 pub mod Kept
+pub mod Pinned
+pub mod Rising
 pub mod Seen
 pub mod Sources
 pub mod Worlds

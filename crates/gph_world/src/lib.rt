@@ -6,9 +6,13 @@ mod advancing;
 mod ask;
 mod cancelling;
 mod commits;
+mod giving;
 mod held;
 mod opening;
+mod pinning;
 mod place;
+mod polling;
+mod sources;
 mod starting;
 mod world;
 
