@@ -8,7 +8,6 @@ use Rattle.hamming_model.specs.History.{JournalEntry, rows_of, shard_rows}
 use Rattle.hamming_model.specs.Recoded.{cut_entry, cut_history}
 use Rattle.hamming_model.specs.Scan.{Ask, Range, Near, answer, hit_of, hits_within, scan}
 use Rattle.hamming_model.specs.declared.hit.Hit.{Hit}
-use Rattle.shard_version.proofs.HistoryLemmas.{few_rows}
 use Rattle.hit_source.specs.Moves.{first_of}
 use Rattle.hit_source.specs.Sources.{Asked, Standing}
 use Rattle.commit_journal.specs.Journals.{IsJournal, JournalState}
@@ -103,6 +102,10 @@ answer_few : (bits : ℕ) (rows : List (ℕ × List ℕ)) (ask : Ask) → length
 answer_few bits rows (Range tau code) = scan_few rows code tau
 answer_few bits rows (Near count code) = omega (arith, scan_few rows code bits, taken_few count (scan rows code bits))
 
+-- each shard has at most one row for each entry
+abbrev pub HaveFewRows : Type 0
+HaveFewRows = (shard shards : ℕ) (history : List JournalEntry) → length (shard_rows shard shards (rows_of history)) ≤ length history
+
 -- ---- gatherings
 module _ {W : ℕ} (bits room : ℕ) (journal : JournalState) (places : List (Place W)) (queries : List (Held W))
     (keeps : KeepsWorld bits room journal places queries) (number : ℕ) (held : Held W) (there : slice_get queries number ≡ Some held) where
@@ -135,12 +138,12 @@ module _ {W : ℕ} (bits room : ℕ) (journal : JournalState) (places : List (Pl
       go (suc n) e = omega (arith, e)
 
   -- the answer is short enough to be counted
-  few_answered : IsJournal journal → length (answer_on z s.history query) ≤ hits_most
-  few_answered is = omega (
+  few_answered : IsJournal journal → HaveFewRows → length (answer_on z s.history query) ≤ hits_most
+  few_answered is few = omega (
     arith,
     answer_few bits (rows_of (take held.position s.history)) query.ask,
     ap length (one_shard (rows_of (take held.position s.history))),
-    few_rows 0 1 (take held.position s.history),
+    few 0 1 (take held.position s.history),
     length-take-le held.position s.history query_is.within,
     query_is.within,
     length-map journal.history (cut_entry bits),
@@ -207,9 +210,9 @@ module _ {W : ℕ} (bits room : ℕ) (journal : JournalState) (places : List (Pl
     pub has_gathering : HasGathering z s number query (gathering_seen g)
     has_gathering = record { is_query = is_there; gathers = had.gathers }
 
-    pub answered : IsJournal journal → answer_of (gathering_seen g) ≡ answer_on z s.history query
-    answered whole = sources_answer z s number query (gathering_seen g) keeps.sound has_gathering (omega (arith, keeps.some_shards)) all_pinned
-        (few_answered whole)
+    pub answered : IsJournal journal → HaveFewRows → answer_of (gathering_seen g) ≡ answer_on z s.history query
+    answered whole few = sources_answer z s number query (gathering_seen g) keeps.sound has_gathering (omega (arith, keeps.some_shards)) all_pinned
+        (few_answered whole few)
 
     pub given_is : query.given ≡ g.given
     given_is = ap given_by is

@@ -2,7 +2,7 @@
 use Rattle.std.proofs.Common.{◌≡◌, ◌⊎◌, ℕ, ◌+◌, ◌<◌, ◌≤◌, Bool, true, false, List, [], ◌∷◌, length, map, Option, Some, None, refl, sym, ap, subst, ◌∙◌, arith, inl, inr}
 use Rattle.std.specs.Prelude.{Ok, is_none, is_some, nat_lt, ◌&&◌, ◌||◌, slice_get, slice_index_or, slice_set}
 use Rattle.std.specs.List.{AllByRecursion, list_any}
-use Rattle.std.proofs.lemmas.Bool.{both_ways, le-ltb}
+use Rattle.std.proofs.lemmas.Bool.{both_ways, le-ltb, or_parts}
 use Rattle.std.proofs.lemmas.Option.{get_or_from_slice_get}
 use Rattle.hamming_model.specs.declared.hit.Hit.{Hit}
 use Rattle.hit_source.specs.Moves.{Pops}
@@ -27,21 +27,22 @@ use Rattle.gph_world.specs.Seen.{query_seen, setting_seen, standings_held, state
 use Rattle.gph_world.specs.Sources.{QuerySource, gathering_seen, question_asked, standing_told}
 use Rattle.gph_world.specs.declared.held.Held.{Held}
 use Rattle.gph_world.specs.declared.place.Place.{Place}
-use Rattle.gph_world.proofs.GatherLemmas.{all_pinned, answered, any_missing, at_within, changed_is_held, first_dropped, given_is, has_gathering}
+use Rattle.gph_world.proofs.GatherLemmas.{HaveFewRows, all_pinned, answered, any_missing, at_within, changed_is_held, first_dropped, given_is, has_gathering}
 use Rattle.gph_world.proofs.GatherLemmas.{keeps_again, none_dropped, none_missing, query_is, query_keeps, seen_at, state_again, state_changed}
 use Rattle.gph_world.proofs.HeldLemmas.{seen_there}
 use Rattle.gph_world.proofs.RefusalLemmas.{cause_at, cause_if, cause_not, is_query, no_query, refusal_by}
 
 -- ---- floors
+not_some : (floor : Option ℕ) → is_some floor ≡ false → floor ≡ None
+not_some None none = refl
+not_some (Some far) none = absurd (both_ways true none refl)
+
 pub no_floors : {S : Type 0} (stands : S → Standing) (sources : List S) → list_any (λ source. is_some (stands source).floor) sources ≡ false
     → HaveNoFloors stands sources
 no_floors stands [] none = tt
-no_floors {S} stands (source ∷ sources) none = go (stands source).floor refl
-  where
-    go : (floor : Option ℕ) → (stands source).floor ≡ floor → HaveNoFloors stands (source ∷ sources)
-    go None e = (e, no_floors stands sources (sym (ap (λ (f : Option ℕ). is_some f || list_any (λ one. is_some (stands one).floor) sources) e) ∙ none))
-    go (Some far) e = absurd (both_ways true
-        (sym (ap (λ (f : Option ℕ). is_some f || list_any (λ one. is_some (stands one).floor) sources) e) ∙ none) refl)
+no_floors stands (source ∷ sources) none =
+    let both = or_parts (is_some (stands source).floor) (list_any (λ one. is_some (stands one).floor) sources) none in
+    (not_some (stands source).floor both.0, no_floors stands sources both.1)
 
 pub floors_left : {S : Type 0} (stands : S → Standing) (sources : List S) → list_any (λ source. is_some (stands source).floor) sources ≡ true
     → HaveNoFloors stands sources → ⊥
@@ -96,7 +97,7 @@ module _ (z : Setting) (s : WorldState) (number : ℕ) where
 -- ---- what it does
 module _ {W : ℕ} (bits room : ℕ) (journal : JournalState) (places : List (Place W)) (queries : List (Held W))
     (keeps : KeepsWorld bits room journal places queries) (number : ℕ) (held : Held W) (there : slice_get queries number ≡ Some held)
-    (whole : IsJournal journal) (new : Held W) (said : Told) (gives : GivesHeld held new said) where
+    (whole : IsJournal journal) (few : HaveFewRows) (new : Held W) (said : Told) (gives : GivesHeld held new said) where
   abbrev z : Setting
   z = setting_seen bits room journal places
 
@@ -116,7 +117,7 @@ module _ {W : ℕ} (bits room : ℕ) (journal : JournalState) (places : List (Pl
   same_given = given_is bits room journal places queries keeps number held there g gives.was
 
   same_answer : answer_of (gathering_seen g) ≡ answer_on z s.history query
-  same_answer = answered bits room journal places queries keeps number held there g gives.was whole
+  same_answer = answered bits room journal places queries keeps number held there g gives.was whole few
 
   -- a hit was given
   module _ (first : GivesFirst question_asked standing_told g gives.after said) where

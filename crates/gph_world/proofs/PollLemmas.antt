@@ -41,7 +41,7 @@ use Rattle.gph_world.specs.Seen.{query_seen, setting_seen, state_seen}
 use Rattle.gph_world.specs.Sources.{QuerySource, gathering_seen, question_asked, standing_told}
 use Rattle.gph_world.specs.declared.held.Held.{Held}
 use Rattle.gph_world.specs.declared.place.Place.{Place}
-use Rattle.gph_world.proofs.GatherLemmas.{all_pinned, answered, any_missing, at_within, changed_is_held, first_dropped, given_is, has_gathering}
+use Rattle.gph_world.proofs.GatherLemmas.{HaveFewRows, all_pinned, answered, any_missing, at_within, changed_is_held, first_dropped, given_is, has_gathering}
 use Rattle.gph_world.proofs.GatherLemmas.{keeps_again, none_dropped, none_missing, number_is, query_is, query_keeps, seen_at, state_again, state_changed}
 use Rattle.gph_world.proofs.HeldLemmas.{seen_there}
 use Rattle.gph_world.proofs.RefusalLemmas.{cause_at, cause_if, cause_not, is_query, is_shard, no_query, refusal_by}
@@ -146,7 +146,7 @@ codes_first bits (suc n) (entry ∷ history) codes = (codes.0, codes_first bits 
 -- ---- what it does
 module _ {W : ℕ} (bits room : ℕ) (journal : JournalState) (places : List (Place W)) (queries : List (Held W))
     (keeps : KeepsWorld bits room journal places queries) (number : ℕ) (held : Held W) (there : slice_get queries number ≡ Some held)
-    (whole : IsJournal journal) (shard budget : ℕ) (low : shard < length places) (some : 1 ≤ budget) (new : Held W) (from to : List ℕ) (said : Told)
+    (whole : IsJournal journal) (few : HaveFewRows) (shard budget : ℕ) (low : shard < length places) (some : 1 ≤ budget) (new : Held W) (from to : List ℕ) (said : Told)
     (polls : PollsHeld budget shard held new from to said) where
   abbrev z : Setting
   z = setting_seen bits room journal places
@@ -163,8 +163,8 @@ module _ {W : ℕ} (bits room : ℕ) (journal : JournalState) (places : List (Pl
   abbrev g : Gathered (QuerySource W)
   g = polls.before
 
-  abbrev G : Gathering
-  G = gathering_seen g
+  abbrev gathering : Gathering
+  gathering = gathering_seen g
 
   is_there : slice_get s.queries number ≡ Some query
   is_there = seen_there bits room journal places queries keeps number held there
@@ -172,10 +172,10 @@ module _ {W : ℕ} (bits room : ℕ) (journal : JournalState) (places : List (Pl
   same_given : query.given ≡ g.given
   same_given = given_is bits room journal places queries keeps number held there g polls.was
 
-  same_answer : answer_of G ≡ answer_on z s.history query
-  same_answer = answered bits room journal places queries keeps number held there g polls.was whole
+  same_answer : answer_of gathering ≡ answer_on z s.history query
+  same_answer = answered bits room journal places queries keeps number held there g polls.was whole few
 
-  has : HasGathering z s number query G
+  has : HasGathering z s number query gathering
   has = has_gathering bits room journal places queries keeps number held there g polls.was
 
   below : shard < length g.sources
@@ -232,8 +232,8 @@ module _ {W : ℕ} (bits room : ℕ) (journal : JournalState) (places : List (Pl
         ∙ ap (λ (n : ℕ). with_query s number (with_source query n shard (standing_told polled))) (sym same_given)
 
     -- ---- the next hit is no nearer than what it begins
-    next_same : next_hit G ≡ slice_get (answer_on z s.history query) query.given
-    next_same = first_dropped g.given (answer_of G) ∙ ap (λ (hits : List Hit). slice_get hits g.given) same_answer
+    next_same : next_hit gathering ≡ slice_get (answer_on z s.history query) query.given
+    next_same = first_dropped g.given (answer_of gathering) ∙ ap (λ (hits : List Hit). slice_get hits g.given) same_answer
         ∙ ap (slice_get (answer_on z s.history query)) (sym same_given)
 
     goes_on : g.given < g.limit
@@ -242,36 +242,36 @@ module _ {W : ℕ} (bits room : ℕ) (journal : JournalState) (places : List (Pl
     near_is : (question_asked was).near ≡ asks_near query.ask
     near_is = (has.gathers.asked shard (source_of question_asked standing_told was) is_source).asks.near
 
-    still_next : asks_near query.ask ≡ true → next_hit G ≡ None → ⊥
+    still_next : asks_near query.ask ≡ true → next_hit gathering ≡ None → ⊥
     still_next near none =
         let rows = rows_of (take query.position s.history) in
         let codes = codes_of_history bits (take query.position s.history) (codes_first bits query.position s.history keeps.sound.codes) in
         omega (
           arith,
           goes_on,
-          none_dropped g.given (answer_of G) none,
+          none_dropped g.given (answer_of gathering) none,
           ap length same_answer,
           has.gathers.limit,
           near_long bits rows query.ask near (near_has_all bits rows (code_of query.ask) codes),
         )
 
     begins_near : asks_near query.ask ≡ true
-        → IfSome (standing_told polled).begun (λ radius. IfSome (distance_of (next_hit G)) (λ far. radius ≤ far))
-        → IsUpTo (standing_told polled).begun (distance_of (next_hit G))
-    begins_near near within = go (next_hit G) refl
+        → IfSome (standing_told polled).begun (λ radius. IfSome (distance_of (next_hit gathering)) (λ far. radius ≤ far))
+        → IsUpTo (standing_told polled).begun (distance_of (next_hit gathering))
+    begins_near near within = go (next_hit gathering) refl
       where
-        go : (next : Option Hit) → next_hit G ≡ next → IsUpTo (standing_told polled).begun (distance_of (next_hit G))
+        go : (next : Option Hit) → next_hit gathering ≡ next → IsUpTo (standing_told polled).begun (distance_of (next_hit gathering))
         go None e = absurd (still_next near e)
         go (Some hit) e = subst (λ (next : Option Hit). IsUpTo (standing_told polled).begun (distance_of next)) (sym e)
             (up_to (standing_told polled).begun hit.dist
             (subst (λ (next : Option Hit). IfSome (standing_told polled).begun (λ radius. IfSome (distance_of next) (λ far. radius ≤ far))) e within))
 
-    begins_up : IfSome (standing_told polled).begun (λ radius. IfSome (distance_of (next_hit G)) (λ far. radius ≤ far))
+    begins_up : IfSome (standing_told polled).begun (λ radius. IfSome (distance_of (next_hit gathering)) (λ far. radius ≤ far))
         → IsUpTo (standing_told polled).begun (next_distance z s.history query)
     begins_up within = subst (λ (next : Option Hit). IsUpTo (standing_told polled).begun (distance_of next)) next_same
         (elim (cases_Bool (asks_near query.ask)) [
           | inl near ↦ begins_near near within
-          | inr far ↦ range_begins (standing_told polled).begun (distance_of (next_hit G))
+          | inr far ↦ range_begins (standing_told polled).begun (distance_of (next_hit gathering))
               ((polls.lawful polled).begun.range (ap (λ (a : Asked). a.near) asked ∙ near_is ∙ far))
         ])
 
@@ -300,7 +300,7 @@ module _ {W : ℕ} (bits room : ℕ) (journal : JournalState) (places : List (Pl
     own_rise : slice_index to shard + reads_on shard s.queries ≡ slice_index from shard + reads_on shard t.queries
     own_rise = own_ledger s.queries number shard query.given query (standing_told was) (standing_told polled) (slice_index from shard)
         (slice_index to shard) is_there
-        (stands_there z s.history query G shard (source_of question_asked standing_told was) has.gathers is_source) did.ledger
+        (stands_there z s.history query gathering shard (source_of question_asked standing_told was) has.gathers is_source) did.ledger
         ∙ ap (λ (state : WorldState). slice_index from shard + reads_on shard state.queries) (sym state_is)
 
   -- it wasn't
@@ -315,17 +315,17 @@ module _ {W : ℕ} (bits room : ℕ) (journal : JournalState) (places : List (Pl
   polls_at : PollsAt z s number shard budget said t
   polls_at = record {
     query = query;
-    g = G;
+    g = gathering;
     source = source_of question_asked standing_told was;
     has = has;
     is_source = is_source;
     held = λ idle. elim polls.polls [
-      | inl due ↦ absurd (both_ways (is_due G (source_of question_asked standing_told was)) idle (due.due was found.1))
+      | inl due ↦ absurd (both_ways (is_due gathering (source_of question_asked standing_told was)) idle (due.due was found.1))
       | inr none ↦ (none.said_is, same_state none)
     ];
     polled = λ ready. elim polls.polls [
-      | inl due ↦ (due.answer, (due.said_is, polls_source due))
-      | inr none ↦ absurd (both_ways (is_due G (source_of question_asked standing_told was)) (none.not_due was found.1) ready)
+      | inl due ↦ (due.answer, due.said_is, polls_source due)
+      | inr none ↦ absurd (both_ways (is_due gathering (source_of question_asked standing_told was)) (none.not_due was found.1) ready)
     ];
   }
 

@@ -1,7 +1,8 @@
 //! Hits that are given.
 
-ghost use Rattle.std.specs.Prelude.{◌≡◌, length, is_some};
+ghost use Rattle.std.specs.Prelude.{◌≡◌, ◌≤◌, length, is_some};
 ghost use Rattle.std.specs.List.{list_any};
+ghost use Rattle.hamming_model.specs.declared.limits.TheConstants.{WORDS_MOST};
 ghost use Rattle.scatter_gather.specs.Gathering.{seen};
 ghost use Rattle.scatter_gather.specs.Kept.{IsGathering};
 ghost use Rattle.world_model.specs.Events.{Give};
@@ -12,6 +13,7 @@ use crate::held::Held;
 use crate::world::World;
 use hit_source::HitSource;
 use scatter_gather::Gather;
+use shard_version::versions_follow_the_history;
 use world_model::{Refused, Told};
 
 impl<const W: usize> World<W> {
@@ -37,7 +39,8 @@ impl<const W: usize> World<W> {
         let Some(_gather) = &held.gather else {
             return Err(Refused::NotPinned);
         };
-        // The history is short, so no answer is too long to be counted.
+        // The history is short, and has no more rows than entries: no answer is too long to be counted.
+        versions_follow_the_history();
         let _entries = self.journal.length();
         let shards = self.places.len();
         Ok(give_held(&mut self.queries[number], shards))
@@ -46,7 +49,8 @@ impl<const W: usize> World<W> {
 
 // Gives the next hit of a query that has a source on each of so many shards.
 fn give_held<const W: usize>(held: &mut Held<W>, shards: usize) -> Told
-    requires { HasSources held.old shards }
+    requires few_words { W ≤ WORDS_MOST }
+    requires sources { HasSources held.old shards }
     ensures { GivesHeld held.old held.new result }
 {
     let limit = held.limit;

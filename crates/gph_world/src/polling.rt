@@ -1,6 +1,7 @@
 //! Polls of sources.
 
 ghost use Rattle.std.specs.Prelude.{◌≡◌, ◌⊎◌, ◌<◌, ◌≤◌, length};
+ghost use Rattle.hamming_model.specs.declared.limits.TheConstants.{WORDS_MOST};
 ghost use Rattle.world_model.specs.Events.{Poll};
 ghost use Rattle.world_model.specs.WorldStep.{WorldStep};
 ghost use Rattle.gph_world.specs.Gathers.{AreAllLawful, HasSources, PollsDue, PollsHeld, PollsNone};
@@ -11,6 +12,7 @@ use crate::world::World;
 use hit_source::HitSource;
 use read_meter::Meters;
 use scatter_gather::Gather;
+use shard_version::versions_follow_the_history;
 use world_model::{Refused, Told};
 
 impl<const W: usize> World<W> {
@@ -47,7 +49,8 @@ impl<const W: usize> World<W> {
         let Some(_gather) = &held.gather else {
             return Err(Refused::NotPinned);
         };
-        // The history is short, so no answer is too long to be counted.
+        // The history is short, and has no more rows than entries: no answer is too long to be counted.
+        versions_follow_the_history();
         let _entries = self.journal.length();
         let shards = self.places.len();
         Ok(poll_held(&mut self.queries[number], shards, place, budget, meters))
@@ -62,6 +65,7 @@ fn poll_held<const W: usize, L>(
     budget: u32,
     meters: &mut Meters<L>,
 ) -> Told
+    requires few_words { W ≤ WORDS_MOST }
     requires sources { HasSources held.old shards }
     requires shard { shard < shards }
     requires budget { 1 ≤ budget }
@@ -82,8 +86,7 @@ fn poll_told<H: HitSource, L>(
 ) -> Told
     requires shard { shard < length gather.old.sources }
     requires budget { 1 ≤ budget }
-    ensures polls {
-        PollsDue H.asked H.standing budget shard gather.old gather.new meters.old meters.new result
+    ensures polls { PollsDue H.asked H.standing budget shard gather.old gather.new meters.old meters.new result
         ⊎ PollsNone H.asked H.standing shard gather.old gather.new meters.old meters.new result }
     ensures lawful { AreAllLawful H.asked H.standing }
 {
