@@ -3,10 +3,13 @@ pub mod BuildLemmas
 pub mod CancelLemmas
 pub mod CommitLemmas
 pub mod FollowLemmas
+pub mod GatherLemmas
+pub mod GiveLemmas
 pub mod GrownLemmas
 pub mod HeldLemmas
 pub mod OpenLemmas
 pub mod PlaceLemmas
+pub mod PollLemmas
 pub mod RefusalLemmas
 pub mod RunLemmas
 pub mod StartLemmas

@@ -3,6 +3,7 @@ pub mod Behind
 pub mod Builds
 pub mod Calls
 pub mod Codes
+pub mod Gathers
 pub mod Happenings
 pub mod Kept
 pub mod Rising

@@ -1,13 +1,12 @@
 //! Stubs.
 
 ghost use Rattle.std.specs.Prelude.{◌≡◌, ◌+◌, ◌≤◌};
-ghost use Rattle.world_model.specs.Events.{Pin, Poll, Give};
+ghost use Rattle.world_model.specs.Events.{Pin};
 ghost use Rattle.world_model.specs.WorldStep.{WorldStep};
 ghost use Rattle.gph_world.specs.Behind.{entries_behind};
-ghost use Rattle.gph_world.specs.Rising.{RiseByReads};
 
 use crate::world::World;
-use read_meter::{Meters, Steps};
+use read_meter::Steps;
 use world_model::{Refused, Told};
 
 impl<const W: usize> World<W> {
@@ -19,25 +18,6 @@ impl<const W: usize> World<W> {
     {
         steps.tick();
         let _x = shard + query;
-        Err(Refused::NoMemory)
-    }
-    /// Stub.
-    pub fn poll<L>(&mut self, query: u32, shard: u32, budget: u32, meters: &mut Meters<L>) -> Result<Told, Refused>
-        requires budget { 1 ≤ budget }
-        ensures setting { self.new.setting ≡ self.old.setting }
-        ensures step { WorldStep self.old.setting self.old.state (Poll query shard budget) result self.new.state }
-        ensures ledger { RiseByReads self.old.state self.new.state meters.old meters.new }
-    {
-        let _x = shard + query + budget;
-        let _m = meters.as_mut();
-        Err(Refused::NoMemory)
-    }
-    /// Stub.
-    pub fn give(&mut self, query: u32) -> Result<Told, Refused>
-        ensures setting { self.new.setting ≡ self.old.setting }
-        ensures step { WorldStep self.old.setting self.old.state (Give query) result self.new.state }
-    {
-        let _x = query;
         Err(Refused::NoMemory)
     }
 }
