@@ -47,13 +47,12 @@ invariant_of-self g c =
 
 pub returns-clause-step : goal.returns-clause-step
 returns-clause-step g c =
-    let i = c.self.inside in
     subst (λ (w : WorldView). WorldStep w.setting w.state (BuildStart c.args.shard (arc_value c.args.layout)) c.begin_build.result
-    (state_seen i.bits i.journal (slice_set i.places.items c.args.shard c.begin_build.new.place) i.queries.items)) c.self.view_is (stepped g c)
+    (state_seen c.self.inside.bits c.self.inside.journal (slice_set c.self.inside.places.items c.args.shard c.begin_build.new.place)
+    c.self.inside.queries.items)) c.self.view_is (stepped g c)
 
 pub returns-clause-bound : goal.returns-clause-bound
 returns-clause-bound g c =
-    let i = c.self.inside in
     subst (λ (w : WorldView). c.begin_build.new.steps ≤ c.args.steps.now + rows_there w.state c.args.shard) c.self.view_is
-    (rows_bound i.bits i.room i.journal i.places.items i.queries.items c.args.shard (low g c) c.index_mut.result.now (there g c) c.args.steps.now
-    c.begin_build.new.steps c.begin_build.ensures.bound)
+    (rows_bound c.self.inside.bits c.self.inside.room c.self.inside.journal c.self.inside.places.items c.self.inside.queries.items
+    c.args.shard (low g c) c.index_mut.result.now (there g c) c.args.steps.now c.begin_build.new.steps c.begin_build.ensures.bound)

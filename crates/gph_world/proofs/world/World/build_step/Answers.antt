@@ -30,18 +30,17 @@ module _ (g : _) (c : goal.After-self-1 g) where
 pub invariant_of-self : goal.invariant_of-self
 invariant_of-self g c =
     let i = c.self.inside in
-    stepped_keeps i.bits i.room i.journal i.places.items i.queries.items c.args.shard c.place_rows.new.place c.self.invariant (BuildStep c.args.shard c.args.rows)
-    c.place_rows.result tt (stepped g c)
+    stepped_keeps i.bits i.room i.journal i.places.items i.queries.items c.args.shard c.place_rows.new.place c.self.invariant
+    (BuildStep c.args.shard c.args.rows) c.place_rows.result tt (stepped g c)
 
 pub returns-clause-step : goal.returns-clause-step
 returns-clause-step g c =
-    let i = c.self.inside in
     subst (λ (w : WorldView). WorldStep w.setting w.state (BuildStep c.args.shard c.args.rows) c.place_rows.result
-    (state_seen i.bits i.journal (slice_set i.places.items c.args.shard c.place_rows.new.place) i.queries.items)) c.self.view_is (stepped g c)
+    (state_seen c.self.inside.bits c.self.inside.journal (slice_set c.self.inside.places.items c.args.shard c.place_rows.new.place)
+    c.self.inside.queries.items)) c.self.view_is (stepped g c)
 
 pub returns-clause-steps : goal.returns-clause-steps
 returns-clause-steps g c =
-    let i = c.self.inside in
     subst (λ (w : WorldView). c.place_rows.new.steps ≡ c.args.steps.now + min c.args.rows (rows_unplaced w.state c.args.shard)) c.self.view_is
-    (rows_cost i.bits i.room i.journal i.places.items i.queries.items c.args.shard (low g c) c.index_mut.result.now (there g c) c.args.steps.now
-    c.place_rows.new.steps c.args.rows c.place_rows.ensures.steps)
+    (rows_cost c.self.inside.bits c.self.inside.room c.self.inside.journal c.self.inside.places.items c.self.inside.queries.items
+    c.args.shard (low g c) c.index_mut.result.now (there g c) c.args.steps.now c.place_rows.new.steps c.args.rows c.place_rows.ensures.steps)

@@ -37,15 +37,15 @@ invariant_of-self g c =
 
 pub returns-clause-step : goal.returns-clause-step
 returns-clause-step g c =
-    let i = c.self.inside in
     subst (λ (w : WorldView). WorldStep w.setting w.state (Follow c.args.shard) c.follow_history.result
-    (state_seen i.bits c.follow_history.new.journal (slice_set i.places.items c.args.shard c.follow_history.new.place) i.queries.items)) c.self.view_is
-    (follow_leaves i.bits i.room i.journal i.places.items i.queries.items c.self.invariant c.args.shard (low g c) c.index_mut.result.now (there g c)
-    c.follow_history.new.place c.follow_history.new.journal c.follow_history.ensures.journal c.follow_history.result c.follow_history.ensures.follows).1
+    (state_seen c.self.inside.bits c.follow_history.new.journal (slice_set c.self.inside.places.items c.args.shard c.follow_history.new.place)
+    c.self.inside.queries.items)) c.self.view_is
+    (follow_leaves c.self.inside.bits c.self.inside.room c.self.inside.journal c.self.inside.places.items c.self.inside.queries.items
+    c.self.invariant c.args.shard (low g c) c.index_mut.result.now (there g c) c.follow_history.new.place
+    c.follow_history.new.journal c.follow_history.ensures.journal c.follow_history.result c.follow_history.ensures.follows).1
 
 pub returns-clause-bound : goal.returns-clause-bound
 returns-clause-bound g c =
-    let i = c.self.inside in
     subst (λ (w : WorldView). c.follow_history.new.steps ≤ c.args.steps.now + entries_unfollowed w.state c.args.shard) c.self.view_is
-    (follow_bound i.bits i.room i.journal i.places.items i.queries.items c.self.invariant c.args.shard (low g c) c.index_mut.result.now (there g c)
-    c.args.steps.now c.follow_history.new.steps c.follow_history.ensures.bound)
+    (follow_bound c.self.inside.bits c.self.inside.room c.self.inside.journal c.self.inside.places.items c.self.inside.queries.items
+    c.self.invariant c.args.shard (low g c) c.index_mut.result.now (there g c) c.args.steps.now c.follow_history.new.steps c.follow_history.ensures.bound)

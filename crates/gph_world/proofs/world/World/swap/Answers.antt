@@ -42,6 +42,6 @@ invariant_of-self g c =
 
 pub returns-clause-step : goal.returns-clause-step
 returns-clause-step g c =
-    let i = c.self.inside in
     subst (λ (w : WorldView). WorldStep w.setting w.state (Swap c.args.shard) c.swap_in.result
-    (state_seen i.bits i.journal (slice_set i.places.items c.args.shard c.swap_in.new.place) i.queries.items)) c.self.view_is (stepped g c)
+    (state_seen c.self.inside.bits c.self.inside.journal (slice_set c.self.inside.places.items c.args.shard c.swap_in.new.place)
+    c.self.inside.queries.items)) c.self.view_is (stepped g c)
