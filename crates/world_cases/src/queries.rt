@@ -24,11 +24,19 @@ fn each_query_answers_the_rows_at_its_opening(rt: HostRuntime) -> Result<(), Fai
     tells(&rt, world.pin(0, 0, &mut steps), Told::Pinned { left: 0 });
     refuses(&rt, world.advance(0, 0, &mut steps), Refused::Unfronted);
     tells(&rt, world.give(0), Told::NotYet);
-    tells(&rt, world.poll(0, 0, 65536, &mut meters), Told::Polled(Polled::Ended));
+    tells(
+        &rt,
+        world.poll(0, 0, 65536, &mut meters),
+        Told::Polled(Polled::Ended),
+    );
     tells(&rt, world.give(0), Told::Gave(Hit { dist: 0, key: 1 }));
     tells(&rt, world.give(0), Told::Gave(Hit { dist: 4, key: 2 }));
     tells(&rt, world.give(0), Told::Ended { count: 2 });
-    tells(&rt, world.poll(1, 0, 65536, &mut meters), Told::Polled(Polled::Ended));
+    tells(
+        &rt,
+        world.poll(1, 0, 65536, &mut meters),
+        Told::Polled(Polled::Ended),
+    );
     tells(&rt, world.give(1), Told::Gave(Hit { dist: 0, key: 1 }));
     tells(&rt, world.give(1), Told::Gave(Hit { dist: 1, key: 4 }));
     tells(&rt, world.cancel(1), Told::Cancelled { count: 2 });
@@ -51,7 +59,11 @@ fn two_shards_give_the_nearest_by_distance_and_key(rt: HostRuntime) -> Result<()
     tells(&rt, world.pin(0, 1, &mut steps), Told::Pinned { left: 1 });
     tells(&rt, world.pin(0, 1, &mut steps), Told::Pinned { left: 1 });
     refuses(&rt, world.poll(0, 0, 9, &mut meters), Refused::NotPinned);
-    tells(&rt, world.advance(0, 0, &mut steps), Told::Advanced { at: 3 });
+    tells(
+        &rt,
+        world.advance(0, 0, &mut steps),
+        Told::Advanced { at: 3 },
+    );
     tells(&rt, world.pin(0, 0, &mut steps), Told::Pinned { left: 0 });
     tells(&rt, world.pin(0, 0, &mut steps), Told::Pinned { left: 0 });
     let mut polls = 0;
