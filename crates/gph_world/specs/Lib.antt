@@ -4,6 +4,7 @@ pub mod Calls
 pub mod Codes
 pub mod Gathers
 pub mod Kept
+pub mod Pinned
 pub mod Rising
 pub mod Seen
 pub mod Sources

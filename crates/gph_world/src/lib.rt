@@ -9,8 +9,10 @@ mod commits;
 mod giving;
 mod held;
 mod opening;
+mod pinning;
 mod place;
 mod polling;
+mod sources;
 mod starting;
 mod world;
 
