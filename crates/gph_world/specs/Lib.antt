@@ -4,7 +4,6 @@ pub mod Calls
 pub mod Codes
 pub mod Gathers
 pub mod Kept
-pub mod Pinned
 pub mod Rising
 pub mod Seen
 pub mod Sources

@@ -9,10 +9,8 @@ mod commits;
 mod giving;
 mod held;
 mod opening;
-mod pinning;
 mod place;
 mod polling;
-mod sources;
 mod starting;
 mod world;
 
