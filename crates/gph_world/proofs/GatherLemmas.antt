@@ -1,11 +1,11 @@
 -- Queries that have a gathering, as one of their sources changes.
-use Rattle.std.proofs.Common.{◌≡◌, ℕ, zero, suc, ◌+◌, ◌%◌, ◌==◌, ◌<◌, ◌≤◌, Bool, true, false, cond, List, [], ◌∷◌, length, filter, map, take, drop, Option, Some, None, refl, sym, ap, subst, ◌∙◌, arith, inl, inr}
+use Rattle.std.proofs.Common.{◌≡◌, ℕ, zero, suc, ◌%◌, ◌==◌, ◌<◌, ◌≤◌, Bool, true, false, cond, List, [], ◌∷◌, length, filter, map, take, drop, Option, Some, None, refl, sym, ap, subst, ◌∙◌, arith, inl, inr}
 use Rattle.std.specs.Prelude.{is_none, nat_le, option_map, slice_get, slice_set}
 use Rattle.std.specs.List.{list_any}
 use Rattle.std.proofs.lemmas.List.{length-map, length-take-le, map-set}
 use Rattle.std.proofs.lemmas.Option.{none-some, same_Some, slice_get-map}
 use Rattle.hamming_model.specs.History.{JournalEntry, rows_of, shard_rows}
-use Rattle.hamming_model.specs.Recoded.{cut_entry, cut_history}
+use Rattle.hamming_model.specs.Recoded.{cut_entry}
 use Rattle.hamming_model.specs.Scan.{Ask, Range, Near, answer, hit_of, hits_within, scan}
 use Rattle.hamming_model.specs.declared.hit.Hit.{Hit}
 use Rattle.hit_source.specs.Moves.{first_of}

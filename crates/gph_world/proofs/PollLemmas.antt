@@ -1,6 +1,6 @@
 -- A source of a query is polled.
-use Rattle.std.proofs.Common.{◌≡◌, ◌⊎◌, ℕ, zero, suc, ◌+◌, ◌<◌, ◌≤◌, ◌==◌, Bool, true, false, List, [], ◌∷◌, length, map, take, Option, Some, None, refl, sym, ap, subst, ◌∙◌, arith, inl, inr, eq-eqb, eqb-true}
-use Rattle.std.specs.Prelude.{IfSome, Ok, is_none, min, nat_le, nat_lt, slice_get, slice_index, slice_index_or, slice_set}
+use Rattle.std.proofs.Common.{◌≡◌, ◌⊎◌, ℕ, zero, suc, ◌+◌, ◌<◌, ◌≤◌, ◌==◌, true, false, List, [], ◌∷◌, length, take, Option, Some, None, refl, sym, ap, subst, ◌∙◌, arith, inl, inr, eq-eqb, eqb-true}
+use Rattle.std.specs.Prelude.{IfSome, Ok, is_none, min, nat_le, slice_get, slice_index, slice_index_or, slice_set}
 use Rattle.std.specs.List.{list_any, sum_by}
 use Rattle.std.proofs.lemmas.Bool.{and_parts, both_ways, cases_Bool, ltb-true}
 use Rattle.std.proofs.lemmas.List.{get_or-set_other, length-take}
@@ -12,18 +12,16 @@ use Rattle.hamming_model.specs.declared.hit.Hit.{Hit}
 use Rattle.hamming_model.specs.Stored.{AreCodes}
 use Rattle.hamming_model.proofs.RowLemmas.{codes_of_history}
 use Rattle.hamming_model.proofs.ShardLemmas.{near_has_all}
-use Rattle.hit_source.specs.Moves.{BeginsWithin, Polls, first_of}
+use Rattle.hit_source.specs.Moves.{Polls}
 use Rattle.hit_source.specs.Sources.{Asked, IsLawful, Standing}
-use Rattle.hit_source.specs.declared.polled.Polled.{Polled}
 use Rattle.commit_journal.specs.Journals.{IsJournal, JournalState}
 use Rattle.scatter_gather.specs.Due.{is_due}
-use Rattle.scatter_gather.specs.Gathering.{Gathered, Gathering, Source, answer_of, gathered, next_hit, source_of, sources_of}
-use Rattle.scatter_gather.specs.Kept.{IsGathering, IsUpTo}
+use Rattle.scatter_gather.specs.Gathering.{Gathered, Gathering, answer_of, gathered, next_hit, source_of, sources_of}
+use Rattle.scatter_gather.specs.Kept.{IsUpTo}
 use Rattle.scatter_gather.specs.Moves.{distance_of}
 use Rattle.scatter_gather.proofs.KeepLemmas.{one_polled}
 use Rattle.world_model.specs.declared.refused.Refused.TheVariants.{Closed, NoQuery, NoShard, NotPinned}
 use Rattle.world_model.specs.declared.told.Told.{Told}
-use Rattle.world_model.specs.declared.told.Told.TheVariants as told
 use Rattle.world_model.specs.Answering.{HasGathering, PollsAt, PollsSource, next_distance, with_source}
 use Rattle.world_model.specs.Asking.{asks_near, code_of, most_given}
 use Rattle.world_model.specs.Events.{Poll, Setting}
@@ -42,7 +40,7 @@ use Rattle.gph_world.specs.Sources.{QuerySource, gathering_seen, question_asked,
 use Rattle.gph_world.specs.declared.held.Held.{Held}
 use Rattle.gph_world.specs.declared.place.Place.{Place}
 use Rattle.gph_world.proofs.GatherLemmas.{HaveFewRows, all_pinned, answered, any_missing, at_within, changed_is_held, first_dropped, given_is, has_gathering}
-use Rattle.gph_world.proofs.GatherLemmas.{keeps_again, none_dropped, none_missing, number_is, query_is, query_keeps, seen_at, state_again, state_changed}
+use Rattle.gph_world.proofs.GatherLemmas.{keeps_again, none_dropped, none_missing, number_is, query_keeps, seen_at, state_again, state_changed}
 use Rattle.gph_world.proofs.HeldLemmas.{seen_there}
 use Rattle.gph_world.proofs.RefusalLemmas.{cause_at, cause_if, cause_not, is_query, is_shard, no_query, refusal_by}
 

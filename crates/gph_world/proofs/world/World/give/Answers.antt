@@ -1,6 +1,6 @@
 -- The next hit of a query that goes on and has its sources is given.
-use Rattle.std.proofs.Common.{◌≡◌, ◌<◌, inl, length, refl, sym, ap, subst, ◌∙◌, arith, false, Some}
-use Rattle.std.specs.Prelude.{Err, Ok, slice_get, slice_set}
+use Rattle.std.proofs.Common.{◌≡◌, ◌<◌, inl, length, refl, sym, ap, subst, ◌∙◌, arith}
+use Rattle.std.specs.Prelude.{Err, Ok, slice_set}
 use Rattle.world_model.specs.declared.refused.Refused.TheVariants.{NotPinned}
 use Rattle.world_model.specs.Events.{Give}
 use Rattle.world_model.specs.WorldStep.{WorldStep}
