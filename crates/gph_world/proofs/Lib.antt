@@ -8,9 +8,12 @@ pub mod GiveLemmas
 pub mod GrownLemmas
 pub mod HeldLemmas
 pub mod OpenLemmas
+pub mod PinLemmas
+pub mod PinnedLemmas
 pub mod PlaceLemmas
 pub mod PollLemmas
 pub mod RefusalLemmas
 pub mod RunLemmas
+pub mod SourceLemmas
 pub mod StartLemmas
 pub mod SwapLemmas

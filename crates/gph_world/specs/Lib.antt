@@ -6,6 +6,7 @@ pub mod Codes
 pub mod Gathers
 pub mod Happenings
 pub mod Kept
+pub mod Pinned
 pub mod Rising
 pub mod Seen
 pub mod Sources

@@ -13,10 +13,11 @@ mod giving;
 mod held;
 mod opening;
 mod place;
+mod pinning;
 mod polling;
 mod starting;
 mod stepping;
-mod stubs;
+mod sources;
 mod swapping;
 mod world;
 
