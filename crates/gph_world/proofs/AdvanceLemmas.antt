@@ -77,7 +77,7 @@ module _ {W : ℕ} (bits room : ℕ) (journal : JournalState) (places : List (Pl
   known = keeps.live.known number front (front_there queries number held there ∙ is_open)
 
   -- the front in its codes alone is that of the query
-  same_front : cut_front bits front ≡ front_on s.history query front.older
+  pub same_front : cut_front bits front ≡ front_on s.history query front.older
   same_front = ap (front_of 0 0 front.older)
       (ap (cut_history bits) known.begins ∙ first_recoded (take bits) (position_of front) journal.history
       ∙ ap (λ (n : ℕ). take n s.history) ((keeps.held number held there).front front is_open))
@@ -107,7 +107,7 @@ module _ {W : ℕ} (bits room : ℕ) (journal : JournalState) (places : List (Pl
       × AreStoredEntries W place.shard.current.layout.bits front.entries
   may_come = (may_follow, stored_there)
 
-  comes : advanced front place.shard ≡ advanced (front_on s.history query front.older) place.shard
+  pub comes : advanced front place.shard ≡ advanced (front_on s.history query front.older) place.shard
   comes = comes_cut front place.shard
       ∙ ap (λ (n : ℕ). advanced (cut_front n front) place.shard) bits_are
       ∙ ap (λ (one : FrontState). advanced one place.shard) same_front

@@ -4,14 +4,24 @@
 
 mod advancing;
 mod ask;
+mod building;
 mod cancelling;
 mod commits;
+mod event;
+mod following;
+mod giving;
 mod held;
 mod opening;
 mod place;
+mod pinning;
+mod polling;
 mod starting;
+mod stepping;
+mod sources;
+mod swapping;
 mod world;
 
 pub use ask::Ask;
+pub use event::Event;
 pub use held::Source;
 pub use world::World;
