@@ -59,7 +59,7 @@ pub missing_more : (pins : Pins) (i : ℕ) (pin : Option (Arc Tabled Global)) �
     → missing (take (suc i) pins) ≡ missing (take i pins) + cond (is_none pin) 1 0
 missing_more [] i pin there = absurd (none-some pin there)
 missing_more (first ∷ pins) zero pin there =
-    omega (arith, one_missing first, ap (λ (one : Option (Arc Tabled Global)). cond (is_none one) 1 0) (same_Some first pin there))
+    omega (arith, one_missing first, ap {B = ℕ} (λ (one : Option (Arc Tabled Global)). cond (is_none one) 1 0) (same_Some first pin there))
 missing_more (None ∷ pins) (suc i) pin there = omega (arith, missing_more pins i pin there)
 missing_more (Some version ∷ pins) (suc i) pin there = missing_more pins i pin there
 
