@@ -147,6 +147,10 @@ module _ {W : ℕ} (bits room : ℕ) (journal : JournalState) (places : List (Pl
     state_more = ap (λ (j : JournalState). state_seen bits j (slice_set places shard new) (slice_set queries number after)) more.journal
         ∙ ap (λ (all : List WorldQuery). let u : WorldState = record mid { queries = all } in u) (map-set (query_seen bits) queries number after)
 
+    pub more_setting : setting_seen bits room to (slice_set places shard new) ≡ z
+    more_setting = ap (λ (j : JournalState). setting_seen bits room j (slice_set places shard new)) more.journal
+        ∙ setting_stays bits room journal places queries shard new
+
     pub more_step : (left : ℕ) → left ≡ missing after.pins.items → WorldStep z s (Pin number shard) (Ok (told.Pinned left)) t
     more_step left count = pinned_step more.pins completes_more state_more left count
 
@@ -228,6 +232,7 @@ module _ {W : ℕ} (bits room : ℕ) (journal : JournalState) (places : List (Pl
     asks_ended k a asks = record { layout = asks.layout; is_pinned = asks.is_pinned; asks = asks.asks }
 
     begins_at : (k : ℕ) (source : QuerySource W) → slice_get g.sources k ≡ Some source → BeginsSource z s.history pinned_query k (standing_told source)
+    unfolding asks_pinned opened
     begins_at k source at =
         let one = opened k source at in
         let laid = come.each_laid k one.0 one.1 in
@@ -349,7 +354,7 @@ module _ {W : ℕ} (bits room : ℕ) (journal : JournalState) (places : List (Pl
             (subst (KeepsFronts journal) (last.journal ∙ ap (without_held journal) e) last.fronts) closed
             (λ other apart. front_other queries number other after apart))
 
-    setting_last : setting_seen bits room to (slice_set places shard new) ≡ z
+    pub setting_last : setting_seen bits room to (slice_set places shard new) ≡ z
     setting_last = ap (λ (n : ℕ). setting_of bits n room to.limit) (length-set places shard new)
         ∙ ap (setting_of bits (length places) room) limit_same
 
@@ -380,6 +385,9 @@ module _ {W : ℕ} (bits room : ℕ) (journal : JournalState) (places : List (Pl
   -- ---- either way
   abbrev Pinned : Type 0
   Pinned = PinsMore journal to held after shard version ⊎ PinsLast room journal to held after shard (sum_by rows_pinned pins) version
+
+  pub pin_setting : Pinned → setting_seen bits room to (slice_set places shard new) ≡ z
+  pin_setting how = elim how [ inl more ↦ more_setting more | inr last ↦ setting_last last ]
 
   pub pin_step : Pinned → (left : ℕ) → left ≡ missing after.pins.items → WorldStep z s (Pin number shard) (Ok (told.Pinned left)) t
   pin_step how left count = elim how [ inl more ↦ more_step more left count | inr last ↦ last_step last left count ]

@@ -1,5 +1,5 @@
 -- The sources of a query on the versions that it pinned.
-use Rattle.std.proofs.Common.{◌≡◌, ◌≢◌, ℕ, zero, suc, ◌+◌, ◌<◌, ◌≤◌, List, [], ◌∷◌, ◌++◌, cond, length, map, take, Option, Some, None, refl, sym, ap, subst, ◌∙◌, arith, inl, inr}
+use Rattle.std.proofs.Common.{◌≡◌, ◌≢◌, ℕ, zero, suc, ◌+◌, ◌<◌, List, [], ◌∷◌, ◌++◌, cond, length, map, take, Option, Some, None, refl, sym, ap, subst, ◌∙◌, arith, inl, inr}
 use Rattle.std.specs.Prelude.{is_none, slice_get}
 use Rattle.std.specs.Arc.{arc_value}
 use Rattle.std.specs.List.{AllByRecursion, sum_by}
@@ -17,7 +17,7 @@ use Rattle.versioned_shard.specs.Shards.{contents_at}
 use Rattle.scatter_gather.specs.Kept.{AreOneLength}
 use Rattle.world_model.proofs.Lookups.{get_other, get_same, get_snoc}
 use Rattle.world_bridge.proofs.SourceLemmas.{near_asks, range_asks, range_fresh, range_units}
-use Rattle.gph_world.specs.Pinned.{AreOpened, IsOpened, IsPinThere, MayOpenEach, Pins, missing, pinned_with, rows_pinned}
+use Rattle.gph_world.specs.Pinned.{AreOpened, IsOpened, IsPinThere, MayOpen, MayOpenEach, Pins, missing, pinned_with, rows_pinned}
 use Rattle.gph_world.specs.Sources.{QuerySource, question_asked, standing_told}
 use Rattle.gph_world.specs.declared.ask.Ask.{Ask}
 use Rattle.gph_world.specs.declared.ask.Ask.TheVariants.{Near, Range}
@@ -59,7 +59,7 @@ pub missing_more : (pins : Pins) (i : ℕ) (pin : Option (Arc Tabled Global)) �
     → missing (take (suc i) pins) ≡ missing (take i pins) + cond (is_none pin) 1 0
 missing_more [] i pin there = absurd (none-some pin there)
 missing_more (first ∷ pins) zero pin there =
-    omega (arith, one_missing first, ap (λ (one : Option (Arc Tabled Global)). cond (is_none one) 1 0) (same_Some first pin there))
+    omega (arith, one_missing first, ap {B = ℕ} (λ (one : Option (Arc Tabled Global)). cond (is_none one) 1 0) (same_Some first pin there))
 missing_more (None ∷ pins) (suc i) pin there = omega (arith, missing_more pins i pin there)
 missing_more (Some version ∷ pins) (suc i) pin there = missing_more pins i pin there
 
@@ -140,6 +140,19 @@ module _ {W : ℕ} (room : ℕ) (ask : Ask W) (pins : Pins) where
   }
 
 -- ---- what may be gathered
+
+-- a pinned version may be asked
+pub own_may : {W : ℕ} (ask : Ask W) (pins : Pins) (shard : ℕ) (own : Arc Tabled Global) → MayOpenEach ask pins → IsPinThere pins shard own
+    → MayOpen ask (contents_at own)
+own_may ask pins shard own may is = subst (MayOpen ask) (sym is.same) (may.each shard is.pin is.is_there)
+
+-- a source was opened on each shard
+pub opened_whole : {W : ℕ} (room : ℕ) (ask : Ask W) (pins : Pins) (place : ℕ) (version : Arc Tabled Global) (sources : List (QuerySource W))
+    → AreOpened room ask (pinned_with pins place version) sources (length pins)
+    → AreOpened room ask (pinned_with pins place version) sources (length (pinned_with pins place version))
+opened_whole room ask pins place version sources are =
+    subst (AreOpened room ask (pinned_with pins place version) sources) (sym (length-set pins place (Some version))) are
+
 module _ {W : ℕ} (room : ℕ) (ask : Ask W) (pins : Pins) (may : MayOpenEach ask pins) (sources : List (QuerySource W))
     (are : AreOpened room ask pins sources (length pins)) where
   opened_at : (shard : ℕ) (source : QuerySource W) → slice_get sources shard ≡ Some source

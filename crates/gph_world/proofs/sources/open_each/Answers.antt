@@ -1,11 +1,17 @@
 -- A source was opened on one shard more.
-use Rattle.std.proofs.Common.{◌≡◌, ◌+◌, List, length, subst, sym, arith}
+use Rattle.std.proofs.Common.{◌≡◌, ◌+◌, List, length, subst, sym, arith, rules}
 use Rattle.versioned_shard.specs.Shards.{contents_at}
-use Rattle.shard_version.specs.Contents.{Contents}
 use Rattle.gph_world.specs.Pinned.{AreOpened, MayOpen, pinned_with}
 use Rattle.gph_world.specs.Sources.{QuerySource}
-use Rattle.gph_world.proofs.SourceLemmas.{none_opened, opened_more}
+use Rattle.gph_world.proofs.SourceLemmas.{none_opened, opened_more, own_may}
 use Rattle.gph_world.proofs.sources.open_each.Goals as goal
+
+pub open_source-requires : goal.open_source-requires
+open_source-requires g c =
+    let may : MayOpen c.args.ask.now (contents_at c.in_ok-own.own) =
+    own_may c.args.ask.now (pinned_with c.args.pins.now c.args.place c.args.version.now) c.loop-shard.shard c.in_ok-own.own c.requires.may
+    c.in_ok-own.ensures in
+    (omega arith, (search rules, (search rules, (search rules, (c.requires.few_words, (c.requires.some_room, (c.requires.small_room, may)))))))
 
 pub loop-shard-preserved : goal.loop-shard-preserved
 loop-shard-preserved g c =
