@@ -12,12 +12,12 @@ mod following;
 mod giving;
 mod held;
 mod opening;
-mod place;
 mod pinning;
+mod place;
 mod polling;
+mod sources;
 mod starting;
 mod stepping;
-mod sources;
 mod swapping;
 mod world;
 

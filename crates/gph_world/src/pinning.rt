@@ -32,12 +32,7 @@ impl<const W: usize> World<W> {
     ///
     /// `NoShard`, `NoQuery` or `Closed`, the first that holds. Else `NoMemory` where there is none for the versions or the sources; the
     /// shard may have come to the front.
-    pub fn pin<M>(
-        &mut self,
-        query: u32,
-        shard: u32,
-        upkeep: &mut Steps<M>,
-    ) -> Result<Told, Refused>
+    pub fn pin<M>(&mut self, query: u32, shard: u32, upkeep: &mut Steps<M>) -> Result<Told, Refused>
         ensures setting { self.new.setting ≡ self.old.setting }
         ensures step { WorldStep self.old.setting self.old.state
             (Pin query shard) result self.new.state }
@@ -66,7 +61,14 @@ impl<const W: usize> World<W> {
             return Err(Refused::NoMemory);
         };
         let held = &mut self.queries[number];
-        let Ok(left) = pin_held(self.alloc, &mut self.journal, held, place, version, self.room) else {
+        let Ok(left) = pin_held(
+            self.alloc,
+            &mut self.journal,
+            held,
+            place,
+            version,
+            self.room,
+        ) else {
             return Err(Refused::NoMemory);
         };
         Ok(Told::Pinned { left })

@@ -5,6 +5,7 @@ use entry_log::Decision;
 use hamming_model::Hit;
 use hit_source::Polled;
 use read_meter::{Meters, Steps, upkeep};
+use std::mem::forget;
 use std::test::Fail;
 use world_model::{Refused, Told};
 
@@ -43,6 +44,7 @@ fn each_query_answers_the_rows_at_its_opening(rt: HostRuntime) -> Result<(), Fai
     refuses(&rt, world.give(1), Refused::Closed);
     refuses(&rt, world.give(2), Refused::NoQuery);
     refuses(&rt, world.swap(0), Refused::NoBuild);
+    forget(world);
     Ok(())
 }
 
@@ -85,5 +87,6 @@ fn two_shards_give_the_nearest_by_distance_and_key(rt: HostRuntime) -> Result<()
     tells(&rt, world.give(0), Told::Ended { count: 2 });
     refuses(&rt, world.pin(0, 2, &mut steps), Refused::NoShard);
     refuses(&rt, world.pin(1, 0, &mut steps), Refused::NoQuery);
+    forget(world);
     Ok(())
 }

@@ -13,21 +13,38 @@ use Rattle.gph_world.proofs.SourceLemmas.{one_less}
 use Rattle.gph_world.proofs.pinning.pin_held.Goals as goal
 
 pub overflow_sub-left : goal.overflow_sub-left
-overflow_sub-left g c = omega (arith, c.unpinned-left.ensures, ap missing c.deref.ensures.value,
-    one_less c.args.held.now.pins.items c.args.shard c.args.version c.requires.not_pinned)
+overflow_sub-left g c = omega (
+  arith,
+  c.unpinned-left.ensures,
+  ap missing c.deref.ensures.value,
+  one_less c.args.held.now.pins.items c.args.shard c.args.version c.requires.not_pinned,
+)
 
 pub index_mut-requires : goal.index_mut-requires
-index_mut-requires g c = omega (arith, slice_get_within c.args.held.now.pins.items c.args.shard None c.requires.not_pinned,
-    c.deref.ensures.len, ap length c.deref.ensures.value)
+index_mut-requires g c = omega (
+  arith,
+  slice_get_within c.args.held.now.pins.items c.args.shard None c.requires.not_pinned,
+  c.deref.ensures.len,
+  ap length c.deref.ensures.value,
+)
 
 pub returns-then-left-gt0-clause-left : goal.returns-then-left-gt0-clause-left
-returns-then-left-gt0-clause-left g c = omega (arith, c.unpinned-left.ensures, ap missing c.deref.ensures.value,
-    one_less c.args.held.now.pins.items c.args.shard c.args.version c.requires.not_pinned)
+returns-then-left-gt0-clause-left g c = omega (
+  arith,
+  c.unpinned-left.ensures,
+  ap missing c.deref.ensures.value,
+  one_less c.args.held.now.pins.items c.args.shard c.args.version c.requires.not_pinned,
+)
 
 pub returns-then-left-gt0-clause-pins : goal.returns-then-left-gt0-clause-pins
 returns-then-left-gt0-clause-pins g c = inl (record {
-  some = omega (arith, c.if-left-gt0.true, c.unpinned-left.ensures, ap missing c.deref.ensures.value,
-      one_less c.args.held.now.pins.items c.args.shard c.args.version c.requires.not_pinned);
+  some = omega (
+    arith,
+    c.if-left-gt0.true,
+    c.unpinned-left.ensures,
+    ap missing c.deref.ensures.value,
+    one_less c.args.held.now.pins.items c.args.shard c.args.version c.requires.not_pinned,
+  );
   pins = refl;
   rest = refl;
   journal = refl;
@@ -52,8 +69,13 @@ begin-requires g c = (
                 ap (λ (pins : pinned.Pins). slice_get pins c.args.shard) c.deref-2.ensures.value ∙ c.requires.not_pinned,
                 subst (λ (pins : pinned.Pins). MayOpenEach {W = g.row.W} c.args.held.now.ask (pinned_with pins c.args.shard c.args.version))
                     (sym c.deref-2.ensures.value)
-                    (c.requires.may (omega (arith, c.if-left-gt0.false, c.unpinned-left.ensures, ap missing c.deref.ensures.value,
-                    one_less c.args.held.now.pins.items c.args.shard c.args.version c.requires.not_pinned))),
+                    (c.requires.may (omega (
+                      arith,
+                      c.if-left-gt0.false,
+                      c.unpinned-left.ensures,
+                      ap missing c.deref.ensures.value,
+                      one_less c.args.held.now.pins.items c.args.shard c.args.version c.requires.not_pinned,
+                    ))),
               ),
             ),
           ),
@@ -64,20 +86,33 @@ begin-requires g c = (
 )
 
 pub index_mut-requires-2 : goal.index_mut-requires-2
-index_mut-requires-2 g c = omega (arith, slice_get_within c.args.held.now.pins.items c.args.shard None c.requires.not_pinned,
-    c.deref.ensures.len, ap length c.deref.ensures.value)
+index_mut-requires-2 g c = omega (
+  arith,
+  slice_get_within c.args.held.now.pins.items c.args.shard None c.requires.not_pinned,
+  c.deref.ensures.len,
+  ap length c.deref.ensures.value,
+)
 
 pub returns-in-Some-clause-left : goal.returns-in-Some-clause-left
-returns-in-Some-clause-left g c = omega (arith, c.unpinned-left.ensures, ap missing c.deref.ensures.value,
-    one_less c.args.held.now.pins.items c.args.shard c.args.version c.requires.not_pinned)
+returns-in-Some-clause-left g c = omega (
+  arith,
+  c.unpinned-left.ensures,
+  ap missing c.deref.ensures.value,
+  one_less c.args.held.now.pins.items c.args.shard c.args.version c.requires.not_pinned,
+)
 
 pub returns-in-Some-clause-pins : goal.returns-in-Some-clause-pins
 returns-in-Some-clause-pins g c =
     let begun = c.in_ok-begun.begun in
     let fronted = sym c.take.ensures.value ∙ c.in-Some.is in
     inr (record {
-      all = omega (arith, c.if-left-gt0.false, c.unpinned-left.ensures, ap missing c.deref.ensures.value,
-          one_less c.args.held.now.pins.items c.args.shard c.args.version c.requires.not_pinned);
+      all = omega (
+        arith,
+        c.if-left-gt0.false,
+        c.unpinned-left.ensures,
+        ap missing c.deref.ensures.value,
+        one_less c.args.held.now.pins.items c.args.shard c.args.version c.requires.not_pinned,
+      );
       pins = refl;
       gather = begun.gather;
       begins = subst (λ (pins : pinned.Pins). Begins {W = g.row.W} c.args.room c.args.held.now.ask (pinned_with pins c.args.shard c.args.version)
@@ -94,16 +129,25 @@ returns-in-Some-clause-pins g c =
     })
 
 pub returns-in_default-clause-left : goal.returns-in_default-clause-left
-returns-in_default-clause-left g c = omega (arith, c.unpinned-left.ensures, ap missing c.deref.ensures.value,
-    one_less c.args.held.now.pins.items c.args.shard c.args.version c.requires.not_pinned)
+returns-in_default-clause-left g c = omega (
+  arith,
+  c.unpinned-left.ensures,
+  ap missing c.deref.ensures.value,
+  one_less c.args.held.now.pins.items c.args.shard c.args.version c.requires.not_pinned,
+)
 
 pub returns-in_default-clause-pins : goal.returns-in_default-clause-pins
 returns-in_default-clause-pins g c =
     let begun = c.in_ok-begun.begun in
     let closed = sym c.take.ensures.value ∙ c.in_default.is in
     inr (record {
-      all = omega (arith, c.if-left-gt0.false, c.unpinned-left.ensures, ap missing c.deref.ensures.value,
-          one_less c.args.held.now.pins.items c.args.shard c.args.version c.requires.not_pinned);
+      all = omega (
+        arith,
+        c.if-left-gt0.false,
+        c.unpinned-left.ensures,
+        ap missing c.deref.ensures.value,
+        one_less c.args.held.now.pins.items c.args.shard c.args.version c.requires.not_pinned,
+      );
       pins = refl;
       gather = begun.gather;
       begins = subst (λ (pins : pinned.Pins). Begins {W = g.row.W} c.args.room c.args.held.now.ask (pinned_with pins c.args.shard c.args.version)

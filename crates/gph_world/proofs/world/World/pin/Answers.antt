@@ -31,9 +31,14 @@ unpinned-left-requires g c =
     let below : c.args.shard < length i.places.items = omega (arith, c.if-place-len.false, c.len.ensures, i.places.ok.0) in
     let low : c.args.query < length i.queries.items = omega (arith, c.if-number-len.false, c.len-2.ensures, i.queries.ok.0) in
     let held = c.index-held.result.now in
-    let there = found_there i.queries.items c.args.query held low c.index-held.ensures in
-    (omega arith, omega (arith, pins_few i.bits i.room i.journal i.places.items i.queries.items c.self.invariant c.args.query held there c.args.shard below c.if-held.false,
-    ap length c.deref.ensures.value))
+    let there = found_there i.queries.items c.args.query held low c.index-held.ensures in (
+      omega arith,
+      omega (
+        arith,
+        pins_few i.bits i.room i.journal i.places.items i.queries.items c.self.invariant c.args.query held there c.args.shard below c.if-held.false,
+        ap length c.deref.ensures.value,
+      ),
+    )
 
 pub returns-then-is_some-clause-step : goal.returns-then-is_some-clause-step
 returns-then-is_some-clause-step g c =
@@ -145,8 +150,7 @@ pin_held-requires g c =
     c.index.result.now (subst (λ (each : Held g.row.W). c.index.result.now ≡ get_or each.pins.items c.args.shard c.index.result.now) same c.index.ensures)
     (sym c.is_some.ensures ∙ c.if-is_some.false) in
     let place = c.index_mut.result.now in
-    let stands = found_there i.places.items c.args.shard place below c.index_mut.ensures.value in
-    (
+    let stands = found_there i.places.items c.args.shard place below c.index_mut.ensures.value in (
       omega (arith, c.self.invariant.few_words),
       (
         omega (arith, c.self.invariant.few_words),
