@@ -5,6 +5,9 @@
 mod load;
 mod outcome;
 mod top;
+mod trace;
+mod world_core;
 
 pub use outcome::Outcome;
 pub use top::run;
+pub use trace::trace;
