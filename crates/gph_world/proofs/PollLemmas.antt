@@ -1,5 +1,6 @@
 -- A source of a query is polled.
-use Rattle.std.proofs.Common.{◌≡◌, ◌⊎◌, ℕ, zero, suc, ◌+◌, ◌<◌, ◌≤◌, ◌==◌, true, false, List, [], ◌∷◌, length, take, Option, Some, None, refl, sym, ap, subst, ◌∙◌, arith, inl, inr, eq-eqb, eqb-true}
+use Rattle.std.proofs.Common.{◌≡◌, ◌⊎◌, ℕ, zero, suc, ◌+◌, ◌<◌, ◌≤◌, ◌==◌, true, false, List, [], ◌∷◌}
+use Rattle.std.proofs.Common.{length, take, Option, Some, None, refl, sym, ap, subst, ◌∙◌, arith, inl, inr, eq-eqb, eqb-true}
 use Rattle.std.specs.Prelude.{IfSome, Ok, is_none, min, nat_le, slice_get, slice_index, slice_index_or, slice_set}
 use Rattle.std.specs.List.{list_any, sum_by}
 use Rattle.std.proofs.lemmas.Bool.{and_parts, both_ways, cases_Bool, ltb-true}
@@ -144,7 +145,8 @@ codes_first bits (suc n) (entry ∷ history) codes = (codes.0, codes_first bits 
 -- ---- what it does
 module _ {W : ℕ} (bits room : ℕ) (journal : JournalState) (places : List (Place W)) (queries : List (Held W))
     (keeps : KeepsWorld bits room journal places queries) (number : ℕ) (held : Held W) (there : slice_get queries number ≡ Some held)
-    (whole : IsJournal journal) (few : HaveFewRows) (shard budget : ℕ) (low : shard < length places) (some : 1 ≤ budget) (new : Held W) (from to : List ℕ) (said : Told)
+    (whole : IsJournal journal) (few : HaveFewRows) (shard budget : ℕ) (low : shard < length places) (some : 1 ≤ budget) (new : Held W) (from to :
+    List ℕ) (said : Told)
     (polls : PollsHeld budget shard held new from to said) where
   abbrev z : Setting
   z = setting_seen bits room journal places

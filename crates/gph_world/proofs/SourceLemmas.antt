@@ -1,5 +1,6 @@
 -- The sources of a query on the versions that it pinned.
-use Rattle.std.proofs.Common.{◌≡◌, ◌≢◌, ℕ, zero, suc, ◌+◌, ◌<◌, List, [], ◌∷◌, ◌++◌, cond, length, map, take, Option, Some, None, refl, sym, ap, subst, ◌∙◌, arith, inl, inr}
+use Rattle.std.proofs.Common.{◌≡◌, ◌≢◌, ℕ, zero, suc, ◌+◌, ◌<◌, List, [], ◌∷◌, ◌++◌, cond, length}
+use Rattle.std.proofs.Common.{map, take, Option, Some, None, refl, sym, ap, subst, ◌∙◌, arith, inl, inr}
 use Rattle.std.specs.Prelude.{is_none, slice_get}
 use Rattle.std.specs.Arc.{arc_value}
 use Rattle.std.specs.List.{AllByRecursion, sum_by}
@@ -26,7 +27,8 @@ use Rattle.gph_world.proofs.GatherLemmas.{at_within}
 -- ---- pins
 
 -- where none is missing each shard has a version
-pub pin_there : (pins : Pins) (shard : ℕ) → missing pins ≡ 0 → shard < length pins → (version : Arc Tabled Global) × (slice_get pins shard ≡ Some (Some version))
+pub pin_there : (pins : Pins) (shard : ℕ) → missing pins ≡ 0 → shard < length pins → (version : Arc Tabled Global) × (slice_get pins shard ≡ Some
+    (Some version))
 pin_there [] shard all low = absurd (omega (arith, low))
 pin_there (None ∷ pins) shard all low = absurd (omega (arith, all))
 pin_there (Some version ∷ pins) zero all low = (version, refl)

@@ -86,8 +86,10 @@ fn poll_told<H: HitSource, L>(
 ) -> Told
     requires shard { shard < length gather.old.sources }
     requires budget { 1 ≤ budget }
-    ensures polls { PollsDue H.asked H.standing budget shard gather.old gather.new meters.old meters.new result
-        ⊎ PollsNone H.asked H.standing shard gather.old gather.new meters.old meters.new result }
+    ensures polls { PollsDue H.asked H.standing budget shard
+        gather.old gather.new meters.old meters.new result
+        ⊎ PollsNone H.asked H.standing shard
+        gather.old gather.new meters.old meters.new result }
     ensures lawful { AreAllLawful H.asked H.standing }
 {
     let Some(answer) = gather.poll_one(shard, budget, meters) else {

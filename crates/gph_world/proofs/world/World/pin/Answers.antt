@@ -12,7 +12,8 @@ use Rattle.gph_world.specs.Worlds.{WorldView}
 use Rattle.gph_world.specs.declared.held.Held.{Held}
 use Rattle.gph_world.proofs.AdvanceLemmas.{may_come, steps_behind}
 use Rattle.gph_world.proofs.HeldLemmas.{found_there, front_is_live, two_found}
-use Rattle.gph_world.proofs.PinLemmas.{bring_lacks, front_open, has_come, lacks_keeps, may_open, pin_found, pin_free, pinned_step, pins_are, pins_few, version_comes}
+use Rattle.gph_world.proofs.PinLemmas.{bring_lacks, front_open, has_come, lacks_keeps, may_open}
+use Rattle.gph_world.proofs.PinLemmas.{pin_found, pin_free, pinned_step, pins_are, pins_few, version_comes}
 use Rattle.gph_world.proofs.PinnedLemmas.{lacks_step, pin_keeps, pin_setting, pin_step, same_keeps}
 use Rattle.gph_world.proofs.world.World.pin.Goals as goal
 
@@ -23,7 +24,13 @@ index-requires g c =
     let low : c.args.query < length i.queries.items = omega (arith, c.if-number-len.false, c.len-2.ensures, i.queries.ok.0) in
     let held = c.index-held.result.now in
     let there = found_there i.queries.items c.args.query held low c.index-held.ensures in
-    omega (arith, below, pins_are i.bits i.room i.journal i.places.items i.queries.items c.self.invariant c.args.query held there c.args.shard below c.if-held.false, held.pins.ok.0)
+    omega (
+      arith,
+      below,
+      pins_are i.bits i.room i.journal i.places.items i.queries.items c.self.invariant c.args.query held there c.args.shard below
+          c.if-held.false,
+      held.pins.ok.0,
+    )
 
 pub unpinned-left-requires : goal.unpinned-left-requires
 unpinned-left-requires g c =
@@ -49,7 +56,8 @@ returns-then-is_some-clause-step g c =
     let there = found_there i.queries.items c.args.query held low c.index-held.ensures in
     subst (λ (w : WorldView). WorldStep w.setting w.state (Pin c.args.query c.args.shard) (Ok (told.Pinned c.unpinned-left.result)) w.state) c.self.view_is
     (pinned_step i.bits i.room i.journal i.places.items i.queries.items c.self.invariant c.args.query held there c.args.shard below c.if-held.false
-    c.index.result.now (pin_found i.bits i.room i.journal i.places.items i.queries.items c.self.invariant c.args.query held there c.args.shard below c.if-held.false c.index.result.now c.index.ensures)
+    c.index.result.now (pin_found i.bits i.room i.journal i.places.items i.queries.items c.self.invariant c.args.query held there c.args.shard below
+    c.if-held.false c.index.result.now c.index.ensures)
     (sym c.is_some.ensures ∙ c.if-is_some.true) c.unpinned-left.result (c.unpinned-left.ensures ∙ ap missing c.deref.ensures.value))
 
 pub unreachable-requires : goal.unreachable-requires
@@ -61,7 +69,8 @@ unreachable-requires g c =
     let there = found_there i.queries.items c.args.query held low c.index-held.ensures in
     let free = pin_free i.bits i.room i.journal i.places.items i.queries.items c.self.invariant c.args.query held there c.args.shard below c.if-held.false
     c.index.result.now c.index.ensures (sym c.is_some.ensures ∙ c.if-is_some.false) in
-    front_open i.bits i.room i.journal i.places.items i.queries.items c.self.invariant c.args.query held there c.args.shard below c.if-held.false free c.in_default.is
+    front_open i.bits i.room i.journal i.places.items i.queries.items c.self.invariant c.args.query held there c.args.shard below c.if-held.false
+    free c.in_default.is
 
 pub bring-requires : goal.bring-requires
 bring-requires g c =
@@ -133,7 +142,8 @@ returns-in_default-bring-clause-bound g c =
     let place = c.index_mut.result.now in
     let stands = found_there i.places.items c.args.shard place below c.index_mut.ensures.value in
     subst (λ (w : WorldView). c.bring.new.steps ≤ c.args.upkeep.now + entries_behind w.state c.args.query c.args.shard) c.self.view_is
-    (steps_behind i.bits i.room i.journal i.places.items i.queries.items c.self.invariant c.args.query held there c.in-Some.front c.in-Some.is c.args.shard place stands
+    (steps_behind i.bits i.room i.journal i.places.items i.queries.items c.self.invariant c.args.query held there c.in-Some.front c.in-Some.is
+    c.args.shard place stands
     c.args.upkeep.now c.bring.new.steps c.bring.ensures.bound)
 
 pub pin_held-requires : goal.pin_held-requires
@@ -169,7 +179,8 @@ pin_held-requires g c =
                     (
                       free,
                       may_open i.bits i.room i.journal i.places.items i.queries.items c.self.invariant c.args.query held there c.args.shard
-                          below goes_on free c.in-Some.front is_open place stands c.bring.new.place c.in-Ok.ensures.came c.in-Ok.version c.in-Ok.ensures.version,
+                          below goes_on free c.in-Some.front is_open place stands c.bring.new.place c.in-Ok.ensures.came c.in-Ok.version
+                          c.in-Ok.ensures.version,
                     ),
                   ),
                 ),
@@ -196,9 +207,11 @@ invariant_of-self-in_default-pin_held g c =
     let place = c.index_mut.result.now in
     let stands = found_there i.places.items c.args.shard place below c.index_mut.ensures.value in
     let new = c.bring.new.place in
-    let come = has_come i.bits i.room i.journal i.places.items i.queries.items c.self.invariant c.args.query held there c.args.shard below goes_on free c.in-Some.front is_open
+    let come = has_come i.bits i.room i.journal i.places.items i.queries.items c.self.invariant c.args.query held there c.args.shard below goes_on
+    free c.in-Some.front is_open
     place stands new c.in-Ok.ensures.came c.in-Ok.version c.in-Ok.ensures.version in
-    let mid = lacks_keeps i.bits i.room i.journal i.places.items i.queries.items c.self.invariant c.args.query held there c.args.shard below goes_on free c.in-Some.front is_open
+    let mid = lacks_keeps i.bits i.room i.journal i.places.items i.queries.items c.self.invariant c.args.query held there c.args.shard below goes_on
+    free c.in-Some.front is_open
     place stands new (inr c.in-Ok.ensures.came) in
     same_keeps i.bits i.room i.journal i.places.items i.queries.items c.self.invariant c.args.query held there c.args.shard new c.in-Ok.version come mid
     c.pin_held.new.journal c.pin_held.new.held c.in_default-pin_held.ensures.journal c.in_default-pin_held.ensures.held
@@ -219,16 +232,19 @@ returns-in_default-pin_held-clause-step g c =
     let place = c.index_mut.result.now in
     let stands = found_there i.places.items c.args.shard place below c.index_mut.ensures.value in
     let new = c.bring.new.place in
-    let come = has_come i.bits i.room i.journal i.places.items i.queries.items c.self.invariant c.args.query held there c.args.shard below goes_on free c.in-Some.front is_open
+    let come = has_come i.bits i.room i.journal i.places.items i.queries.items c.self.invariant c.args.query held there c.args.shard below goes_on
+    free c.in-Some.front is_open
     place stands new c.in-Ok.ensures.came c.in-Ok.version c.in-Ok.ensures.version in
-    let mid = lacks_keeps i.bits i.room i.journal i.places.items i.queries.items c.self.invariant c.args.query held there c.args.shard below goes_on free c.in-Some.front is_open
+    let mid = lacks_keeps i.bits i.room i.journal i.places.items i.queries.items c.self.invariant c.args.query held there c.args.shard below goes_on
+    free c.in-Some.front is_open
     place stands new (inr c.in-Ok.ensures.came) in
     subst (λ (w : WorldView). WorldStep w.setting w.state (Pin c.args.query c.args.shard) (Err NoMemory)
     (state_seen i.bits c.pin_held.new.journal (slice_set i.places.items c.args.shard c.bring.new.place)
     (slice_set i.queries.items c.args.query c.pin_held.new.held))) c.self.view_is
     (lacks_step i.bits i.room i.journal i.places.items i.queries.items c.self.invariant c.args.query held there c.args.shard new c.in-Ok.version come mid
     c.pin_held.new.journal c.pin_held.new.held c.in_default-pin_held.ensures.journal c.in_default-pin_held.ensures.held
-    (bring_lacks i.bits i.room i.journal i.places.items i.queries.items c.self.invariant c.args.query held there c.args.shard below goes_on free c.in-Some.front is_open
+    (bring_lacks i.bits i.room i.journal i.places.items i.queries.items c.self.invariant c.args.query held there c.args.shard below goes_on free
+    c.in-Some.front is_open
     place stands new (inr c.in-Ok.ensures.came)))
 
 pub returns-in_default-pin_held-clause-bound : goal.returns-in_default-pin_held-clause-bound
@@ -241,7 +257,8 @@ returns-in_default-pin_held-clause-bound g c =
     let place = c.index_mut.result.now in
     let stands = found_there i.places.items c.args.shard place below c.index_mut.ensures.value in
     subst (λ (w : WorldView). c.bring.new.steps ≤ c.args.upkeep.now + entries_behind w.state c.args.query c.args.shard) c.self.view_is
-    (steps_behind i.bits i.room i.journal i.places.items i.queries.items c.self.invariant c.args.query held there c.in-Some.front c.in-Some.is c.args.shard place stands
+    (steps_behind i.bits i.room i.journal i.places.items i.queries.items c.self.invariant c.args.query held there c.in-Some.front c.in-Some.is
+    c.args.shard place stands
     c.args.upkeep.now c.bring.new.steps c.bring.ensures.bound)
 
 pub invariant_of-self-2 : goal.invariant_of-self-2
@@ -260,9 +277,11 @@ invariant_of-self-2 g c =
     let place = c.index_mut.result.now in
     let stands = found_there i.places.items c.args.shard place below c.index_mut.ensures.value in
     let new = c.bring.new.place in
-    let come = has_come i.bits i.room i.journal i.places.items i.queries.items c.self.invariant c.args.query held there c.args.shard below goes_on free c.in-Some.front is_open
+    let come = has_come i.bits i.room i.journal i.places.items i.queries.items c.self.invariant c.args.query held there c.args.shard below goes_on
+    free c.in-Some.front is_open
     place stands new c.in-Ok.ensures.came c.in-Ok.version c.in-Ok.ensures.version in
-    let mid = lacks_keeps i.bits i.room i.journal i.places.items i.queries.items c.self.invariant c.args.query held there c.args.shard below goes_on free c.in-Some.front is_open
+    let mid = lacks_keeps i.bits i.room i.journal i.places.items i.queries.items c.self.invariant c.args.query held there c.args.shard below goes_on
+    free c.in-Some.front is_open
     place stands new (inr c.in-Ok.ensures.came) in
     pin_keeps i.bits i.room i.journal i.places.items i.queries.items c.self.invariant c.args.query held there c.args.shard new c.in-Ok.version come mid
     c.pin_held.new.journal c.pin_held.new.held c.in-Ok-pin_held.ensures.pins
@@ -283,9 +302,11 @@ returns-clause-setting g c =
     let place = c.index_mut.result.now in
     let stands = found_there i.places.items c.args.shard place below c.index_mut.ensures.value in
     let new = c.bring.new.place in
-    let come = has_come i.bits i.room i.journal i.places.items i.queries.items c.self.invariant c.args.query held there c.args.shard below goes_on free c.in-Some.front is_open
+    let come = has_come i.bits i.room i.journal i.places.items i.queries.items c.self.invariant c.args.query held there c.args.shard below goes_on
+    free c.in-Some.front is_open
     place stands new c.in-Ok.ensures.came c.in-Ok.version c.in-Ok.ensures.version in
-    let mid = lacks_keeps i.bits i.room i.journal i.places.items i.queries.items c.self.invariant c.args.query held there c.args.shard below goes_on free c.in-Some.front is_open
+    let mid = lacks_keeps i.bits i.room i.journal i.places.items i.queries.items c.self.invariant c.args.query held there c.args.shard below goes_on
+    free c.in-Some.front is_open
     place stands new (inr c.in-Ok.ensures.came) in
     subst (λ (w : WorldView). setting_seen i.bits i.room c.pin_held.new.journal (slice_set i.places.items c.args.shard new) ≡ w.setting) c.self.view_is
     (pin_setting i.bits i.room i.journal i.places.items i.queries.items c.self.invariant c.args.query held there c.args.shard new c.in-Ok.version come mid
@@ -307,9 +328,11 @@ returns-clause-step g c =
     let place = c.index_mut.result.now in
     let stands = found_there i.places.items c.args.shard place below c.index_mut.ensures.value in
     let new = c.bring.new.place in
-    let come = has_come i.bits i.room i.journal i.places.items i.queries.items c.self.invariant c.args.query held there c.args.shard below goes_on free c.in-Some.front is_open
+    let come = has_come i.bits i.room i.journal i.places.items i.queries.items c.self.invariant c.args.query held there c.args.shard below goes_on
+    free c.in-Some.front is_open
     place stands new c.in-Ok.ensures.came c.in-Ok.version c.in-Ok.ensures.version in
-    let mid = lacks_keeps i.bits i.room i.journal i.places.items i.queries.items c.self.invariant c.args.query held there c.args.shard below goes_on free c.in-Some.front is_open
+    let mid = lacks_keeps i.bits i.room i.journal i.places.items i.queries.items c.self.invariant c.args.query held there c.args.shard below goes_on
+    free c.in-Some.front is_open
     place stands new (inr c.in-Ok.ensures.came) in
     subst (λ (w : WorldView). WorldStep w.setting w.state (Pin c.args.query c.args.shard) (Ok (told.Pinned c.in-Ok-pin_held.left))
     (state_seen i.bits c.pin_held.new.journal (slice_set i.places.items c.args.shard c.bring.new.place)
@@ -327,5 +350,6 @@ returns-clause-bound g c =
     let place = c.index_mut.result.now in
     let stands = found_there i.places.items c.args.shard place below c.index_mut.ensures.value in
     subst (λ (w : WorldView). c.bring.new.steps ≤ c.args.upkeep.now + entries_behind w.state c.args.query c.args.shard) c.self.view_is
-    (steps_behind i.bits i.room i.journal i.places.items i.queries.items c.self.invariant c.args.query held there c.in-Some.front c.in-Some.is c.args.shard place stands
+    (steps_behind i.bits i.room i.journal i.places.items i.queries.items c.self.invariant c.args.query held there c.in-Some.front c.in-Some.is
+    c.args.shard place stands
     c.args.upkeep.now c.bring.new.steps c.bring.ensures.bound)

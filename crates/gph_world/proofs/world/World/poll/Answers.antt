@@ -22,7 +22,8 @@ returns-in_default-clause-step g c =
     let there = found_there i.queries.items c.args.query held (omega (arith, c.if-number-len.false, c.len-2.ensures, i.queries.ok.0)) c.index-held.ensures in
     subst (λ (w : WorldView). WorldStep w.setting w.state (Poll c.args.query c.args.shard c.args.budget) (Err NotPinned) w.state) c.self.view_is
     (inl (
-      poll_not_pinned (setting_seen i.bits i.room i.journal i.places.items) (state_seen i.bits i.journal i.places.items i.queries.items) c.args.query c.args.shard
+      poll_not_pinned (setting_seen i.bits i.room i.journal i.places.items) (state_seen i.bits i.journal i.places.items i.queries.items) c.args.query
+          c.args.shard
           c.args.budget below
           (query_seen i.bits held) (seen_there i.bits i.room i.journal i.places.items i.queries.items c.self.invariant c.args.query held there)
           c.if-held.false
