@@ -1,5 +1,5 @@
 -- What a session sees of its desk, and what it leaves as it was.
-use Rattle.std.specs.Prelude.{◌≡◌, ℕ, List, map}
+use Rattle.std.specs.Prelude.{◌≡◌, ℕ, true, List, map}
 use Rattle.session_desk.specs.Desks.{DeskState, pin_position}
 
 -- the layouts of the shards of a desk that is alone
@@ -10,7 +10,8 @@ layouts_of desk = map (λ place. place.1.parts) desk.places
 abbrev pub pins_of : DeskState → List ℕ
 pins_of desk = map pin_position desk.pins
 
--- what a line that puts no build in place leaves of a desk as it was
+-- what a line that puts no build in place leaves of a desk as it was, beside what it has seen and
+-- how far the shards came
 pub record KeepsDesk (old new : DeskState) : Type 0 where
   pub board : new.board ≡ old.board
   pub who : new.who ≡ old.who
@@ -19,14 +20,15 @@ pub record KeepsDesk (old new : DeskState) : Type 0 where
   pub done : new.done ≡ old.done
   pub late : new.late ≡ old.late
   pub alone : new.alone ≡ old.alone
-  pub layouts : layouts_of new ≡ layouts_of old
+  pub layouts : old.alone ≡ true → layouts_of new ≡ layouts_of old
 
--- what a session leaves as it was of a desk that is alone: all but what it has seen, how far the
--- shards came and in which layouts they stand, and how many builds were put in place
+-- what a session leaves as it was of a desk: all but what it has seen, how far the shards came and
+-- in which layouts they stand, and how many builds were put in place, or came late where the desk
+-- isn't alone
 pub record LeavesDesk (old new : DeskState) : Type 0 where
   pub board : new.board ≡ old.board
   pub who : new.who ≡ old.who
   pub config : new.config ≡ old.config
   pub fronts : new.fronts ≡ old.fronts
-  pub late : new.late ≡ old.late
+  pub late : old.alone ≡ true → new.late ≡ old.late
   pub alone : new.alone ≡ old.alone

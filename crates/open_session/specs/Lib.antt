@@ -6,5 +6,6 @@ pub mod KeptBuild
 pub mod Samples
 pub mod Moments
 pub mod Meaning
+pub mod Growth
 pub mod Steps
 pub mod PlainSteps

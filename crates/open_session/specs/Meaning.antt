@@ -62,15 +62,16 @@ pub record IsSettled (config : Config) (history : List JournalEntry) (query : Qu
   pub within : query.position ≤ length history
   pub bounded : IsBounded config history query
 
--- a desk that is alone means a state of its session, in the history so far
+-- a desk means a state of its session, in the history so far; where it is alone, the state's
+-- position is the length of the whole history and its layouts are those of the shards
 pub record Means (config : Config) (desk : DeskState) (history : List JournalEntry) (s : State)
     : Type 0 where
   pub config_is : desk.config ≡ config
-  pub alone : desk.alone ≡ true
   pub history_is : history ≡ seen_history desk
-  pub position : s.position ≡ length history
+  pub within : s.position ≤ length history
+  pub whole : desk.alone ≡ true → s.position ≡ length history
   pub who : s.who ≡ desk.who
-  pub layouts : s.layouts ≡ layouts_of desk
+  pub layouts : desk.alone ≡ true → s.layouts ≡ layouts_of desk
   pub are_layouts : AreLayouts config s.layouts
 
 -- what a session was asked to be fits its words

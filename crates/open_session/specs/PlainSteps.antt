@@ -1,4 +1,4 @@
--- One step of a session that is alone in which nothing is built: all requests but those on builds.
+-- One step of a session in which nothing is built: all requests but those on builds.
 use Rattle.std.specs.Prelude.{◌≡◌, ℕ, Option, Some, Result, Ok, OnOk, List, ◌++◌}
 use Rattle.std.specs.List.{AllByRecursion}
 use Rattle.line_io.specs.declared.source.Failed.{Failed}
@@ -13,39 +13,39 @@ use Rattle.session_model.specs.Entries.{Exchange}
 use Rattle.session_model.specs.Step.{Step}
 use Rattle.session_model.specs.Upkeep.{other_steps}
 use Rattle.session_model.specs.Commits.{commit_of}
-use Rattle.session_model.specs.Run.{IsAlone}
 use Rattle.session_model.specs.Told.{pinned_by}
 use Rattle.open_queries.specs.Writing.{Writes}
 use Rattle.open_session.specs.declared.open_session.Session.{Session}
 use Rattle.open_session.specs.KeptDesk.{KeepsDesk}
+use Rattle.open_session.specs.Growth.{HistoryGrows, IsAside}
 use Rattle.open_session.specs.Meaning.{Means, AllKeep, IsSettled}
 use Rattle.open_session.specs.Pinned.{TellsPinned}
 use Rattle.open_session.specs.Moments.{Moment, Point, ReadsTo, Spends, moment_of}
 use Rattle.open_session.specs.Samples.{MeansSamples}
 use Rattle.open_session.specs.Steps.{Stands}
 
--- one line was answered by one step of a session that is alone, which leads from one moment to the
--- next, and in which nothing is built
+-- one line was answered by one step of a session, which leads from one moment to the next, and in
+-- which nothing is built; others may have committed before it, unless the desk is alone
 pub record PlainStep {A : Type 0} (W : ℕ) (config : Config) (history : List JournalEntry)
     (s : State) (line : List ℕ) (before after : Option (List ℕ)) (result : Result A Failed)
     (old new : Moment W) : Type 0 where
   pub exchange : Exchange
   pub state : State
   pub is_line : exchange.line ≡ line
-  pub step : (later : List JournalEntry)
-      → Step config ((history ++ commit_of s.who config exchange) ++ later) s exchange state
-  pub alone : IsAlone config s exchange
+  pub past : List JournalEntry
+  pub grows :
+      HistoryGrows old.desk.alone s.who history (commit_of s.who config exchange) past
+  pub step : (later : List JournalEntry) → Step config (past ++ later) s exchange state
+  pub aside : IsAside old.desk.alone config s exchange
   pub wrote : Writes before after result (text exchange.replies)
   pub reads : ReadsTo old.ledgers.reads new.ledgers.reads s.queries state.queries
   pub spent : Spends old.desk new.desk old.ledgers.upkeep new.ledgers.upkeep
       (other_steps config.shards exchange.replies exchange.seen)
-  pub settled :
-      AllByRecursion (IsSettled config (history ++ commit_of s.who config exchange)) state.queries
+  pub settled : AllByRecursion (IsSettled config past) state.queries
   pub samples : MeansSamples config.bits new.samples state.queries
-  pub means : Means config new.desk (history ++ commit_of s.who config exchange) state
+  pub means : Means config new.desk past state
   pub keeps : KeepsDesk old.desk new.desk
-  pub keep : OnOk result (AllKeep config (history ++ commit_of s.who config exchange) new.cursors
-      (open_queries state.queries))
+  pub keep : OnOk result (AllKeep config past new.cursors (open_queries state.queries))
   pub pinned : TellsPinned config.shards new.pinned (pinned_by state.queries)
   pub position : new.position ≡ state.position
 

@@ -1,5 +1,5 @@
--- One step of a session that is alone, from one moment to the next.
-use Rattle.std.specs.Prelude.{◌≡◌, ℕ, ◌+◌, false, Option, Some, Result, Ok, OnOk, List, ◌++◌, if◌then◌else◌}
+-- One step of a session, from one moment to the next.
+use Rattle.std.specs.Prelude.{◌≡◌, ℕ, ◌+◌, false, Option, Some, Result, Ok, OnOk, true, List, ◌++◌, if◌then◌else◌}
 use Rattle.std.specs.List.{AllByRecursion}
 use Rattle.line_io.specs.declared.source.Failed.{Failed}
 use Rattle.hamming_model.specs.History.{JournalEntry}
@@ -16,10 +16,10 @@ use Rattle.session_model.specs.Step.{Step}
 use Rattle.session_model.specs.Told.{pinned_by}
 use Rattle.session_model.specs.Upkeep.{build_at, build_steps, other_steps}
 use Rattle.session_model.specs.Commits.{commit_of}
-use Rattle.session_model.specs.Run.{IsAlone}
 use Rattle.open_queries.specs.Writing.{Writes}
 use Rattle.open_session.specs.KeptBuild.{MeansBuild, StandsFrom, left_in}
 use Rattle.open_session.specs.KeptDesk.{LeavesDesk}
+use Rattle.open_session.specs.Growth.{HistoryGrows, IsAside}
 use Rattle.open_session.specs.Meaning.{Means, AllKeep, IsSettled}
 use Rattle.open_session.specs.Pinned.{TellsPinned}
 use Rattle.open_session.specs.Moments.{Moment, Point, ReadsTo, Spends, moment_of}
@@ -45,32 +45,32 @@ pub record SpendsWithBuild {W : ℕ} (old new : Moment W) (told beside : ℕ) (r
       (new.ledgers.upkeep + left_in new.build) (beside + build_steps told replies)
   pub stands : StandsFrom (build_at told replies) new.build
 
--- one line was answered by one step of a session that is alone, which leads from one moment to the
--- next
+-- one line was answered by one step of a session, which leads from one moment to the next; others
+-- may have committed before it and may have moved a shard beyond its build, unless the desk is alone
 pub record OneStep {A : Type 0} (W : ℕ) (config : Config) (history : List JournalEntry) (s : State)
     (line : List ℕ) (before after : Option (List ℕ)) (result : Result A Failed)
     (old new : Moment W) : Type 0 where
   pub exchange : Exchange
   pub state : State
   pub is_line : exchange.line ≡ line
-  pub step : (later : List JournalEntry)
-      → Step config ((history ++ commit_of s.who config exchange) ++ later) s exchange state
-  pub alone : IsAlone config s exchange
-  pub unmoved : was_moved exchange.replies ≡ false
+  pub past : List JournalEntry
+  pub grows :
+      HistoryGrows old.desk.alone s.who history (commit_of s.who config exchange) past
+  pub step : (later : List JournalEntry) → Step config (past ++ later) s exchange state
+  pub aside : IsAside old.desk.alone config s exchange
+  pub unmoved : old.desk.alone ≡ true → was_moved exchange.replies ≡ false
   pub wrote : Writes before after result (text exchange.replies)
   pub reads : ReadsTo old.ledgers.reads new.ledgers.reads s.queries state.queries
   pub spent : (told : ℕ) → StandsFrom told old.build → SpendsWithBuild old new told
       (other_steps config.shards exchange.replies exchange.seen) exchange.replies
-  pub settled :
-      AllByRecursion (IsSettled config (history ++ commit_of s.who config exchange)) state.queries
-  pub means : Means config new.desk (history ++ commit_of s.who config exchange) state
+  pub settled : AllByRecursion (IsSettled config past) state.queries
+  pub means : Means config new.desk past state
   pub samples : MeansSamples config.bits new.samples state.queries
   pub build : MeansBuild new.desk new.build state.build
   pub keeps : LeavesDesk old.desk new.desk
   pub done : new.desk.done
       ≡ (if was_swapped exchange.replies then one_more old.desk.done else old.desk.done)
-  pub keep : OnOk result (AllKeep config (history ++ commit_of s.who config exchange) new.cursors
-      (open_queries state.queries))
+  pub keep : OnOk result (AllKeep config past new.cursors (open_queries state.queries))
   pub pinned : TellsPinned config.shards new.pinned (pinned_by state.queries)
   pub position : new.position ≡ state.position
 

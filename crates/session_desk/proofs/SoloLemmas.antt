@@ -40,6 +40,7 @@ solo_is_desk words s solo journal = record {
   pins = solo.pins;
   left = length-map s.shards (λ (shard : ShardState). shard.current.at) ∙ solo.shards;
   pinned = λ number low. omega (arith, left_there s number, (solo.each number low).pinned);
+  pinned_within = λ number low. omega (arith, (solo.each number low).pinned, (solo.each number low).rule.within);
   places = λ alone. length-map s.shards place_of ∙ solo.shards;
   each = λ alone number low. placed number low;
 }

@@ -109,6 +109,8 @@ pub record IsDesk (words : ℕ) (desk : DeskState) : Type 0 where
   pub pins : length desk.pins ≡ desk.config.shards
   pub left : length desk.left ≡ desk.config.shards
   pub pinned : (shard : ℕ) → shard < desk.config.shards → pinned_at desk shard ≤ left_at desk shard
+  pub pinned_within : (shard : ℕ) → shard < desk.config.shards
+      → pinned_at desk shard ≤ length desk.seen
   pub places : desk.alone ≡ true → length desk.places ≡ desk.config.shards
   pub each : desk.alone ≡ true → (shard : ℕ) → shard < desk.config.shards → IsShardPlace desk shard
 
