@@ -1,4 +1,4 @@
--- Lemmas on a desk that is alone: what of it stays, where its shards come on too, and its layouts.
+-- Lemmas on a desk: what of it stays, where its shards come on too, and the layouts of one that is alone.
 use Rattle.std.proofs.Common.{◌≡◌, ◌<◌, ℕ, true, List, [], ◌∷◌, ◌++◌, length, map, sym, ap, ◌∙◌, subst, append-nil}
 use Rattle.std.specs.List.{AllByRecursion}
 use Rattle.std.specs.declared.option.Option.{Option}
@@ -18,23 +18,28 @@ use Rattle.session_model.specs.Step.{AreLayouts}
 
 -- ---- what the desk is
 
--- a desk is alone, and was made with the config
+-- a desk was made with the config
 abbrev pub IsHere : Config → DeskState → Type 0
-IsHere config desk = (desk.alone ≡ true) × (desk.config ≡ config)
+IsHere config desk = desk.config ≡ config
 
-pub here_same : (config : Config) (old new : DeskState) → new.alone ≡ old.alone → new.config ≡ old.config
-    → old.alone ≡ true → old.config ≡ config → IsHere config new
-here_same config old new alone same is_alone is_config = (alone ∙ is_alone, same ∙ is_config)
+pub here_same : (config : Config) (old new : DeskState) → new.config ≡ old.config → old.config ≡ config
+    → IsHere config new
+here_same config old new same is_config = same ∙ is_config
 
-pub here_learns : (config : Config) (old new : DeskState) → OnlyLearns old new → old.alone ≡ true
-    → old.config ≡ config → IsHere config new
-here_learns config old new only = here_same config old new
-    (ap (λ (d : DeskState). d.alone) only.after) (ap (λ (d : DeskState). d.config) only.after)
+pub here_learns : (config : Config) (old new : DeskState) → OnlyLearns old new → old.config ≡ config
+    → IsHere config new
+here_learns config old new only = here_same config old new (ap (λ (d : DeskState). d.config) only.after)
 
 pub here_tells : (config : Config) (old new : DeskState) (shard : ℕ) (told : List ℕ)
-    → TellsLayout old new shard told → old.alone ≡ true → old.config ≡ config → IsHere config new
-here_tells config old new shard told tells = here_same config old new
-    (ap (λ (d : DeskState). d.alone) tells.after) (ap (λ (d : DeskState). d.config) tells.after)
+    → TellsLayout old new shard told → old.config ≡ config → IsHere config new
+here_tells config old new shard told tells = here_same config old new (ap (λ (d : DeskState). d.config) tells.after)
+
+-- a desk that is as it was learns nothing
+pub only_still : (old new : DeskState) → new ≡ old → OnlyLearns old new
+only_still old new same = subst (OnlyLearns old) (sym same) (record {
+  learns = record { more = []; longer = sym (append-nil old.seen); others = tt; all = λ alone. refl };
+  after = refl;
+})
 
 -- ---- the builds of the desk
 
@@ -83,10 +88,7 @@ beyond_less (x ∷ old) (y ∷ new) most same each =
     )
 
 module _ (words : ℕ) (old new : DeskState) (is_old : IsDesk words old) (is_new : IsDesk words new)
-    (alone : old.alone ≡ true) (comes : ComesOn old new) where
-  pub seen_same : new.seen ≡ old.seen
-  seen_same = comes.learns.longer ∙ ap (λ l. old.seen ++ l) (comes.learns.all alone) ∙ append-nil old.seen
-
+    (comes : ComesOn old new) where
   pub shards_same : new.config.shards ≡ old.config.shards
   shards_same = ap (λ (c : Config). c.shards) comes.config
 
@@ -99,15 +101,18 @@ module _ (words : ℕ) (old new : DeskState) (is_old : IsDesk words old) (is_new
     done = comes.done;
     late = comes.late;
     alone = comes.alone;
-    layouts = same_list (λ (place : ShardPlace). place.1.parts) new.places old.places no_place
+    layouts = λ alone. same_list (λ (place : ShardPlace). place.1.parts) new.places old.places no_place
         (is_new.places (comes.alone ∙ alone) ∙ shards_same ∙ sym (is_old.places alone))
         (λ i lt. ap (λ l. l.parts) (comes.layouts alone i));
   }
 
   pub pin_within : (i : ℕ) → i < length old.pins → pinned_at old i ≤ length old.seen
-  pin_within i lt =
-      let place = is_old.each alone i (omega (arith, lt, is_old.pins)) in
-      omega (arith, is_old.pinned i (omega (arith, lt, is_old.pins)), place.left, place.within)
+  pin_within i lt = is_old.pinned_within i (omega (arith, lt, is_old.pins))
+
+  -- pins that are further leave fewer entries
+  pub fewer_beyond : (most : ℕ) → entries_beyond (map pin_position new.pins) most ≤ entries_beyond (map pin_position old.pins) most
+  fewer_beyond most =
+      beyond_less old.pins new.pins most comes.number (λ i lt. comes.rises i (pin_within i lt))
 
 -- ---- the layouts of a desk
 

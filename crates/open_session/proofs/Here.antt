@@ -1,16 +1,17 @@
 -- One line as a session meets it, and a step that commits and builds nothing.
-use Rattle.std.proofs.Common.{◌≡◌, ℕ, List, [], ◌∷◌, ◌++◌, length, map, take, Option}
-use Rattle.std.proofs.Common.{Result, Ok, Err, OnOk, refl, sym, ap, ◌∙◌, subst, arith, append-nil}
+use Rattle.std.proofs.Common.{◌≡◌, ◌≢◌, ◌≤◌, ℕ, true, List, [], ◌∷◌, ◌++◌, length, map, take, Option}
+use Rattle.std.proofs.Common.{Result, Ok, Err, OnOk, refl, sym, ap, ◌∙◌, subst, arith, append-nil, append_assoc, length-append}
 use Rattle.std.specs.List.{AllByRecursion}
-use Rattle.std.proofs.lemmas.List.{take_at}
+use Rattle.std.proofs.lemmas.List.{take_at, take-append-le, map-append}
 use Rattle.line_io.specs.declared.source.Failed.{Failed}
 use Rattle.hamming_model.specs.History.{JournalEntry, Operation}
-use Rattle.hamming_model.specs.Recoded.{cut_history}
+use Rattle.hamming_model.specs.Recoded.{cut_entry, cut_history}
 use Rattle.part_layout.specs.declared.config.Config.{Config}
 use Rattle.query_protocol.specs.Requests.{LineReading}
 use Rattle.query_protocol.specs.Lines.{reading}
 use Rattle.query_protocol.specs.Replies.{text, reply_line, LineReply}
-use Rattle.session_desk.specs.Desks.{DeskState}
+use Rattle.session_desk.specs.Calls.{Learns, OnlyLearns}
+use Rattle.session_desk.specs.Desks.{DeskState, seen_history}
 use Rattle.layout_search.specs.Improves.{plain_sample}
 use Rattle.session_model.specs.State.{Query, State, open_queries}
 use Rattle.session_model.specs.Searches.{samples_of}
@@ -20,14 +21,19 @@ use Rattle.session_model.specs.Told.{pinned_by}
 use Rattle.session_model.specs.Upkeep.{other_steps}
 use Rattle.session_model.specs.Commits.{accepted, committed, commit_of}
 use Rattle.open_queries.specs.Writing.{Writes}
-use Rattle.open_session.specs.KeptDesk.{KeepsDesk}
+use Rattle.session_model.specs.Ledger.{Ledgers}
+use Rattle.open_session.specs.Cursors.{Cursor}
+use Rattle.open_session.specs.Growth.{HistoryGrows, IsAside}
+use Rattle.open_session.specs.KeptDesk.{KeepsDesk, pins_of}
 use Rattle.open_session.specs.Pinned.{TellsPinned}
 use Rattle.open_session.specs.Moments.{Moment, ReadsTo, Spends}
 use Rattle.open_session.specs.Meaning.{Means, AllKeep, IsSettled}
 use Rattle.open_session.specs.PlainSteps.{PlainStep}
 use Rattle.open_session.specs.Samples.{MeansSamples}
 use Rattle.open_session.specs.Steps.{Stands}
-use Rattle.open_session.proofs.MomentLemmas.{reads_still, spends_still, desk_keeps}
+use Rattle.open_session.proofs.MomentLemmas.{as_long, only_keeps, reads_still, seen_longer, seen_whole, spends_seen}
+use Rattle.open_session.proofs.BoundLemmas.{all_settled_later}
+use Rattle.open_session.proofs.QueryLemmas.{keep_later}
 
 -- a line, and the session that meets it: what it was asked to be, the moment and the state that it
 -- means, and what the sink had before
@@ -66,15 +72,19 @@ pub writes_one : {A : Type 0} (before after : Option (List ℕ)) (result : Resul
 writes_one before after result this wrote =
     subst (Writes before after result) (sym (append-nil (reply_line this))) wrote
 
--- an exchange that a session at this line may have, at a position
-abbrev pub exchange_here : {W : ℕ} → Here W → List LineReply → ℕ → Exchange
-exchange_here p replies at =
-    record { line = p.line; replies = replies; position = at; layouts = p.s.layouts; seen = at }
+-- an exchange that a session at this line may have, at a position, where its line saw these layouts
+abbrev pub exchange_at : {W : ℕ} → Here W → Moment W → List LineReply → ℕ → List (List (List ℕ)) → Exchange
+exchange_at p new replies at layouts = record {
+  line = p.line;
+  replies = replies;
+  position = at;
+  layouts = layouts;
+  seen = length new.desk.seen;
+}
 
--- the entries up to the last position are the history, whatever comes later
-pub prefix_here : {W : ℕ} (p : Here W) (later : List JournalEntry)
-    → take p.s.position (p.history ++ later) ≡ p.history
-prefix_here p later = take_at p.history later p.s.position (sym p.stands.means.position)
+-- the same, where it saw the layouts of the state
+abbrev pub exchange_here : {W : ℕ} → Here W → Moment W → List LineReply → ℕ → Exchange
+exchange_here p new replies at = exchange_at p new replies at p.s.layouts
 
 -- the samples in memory are those of queries that have the same ones
 pub samples_here : {W : ℕ} (p : Here W) (new : Moment W) (queries : List Query) → new.samples ≡ p.old.samples
@@ -82,21 +92,102 @@ pub samples_here : {W : ℕ} (p : Here W) (new : Moment W) (queries : List Query
 samples_here p new queries same stay =
     ap (map (plain_sample p.config.bits)) same ∙ p.stands.samples ∙ sym stay
 
--- ---- a desk that has seen no more
+-- ---- a desk that has learned more
 
-pub means_to : (config : Config) (old new : DeskState) (history : List JournalEntry) (s t : State)
-    → Means config old history s → KeepsDesk old new → new.seen ≡ old.seen
-    → t.position ≡ s.position → t.who ≡ s.who → t.layouts ≡ s.layouts → Means config new history t
-means_to config old new history s t means keeps seen position who layouts = record {
-  config_is = keeps.config ∙ means.config_is;
-  alone = keeps.alone ∙ means.alone;
-  history_is = means.history_is
-      ∙ ap (λ (c : Config). cut_history c.bits old.seen) (sym keeps.config)
-      ∙ ap (cut_history new.config.bits) (sym seen);
-  position = position ∙ means.position;
-  who = who ∙ means.who ∙ sym keeps.who;
-  layouts = layouts ∙ means.layouts ∙ sym keeps.layouts;
-  are_layouts = subst (AreLayouts config) (sym layouts) means.are_layouts;
+-- the entries up to a position, whatever comes later
+pub front_of : (desk : DeskState) (later : List JournalEntry) (at : ℕ) → at ≤ length desk.seen
+    → take at (seen_history desk ++ later) ≡ take at (seen_history desk)
+front_of desk later at within = take-append-le at (seen_history desk) later (omega (arith, within, as_long desk))
+
+-- all that was seen, whatever comes later
+pub prefix_of : (desk : DeskState) (later : List JournalEntry) (at : ℕ) → at ≡ length desk.seen
+    → take at (seen_history desk ++ later) ≡ seen_history desk
+prefix_of desk later at is = take_at (seen_history desk) later at (as_long desk ∙ sym is)
+
+-- a position of what was seen, whatever comes later
+pub inside_of : (desk : DeskState) (later : List JournalEntry) (at : ℕ) → at ≤ length desk.seen
+    → at ≤ length (seen_history desk ++ later)
+inside_of desk later at within = omega (arith, within, as_long desk, length-append (seen_history desk) later)
+
+-- others' entries are others' in whatever codes
+others_cut : (bits who : ℕ) (entries : List JournalEntry) → AllByRecursion (λ entry. entry.who ≢ who) entries
+    → AllByRecursion (λ entry. entry.who ≢ who) (cut_history bits entries)
+others_cut bits who [] all = tt
+others_cut bits who (entry ∷ entries) all = (all.0, others_cut bits who entries all.1)
+
+module _ {W : ℕ} (p : Here W) where
+  -- all that the desk has seen
+  pub seen_here : length p.old.desk.seen ≡ length p.history
+  seen_here = sym (as_long p.old.desk) ∙ ap length (sym p.stands.means.history_is)
+
+  pub within_here : p.s.position ≤ length p.old.desk.seen
+  within_here = omega (arith, seen_here, p.stands.means.within)
+
+  module _ (new : DeskState) (learns : Learns p.old.desk new.seen) where
+    pub within_new : p.s.position ≤ length new.seen
+    within_new = omega (arith, within_here, seen_longer p.old.desk new.seen learns)
+
+    -- which the session has answered on, where it is alone
+    pub whole_here : p.old.desk.alone ≡ true → length new.seen ≡ p.s.position
+    whole_here alone = ap length (seen_whole p.old.desk new.seen learns alone) ∙ seen_here ∙ sym (p.stands.means.whole alone)
+
+    module _ (config : new.config ≡ p.old.desk.config) where
+      -- what was learned
+      abbrev pub learned : List JournalEntry
+      learned = cut_history new.config.bits learns.more
+
+      pub history_learned : seen_history new ≡ p.history ++ learned
+      history_learned =
+          ap (cut_history new.config.bits) learns.longer
+          ∙ map-append (cut_entry new.config.bits) p.old.desk.seen learns.more
+          ∙ ap (λ (c : Config). cut_history c.bits p.old.desk.seen ++ learned) config
+          ∙ ap (λ h. h ++ learned) (sym p.stands.means.history_is)
+
+      -- the history grows by what was learned
+      pub grows_by : (committed : List JournalEntry) → committed ≡ []
+          → HistoryGrows p.old.desk.alone p.s.who p.history committed (seen_history new)
+      grows_by committed nothing = record {
+        more = learned;
+        others = others_cut new.config.bits p.s.who learns.more
+            (subst (λ who. AllByRecursion (λ (entry : JournalEntry). entry.who ≢ who) learns.more)
+            (sym p.stands.means.who) learns.others);
+        none = λ alone. ap (cut_history new.config.bits) (learns.all alone);
+        after_is = history_learned ∙ sym (append-nil (p.history ++ learned))
+            ∙ ap (λ l. (p.history ++ learned) ++ l) (sym nothing);
+      }
+
+      -- what holds whatever comes behind the history
+      pub later_learned : (P : List JournalEntry → Type 0) → ((later : List JournalEntry) → P (p.history ++ later))
+          → (later : List JournalEntry) → P (seen_history new ++ later)
+      later_learned P holds later =
+          subst P (sym (append_assoc p.history learned later) ∙ ap (λ h. h ++ later) (sym history_learned))
+          (holds (learned ++ later))
+
+      pub settled_learned : (queries : List Query) → AllByRecursion (IsSettled p.config p.history) queries
+          → AllByRecursion (IsSettled p.config (seen_history new)) queries
+      settled_learned queries all =
+          subst (λ h. AllByRecursion (IsSettled p.config h) queries) (sym history_learned)
+          (all_settled_later p.config p.history learned queries all)
+
+      pub keep_learned : (cursors : List (Cursor W)) (queries : List Query)
+          → AllKeep p.config p.history cursors queries → AllKeep p.config (seen_history new) cursors queries
+      keep_learned cursors queries keep =
+          subst (λ h. AllKeep p.config h cursors queries) (sym history_learned)
+          (keep_later p.config p.history learned cursors queries keep)
+
+-- the state that a desk means which has learned more
+pub means_to : {W : ℕ} (p : Here W) (new : DeskState) (t : State) → KeepsDesk p.old.desk new
+    → t.position ≤ length new.seen → (p.old.desk.alone ≡ true → t.position ≡ length new.seen)
+    → t.who ≡ p.s.who → t.layouts ≡ p.s.layouts → Means p.config new (seen_history new) t
+means_to p new t keeps within whole who layouts = record {
+  config_is = keeps.config ∙ p.stands.means.config_is;
+  history_is = refl;
+  within = omega (arith, within, as_long new);
+  whole = λ alone. whole (sym keeps.alone ∙ alone) ∙ sym (as_long new);
+  who = who ∙ p.stands.means.who ∙ sym keeps.who;
+  layouts = λ alone. layouts ∙ p.stands.means.layouts (sym keeps.alone ∙ alone)
+      ∙ sym (keeps.layouts (sym keeps.alone ∙ alone));
+  are_layouts = subst (AreLayouts p.config) (sym layouts) p.stands.means.are_layouts;
 }
 
 -- ---- queries that pinned the same
@@ -112,82 +203,114 @@ pinned_still p new t pinned same =
 
 module _ {A : Type 0} {W : ℕ} (p : Here W) (after : Option (List ℕ)) (result : Result A Failed)
     (new : Moment W) (asked : LineReading) (replies : List LineReply) (t : State)
-    (is : asked_here p ≡ asked) (none : accepted asked replies ≡ []) where
-  abbrev exchange : Exchange
-  exchange = exchange_here p replies p.s.position
+    (is : asked_here p ≡ asked) (none : accepted asked replies ≡ []) (at : ℕ) where
+  module _ (layouts : List (List (List ℕ))) where
+    abbrev exchange : Exchange
+    exchange = exchange_at p new replies at layouts
 
-  -- the session commits nothing
-  pub no_commit : (who : ℕ) → commit_of who p.config exchange ≡ []
-  no_commit who =
-      ap (λ r. committed who r replies) is
-      ∙ ap (λ (l : List Operation). map {B = JournalEntry} (λ o. record { who = who; operation = o }) l) none
+    -- the session commits nothing
+    pub no_commit : commit_of p.s.who p.config exchange ≡ []
+    no_commit =
+        ap (λ r. committed p.s.who r replies) is
+        ∙ ap (λ (l : List Operation). map {B = JournalEntry} (λ o. record { who = p.s.who; operation = o }) l) none
 
-  pub same_history : p.history ++ commit_of p.s.who p.config exchange ≡ p.history
-  same_history = ap (λ l. p.history ++ l) (no_commit p.s.who) ∙ append-nil p.history
+    -- and is alone, if it was
+    pub aside_here : Learns p.old.desk new.desk.seen → (p.old.desk.alone ≡ true → at ≡ p.s.position)
+        → (p.old.desk.alone ≡ true → layouts ≡ p.s.layouts) → IsAside p.old.desk.alone p.config p.s exchange
+    aside_here learns stays same = λ alone. record {
+      position = omega (arith, stays alone, ap length no_commit);
+      layouts = same alone;
+      seen = whole_here p new.desk learns alone ∙ sym (stays alone);
+    }
 
-  pub quiet_by : ((later : List JournalEntry)
-      → Answers asked p.config (p.history ++ later) p.s (exchange_here p replies p.s.position) t)
+    pub quiet_by : Learns p.old.desk new.desk.seen → (p.old.desk.alone ≡ true → at ≡ p.s.position)
+        → AreLayouts p.config layouts → (p.old.desk.alone ≡ true → layouts ≡ p.s.layouts)
+        → ((later : List JournalEntry) → Answers asked p.config (seen_history new.desk ++ later) p.s exchange t)
+        → Writes p.before after result (text replies)
+        → ReadsTo p.old.ledgers.reads new.ledgers.reads p.s.queries t.queries
+        → Spends p.old.desk new.desk p.old.ledgers.upkeep new.ledgers.upkeep
+        (other_steps p.config.shards replies (length new.desk.seen))
+        → AllByRecursion (IsSettled p.config (seen_history new.desk)) t.queries
+        → MeansSamples p.config.bits new.samples t.queries
+        → Means p.config new.desk (seen_history new.desk) t → KeepsDesk p.old.desk new.desk
+        → OnOk result (AllKeep p.config (seen_history new.desk) new.cursors (open_queries t.queries))
+        → TellsPinned p.config.shards new.pinned (pinned_by t.queries)
+        → new.position ≡ t.position → StepTo p after result new
+    quiet_by learns stays are same answers wrote reads spent settled samples means keeps keep pinned position = record {
+      exchange = exchange;
+      state = t;
+      is_line = refl;
+      past = seen_history new.desk;
+      grows = grows_by p new.desk learns keeps.config (commit_of p.s.who p.config exchange) no_commit;
+      step = λ later. record {
+        layouts = are;
+        answers = subst (λ r. Answers r p.config (seen_history new.desk ++ later) p.s exchange t) (sym is)
+            (answers later);
+      };
+      aside = aside_here learns stays same;
+      seen = sym (as_long new.desk);
+      wrote = wrote;
+      reads = reads;
+      spent = spent;
+      settled = settled;
+      samples = samples;
+      means = means;
+      keeps = keeps;
+      keep = keep;
+      pinned = pinned;
+      position = position;
+    }
+
+  -- a step over a desk that only learned
+  pub quiet_learns : OnlyLearns p.old.desk new.desk → (p.old.desk.alone ≡ true → at ≡ p.s.position)
+      → at ≤ length new.desk.seen
+      → ((later : List JournalEntry)
+      → Answers asked p.config (seen_history new.desk ++ later) p.s (exchange_here p new replies at) t)
       → Writes p.before after result (text replies)
       → ReadsTo p.old.ledgers.reads new.ledgers.reads p.s.queries t.queries
-      → Spends p.old.desk new.desk p.old.ledgers.upkeep new.ledgers.upkeep
-      (other_steps p.config.shards replies p.s.position)
+      → new.ledgers.upkeep ≡ p.old.ledgers.upkeep
       → AllByRecursion (IsSettled p.config p.history) t.queries
       → MeansSamples p.config.bits new.samples t.queries
-      → Means p.config new.desk p.history t → KeepsDesk p.old.desk new.desk
+      → t.position ≡ at → t.who ≡ p.s.who → t.layouts ≡ p.s.layouts
       → OnOk result (AllKeep p.config p.history new.cursors (open_queries t.queries))
       → TellsPinned p.config.shards new.pinned (pinned_by t.queries)
       → new.position ≡ t.position → StepTo p after result new
-  quiet_by answers wrote reads spent settled samples means keeps keep pinned position =
-      let past = p.history ++ commit_of p.s.who p.config exchange in
-      record {
-        exchange = exchange;
-        state = t;
-        is_line = refl;
-        step = λ later. record {
-          layouts = p.stands.means.are_layouts;
-          answers = subst (λ r. Answers r p.config (past ++ later) p.s exchange t) (sym is)
-              (subst (λ h. Answers asked p.config (h ++ later) p.s exchange t) (sym same_history)
-              (answers later));
-        };
-        alone = record {
-          position = omega (arith, ap length (no_commit p.s.who));
-          layouts = refl;
-          seen = refl;
-        };
-        wrote = wrote;
-        reads = reads;
-        spent = spent;
-        settled = subst (λ h. AllByRecursion (IsSettled p.config h) t.queries) (sym same_history) settled;
-        samples = samples;
-        means = subst (λ h. Means p.config new.desk h t) (sym same_history) means;
-        keeps = keeps;
-        keep = subst (λ h. OnOk result (AllKeep p.config h new.cursors (open_queries t.queries)))
-            (sym same_history) keep;
-        pinned = pinned;
-        position = position;
-      }
+  quiet_learns only stays within answers wrote reads upkeep settled samples there who layouts keep pinned position =
+      let keeps = only_keeps p.old.desk new.desk only in
+      let learns = only.learns in
+      let steps = p.old.ledgers.upkeep in
+      let beside = other_steps p.config.shards replies (length new.desk.seen) in
+      quiet_by p.s.layouts learns stays p.stands.means.are_layouts (λ alone. refl) answers wrote reads
+      (subst (λ n. Spends p.old.desk new.desk steps n beside) (sym upkeep)
+      (spends_seen p.old.desk new.desk steps beside (seen_longer p.old.desk new.desk.seen learns) (ap pins_of only.after)))
+      (settled_learned p new.desk learns keeps.config t.queries settled) samples
+      (means_to p new.desk t keeps (omega (arith, within, there))
+      (λ alone. there ∙ stays alone ∙ sym (whole_here p new.desk learns alone)) who layouts)
+      keeps
+      (on_ok_then result (AllKeep p.config p.history new.cursors (open_queries t.queries)) _
+      (keep_learned p new.desk learns keeps.config new.cursors (open_queries t.queries)) keep)
+      pinned position
 
--- a step that changes nothing but what the cursors planned last
+-- a step that changes nothing but what the desk has seen and what the cursors planned last
 pub quiet : {A : Type 0} {W : ℕ} (p : Here W) (after : Option (List ℕ)) (result : Result A Failed)
     (new : Moment W) (asked : LineReading) (replies : List LineReply) → asked_here p ≡ asked
-    → accepted asked replies ≡ [] → new.desk ≡ p.old.desk → new.ledgers ≡ p.old.ledgers
+    → accepted asked replies ≡ [] → OnlyLearns p.old.desk new.desk → new.ledgers ≡ p.old.ledgers
     → new.pinned ≡ p.old.pinned → new.position ≡ p.old.position → new.samples ≡ p.old.samples
     → AllKeep p.config p.history new.cursors (open_queries p.s.queries)
     → ((later : List JournalEntry)
-    → Answers asked p.config (p.history ++ later) p.s (exchange_here p replies p.s.position) p.s)
+    → Answers asked p.config (p.history ++ later) p.s (exchange_here p new replies p.s.position) p.s)
     → Writes p.before after result (text replies) → StepTo p after result new
-quiet p after result new asked replies is none desk ledgers pinned position samples keep answers wrote =
-    let beside = other_steps p.config.shards replies p.s.position in
+quiet p after result new asked replies is none only ledgers pinned position samples keep answers wrote =
     let s = p.s in
-    quiet_by p after result new asked replies s is none answers wrote
+    quiet_learns p after result new asked replies s is none s.position only (λ alone. refl)
+    (within_new p new.desk only.learns)
+    (later_learned p new.desk only.learns (ap (λ (d : DeskState). d.config) only.after)
+    (λ h. Answers asked p.config h s (exchange_here p new replies s.position) s) answers)
+    wrote
     (subst (λ l. ReadsTo p.old.ledgers.reads l.reads s.queries s.queries) (sym ledgers)
     (reads_still p.old.ledgers.reads s.queries))
-    (subst (λ l. Spends p.old.desk new.desk p.old.ledgers.upkeep l.upkeep beside) (sym ledgers)
-    (subst (λ d. Spends p.old.desk d p.old.ledgers.upkeep p.old.ledgers.upkeep beside) (sym desk)
-    (spends_still p.old.desk p.old.ledgers.upkeep beside)))
-    p.stands.settled (samples_here p new s.queries samples refl)
-    (subst (λ d. Means p.config d p.history s) (sym desk) p.stands.means)
-    (subst (KeepsDesk p.old.desk) (sym desk) (desk_keeps p.old.desk))
+    (ap (λ (l : Ledgers). l.upkeep) ledgers)
+    p.stands.settled (samples_here p new s.queries samples refl) refl refl refl
     (on_ok result (AllKeep p.config p.history new.cursors (open_queries s.queries)) keep)
     (pinned_still p new s pinned refl)
     (position ∙ p.stands.position)

@@ -1,15 +1,15 @@
 -- Lemmas on what a session has read and spent from one moment to another.
 use Rattle.std.proofs.Common.{◌≡◌, ℕ, ◌+◌, ◌≤◌, List, [], ◌∷◌, ◌++◌, length, map}
-use Rattle.std.proofs.Common.{true, refl, ap, ◌∙◌, arith, append-nil}
+use Rattle.std.proofs.Common.{true, refl, ap, ◌∙◌, arith, append-nil, length-append}
 use Rattle.std.proofs.lemmas.List.{map-append, length-map}
 use Rattle.hamming_model.specs.History.{JournalEntry}
 use Rattle.session_desk.specs.Desks.{DeskState, seen_history}
-use Rattle.session_desk.specs.Calls.{OnlyLearns}
+use Rattle.session_desk.specs.Calls.{Learns, OnlyLearns}
 use Rattle.session_model.specs.State.{Query}
 use Rattle.session_model.specs.Entries.{Exchange}
 use Rattle.session_model.specs.Ledger.{sum_of}
 use Rattle.session_model.specs.Upkeep.{entries_beyond, other_steps, all_other_steps}
-use Rattle.open_session.specs.KeptDesk.{KeepsDesk, pins_of}
+use Rattle.open_session.specs.KeptDesk.{KeepsDesk, layouts_of, pins_of}
 use Rattle.open_session.specs.Moments.{ReadsTo, Spends}
 
 -- ---- the ledgers of the queries
@@ -79,12 +79,33 @@ desk_keeps desk = record {
   done = refl;
   late = refl;
   alone = refl;
-  layouts = refl;
+  layouts = λ alone. refl;
+}
+
+-- what is seen is no shorter
+pub seen_longer : (old : DeskState) (seen : List JournalEntry) → Learns old seen → length old.seen ≤ length seen
+seen_longer old seen learns = omega (arith, ap length learns.longer, length-append old.seen learns.more)
+
+-- a desk that is alone has seen all
+pub seen_whole : (old : DeskState) (seen : List JournalEntry) → Learns old seen → old.alone ≡ true → seen ≡ old.seen
+seen_whole old seen learns alone =
+    learns.longer ∙ ap (λ l. old.seen ++ l) (learns.all alone) ∙ append-nil old.seen
+
+-- a desk that only learns keeps all else
+pub only_keeps : (old new : DeskState) → OnlyLearns old new → KeepsDesk old new
+only_keeps old new only = record {
+  board = ap (λ (d : DeskState). d.board) only.after;
+  who = ap (λ (d : DeskState). d.who) only.after;
+  config = ap (λ (d : DeskState). d.config) only.after;
+  fronts = ap (λ (d : DeskState). d.fronts) only.after;
+  done = ap (λ (d : DeskState). d.done) only.after;
+  late = ap (λ (d : DeskState). d.late) only.after;
+  alone = ap (λ (d : DeskState). d.alone) only.after;
+  layouts = λ alone. ap layouts_of only.after;
 }
 
 -- a desk that is alone learns nothing
 pub learns_nothing : (old new : DeskState) → old.alone ≡ true → OnlyLearns old new → new ≡ old
 learns_nothing old new alone only =
-    let same : new.seen ≡ old.seen =
-    only.learns.longer ∙ ap (λ l. old.seen ++ l) (only.learns.all alone) ∙ append-nil old.seen in
+    let same : new.seen ≡ old.seen = seen_whole old new.seen only.learns alone in
     only.after ∙ ap (λ (l : List JournalEntry). record old { seen = l }) same

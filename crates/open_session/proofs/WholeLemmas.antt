@@ -11,8 +11,8 @@ use Rattle.query_protocol.specs.declared.request.Request.{Request}
 use Rattle.query_protocol.specs.declared.request.Request.TheVariants as request
 use Rattle.query_protocol.specs.Lines.{reading}
 use Rattle.query_protocol.specs.Replies.{text, reply_line, LineReply}
-use Rattle.session_desk.specs.Calls.{one_more}
-use Rattle.session_desk.specs.Desks.{DeskState}
+use Rattle.session_desk.specs.Calls.{Learns, one_more}
+use Rattle.session_desk.specs.Desks.{DeskState, seen_history}
 use Rattle.session_model.specs.State.{Build, State, open_queries}
 use Rattle.session_model.specs.Builds.{was_moved, was_swapped}
 use Rattle.session_model.specs.Step.{Answers}
@@ -29,8 +29,10 @@ use Rattle.open_session.specs.Moments.{Moment, Point, ReadsTo}
 use Rattle.open_session.specs.Samples.{MeansSamples}
 use Rattle.open_session.specs.PlainSteps.{AnswersPlainlyBetween}
 use Rattle.open_session.specs.Steps.{AnswersBetween, OneStep, SpendsWithBuild}
-use Rattle.open_session.proofs.Here.{Here, StepTo, asked_here, exchange_here, here_of, on_ok, same_history, no_commit, writes_one}
-use Rattle.open_session.proofs.MomentLemmas.{reads_still}
+use Rattle.open_session.proofs.Here.{Here, StepTo, aside_here, asked_here, exchange_here, grows_by, here_of, keep_learned, later_learned, no_commit}
+use Rattle.open_session.proofs.Here.{on_ok, settled_learned, writes_one}
+use Rattle.open_session.proofs.DeskLemmas.{only_still}
+use Rattle.open_session.proofs.MomentLemmas.{as_long, reads_still}
 use Rattle.open_session.proofs.PlainLemmas.{BuildsNothing, TellsNoBuild, answers_plain, is_plain}
 
 -- a step that leads to this moment, with the build
@@ -46,7 +48,7 @@ leaves old new keeps = record {
   who = keeps.who;
   config = keeps.config;
   fronts = keeps.fronts;
-  late = keeps.late;
+  late = λ alone. keeps.late;
   alone = keeps.alone;
 }
 
@@ -94,7 +96,7 @@ module _ {A : Type 0} {W : ℕ} (p : Here W) (after : Option (List ℕ)) (result
 
   nothing : BuildsNothing p.s step.state told
   nothing =
-      let past = (p.history ++ commit_of p.s.who p.config step.exchange) ++ [] in
+      let past = step.past ++ [] in
       answers_plain p.config past p.s step.exchange step.state asked plain
       (subst (λ r. Answers r p.config past p.s step.exchange step.state)
       (ap (reading p.config) step.is_line ∙ is) (step.step []).answers)
@@ -122,9 +124,12 @@ module _ {A : Type 0} {W : ℕ} (p : Here W) (after : Option (List ℕ)) (result
     exchange = step.exchange;
     state = step.state;
     is_line = step.is_line;
+    past = step.past;
+    grows = step.grows;
     step = step.step;
-    alone = step.alone;
-    unmoved = nothing.tells.moved;
+    aside = step.aside;
+    seen = step.seen;
+    unmoved = λ alone. nothing.tells.moved;
     wrote = step.wrote;
     reads = step.reads;
     spent = spends_here;
@@ -144,53 +149,50 @@ module _ {A : Type 0} {W : ℕ} (p : Here W) (after : Option (List ℕ)) (result
 
 module _ {A : Type 0} {W : ℕ} (p : Here W) (after : Option (List ℕ)) (result : Result A Failed)
     (new : Moment W) (asked : LineReading) (replies : List LineReply) (t : State)
-    (is : asked_here p ≡ asked) (none : accepted asked replies ≡ []) where
-  pub whole_by : ((later : List JournalEntry)
-      → Answers asked p.config (p.history ++ later) p.s (exchange_here p replies p.s.position) t)
-      → was_moved replies ≡ false → Writes p.before after result (text replies)
+    (is : asked_here p ≡ asked) (none : accepted asked replies ≡ []) (at : ℕ) where
+  pub whole_by : Learns p.old.desk new.desk.seen → (p.old.desk.alone ≡ true → at ≡ p.s.position)
+      → ((later : List JournalEntry)
+      → Answers asked p.config (seen_history new.desk ++ later) p.s (exchange_here p new replies at) t)
+      → (p.old.desk.alone ≡ true → was_moved replies ≡ false) → Writes p.before after result (text replies)
       → ReadsTo p.old.ledgers.reads new.ledgers.reads p.s.queries t.queries
       → ((from : ℕ) → StandsFrom from p.old.build → SpendsWithBuild p.old new from
-      (other_steps p.config.shards replies p.s.position) replies)
+      (other_steps p.config.shards replies (length new.desk.seen)) replies)
       → AllByRecursion (IsSettled p.config p.history) t.queries
       → MeansSamples p.config.bits new.samples t.queries
-      → Means p.config new.desk p.history t → MeansBuild new.desk new.build t.build
+      → Means p.config new.desk (seen_history new.desk) t → MeansBuild new.desk new.build t.build
       → LeavesDesk p.old.desk new.desk
       → new.desk.done ≡ cond (was_swapped replies) (one_more p.old.desk.done) p.old.desk.done
-      → OnOk result (AllKeep p.config p.history new.cursors (open_queries t.queries))
+      → AllKeep p.config p.history new.cursors (open_queries t.queries)
       → TellsPinned p.config.shards new.pinned (pinned_by t.queries)
       → new.position ≡ t.position → WholeTo p after result new
-  whole_by answers unmoved wrote reads spent settled samples means build keeps done keep pinned position =
-      let exchange = exchange_here p replies p.s.position in
-      let past = p.history ++ commit_of p.s.who p.config exchange in
-      let same : past ≡ p.history = same_history p after result new asked replies t is none in
-      let commits = no_commit p after result new asked replies t is none p.s.who in
+  whole_by learns stays answers unmoved wrote reads spent settled samples means build keeps done keep pinned position =
+      let exchange = exchange_here p new replies at in
+      let past = seen_history new.desk in
       record {
         exchange = exchange;
         state = t;
         is_line = refl;
+        past = past;
+        grows = grows_by p new.desk learns keeps.config (commit_of p.s.who p.config exchange)
+            (no_commit p after result new asked replies t is none at p.s.layouts);
         step = λ later. record {
           layouts = p.stands.means.are_layouts;
-          answers = subst (λ r. Answers r p.config (past ++ later) p.s exchange t) (sym is)
-              (subst (λ h. Answers asked p.config (h ++ later) p.s exchange t) (sym same)
-              (answers later));
+          answers = subst (λ r. Answers r p.config (past ++ later) p.s exchange t) (sym is) (answers later);
         };
-        alone = record {
-          position = omega (arith, ap length commits);
-          layouts = refl;
-          seen = refl;
-        };
+        aside = aside_here p after result new asked replies t is none at p.s.layouts learns stays (λ alone. refl);
+        seen = sym (as_long new.desk);
         unmoved = unmoved;
         wrote = wrote;
         reads = reads;
         spent = spent;
-        settled = subst (λ h. AllByRecursion (IsSettled p.config h) t.queries) (sym same) settled;
+        settled = settled_learned p new.desk learns keeps.config t.queries settled;
         samples = samples;
-        means = subst (λ h. Means p.config new.desk h t) (sym same) means;
+        means = means;
         build = build;
         keeps = keeps;
         done = done;
-        keep = subst (λ h. OnOk result (AllKeep p.config h new.cursors (open_queries t.queries)))
-            (sym same) keep;
+        keep = on_ok result (AllKeep p.config past new.cursors (open_queries t.queries))
+            (keep_learned p new.desk learns keeps.config new.cursors (open_queries t.queries) keep);
         pinned = pinned;
         position = position;
       }
@@ -200,22 +202,27 @@ pub still_whole : {A : Type 0} {W : ℕ} (p : Here W) (after : Option (List ℕ)
     (asked : LineReading) (this : LineReply) → asked_here p ≡ asked → accepted asked (this ∷ []) ≡ []
     → TellsNoBuild (this ∷ [])
     → ((later : List JournalEntry)
-    → Answers asked p.config (p.history ++ later) p.s (exchange_here p (this ∷ []) p.s.position) p.s)
+    → Answers asked p.config (p.history ++ later) p.s (exchange_here p p.old (this ∷ []) p.s.position) p.s)
     → Writes p.before after result (reply_line this) → WholeTo p after result p.old
 still_whole p after result asked this is none tells answers wrote =
     let old = p.old in
-    whole_by p after result old asked (this ∷ []) p.s is none answers tells.moved
+    let learns = (only_still old.desk old.desk refl).learns in
+    whole_by p after result old asked (this ∷ []) p.s is none p.s.position learns (λ alone. refl)
+    (later_learned p old.desk learns refl
+    (λ h. Answers asked p.config h p.s (exchange_here p old (this ∷ []) p.s.position) p.s) answers)
+    (λ alone. tells.moved)
     (writes_one p.before after result this wrote)
     (reads_still old.ledgers.reads p.s.queries)
     (λ from stands. record {
       spent = record { longer = omega arith; within = λ most le. omega arith };
       stands = subst (λ n. StandsFrom n old.build) (sym (tells.at from)) stands;
     })
-    p.stands.settled p.stands.samples p.stands.means p.stands.build
-    (record { board = refl; who = refl; config = refl; fronts = refl; late = refl; alone = refl })
+    p.stands.settled p.stands.samples
+    (subst (λ h. Means p.config old.desk h p.s) p.stands.means.history_is p.stands.means)
+    p.stands.build
+    (record { board = refl; who = refl; config = refl; fronts = refl; late = λ alone. refl; alone = refl })
     (sym (ap (λ b. cond b (one_more old.desk.done) old.desk.done) tells.swapped))
-    (on_ok result (AllKeep p.config p.history old.cursors (open_queries p.s.queries)) p.stands.keep)
-    p.stands.pinned p.stands.position
+    p.stands.keep p.stands.pinned p.stands.position
 
 -- ---- a request that isn't on builds
 

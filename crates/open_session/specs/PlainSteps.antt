@@ -1,5 +1,5 @@
 -- One step of a session in which nothing is built: all requests but those on builds.
-use Rattle.std.specs.Prelude.{◌≡◌, ℕ, Option, Some, Result, Ok, OnOk, List, ◌++◌}
+use Rattle.std.specs.Prelude.{◌≡◌, ℕ, Option, Some, Result, Ok, OnOk, List, ◌++◌, length}
 use Rattle.std.specs.List.{AllByRecursion}
 use Rattle.line_io.specs.declared.source.Failed.{Failed}
 use Rattle.hamming_model.specs.History.{JournalEntry}
@@ -37,6 +37,7 @@ pub record PlainStep {A : Type 0} (W : ℕ) (config : Config) (history : List Jo
       HistoryGrows old.desk.alone s.who history (commit_of s.who config exchange) past
   pub step : (later : List JournalEntry) → Step config (past ++ later) s exchange state
   pub aside : IsAside old.desk.alone config s exchange
+  pub seen : exchange.seen ≡ length past
   pub wrote : Writes before after result (text exchange.replies)
   pub reads : ReadsTo old.ledgers.reads new.ledgers.reads s.queries state.queries
   pub spent : Spends old.desk new.desk old.ledgers.upkeep new.ledgers.upkeep

@@ -1,5 +1,5 @@
 -- One step of a session, from one moment to the next.
-use Rattle.std.specs.Prelude.{◌≡◌, ℕ, ◌+◌, false, Option, Some, Result, Ok, OnOk, true, List, ◌++◌, if◌then◌else◌}
+use Rattle.std.specs.Prelude.{◌≡◌, ℕ, ◌+◌, false, Option, Some, Result, Ok, OnOk, true, List, ◌++◌, length, if◌then◌else◌}
 use Rattle.std.specs.List.{AllByRecursion}
 use Rattle.line_io.specs.declared.source.Failed.{Failed}
 use Rattle.hamming_model.specs.History.{JournalEntry}
@@ -58,6 +58,7 @@ pub record OneStep {A : Type 0} (W : ℕ) (config : Config) (history : List Jour
       HistoryGrows old.desk.alone s.who history (commit_of s.who config exchange) past
   pub step : (later : List JournalEntry) → Step config (past ++ later) s exchange state
   pub aside : IsAside old.desk.alone config s exchange
+  pub seen : exchange.seen ≡ length past
   pub unmoved : old.desk.alone ≡ true → was_moved exchange.replies ≡ false
   pub wrote : Writes before after result (text exchange.replies)
   pub reads : ReadsTo old.ledgers.reads new.ledgers.reads s.queries state.queries
