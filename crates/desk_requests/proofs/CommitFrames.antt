@@ -1,5 +1,5 @@
 -- Lemmas on what a commit keeps: what the desk is, and the builds that are of it.
-use Rattle.std.proofs.Common.{◌≡◌, ℕ, true, ap, inl, inr}
+use Rattle.std.proofs.Common.{◌≡◌, ℕ, ap, inl, inr}
 use Rattle.hamming_model.specs.History.{Operation}
 use Rattle.part_layout.specs.declared.config.Config.{Config}
 use Rattle.query_protocol.specs.Replies.{LineReply}
@@ -10,10 +10,9 @@ use Rattle.shard_rebuild.proofs.BuildLemmas.{build_lasts, commits_more}
 use Rattle.open_session.proofs.DeskLemmas.{IsHere, here_same, here_learns, builds_learn}
 
 pub here_commits : (config : Config) (old new : DeskState) (before position key : ℕ) (operation : Operation)
-    (this : LineReply) → CommitsAs old new before position key operation this → old.alone ≡ true
-    → old.config ≡ config → IsHere config new
+    (this : LineReply) → CommitsAs old new before position key operation this → old.config ≡ config
+    → IsHere config new
 here_commits config old new before position key operation this (inl decides) = here_same config old new
-    (ap (λ (d : DeskState). d.alone) decides.commits.after)
     (ap (λ (d : DeskState). d.config) decides.commits.after)
 here_commits config old new before position key operation this (inr no_memory) =
     here_learns config old new no_memory.learns

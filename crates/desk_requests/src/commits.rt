@@ -1,6 +1,6 @@
 //! `add`, `del` and `get`: the requests on the history.
 
-ghost use Rattle.std.specs.Prelude.{◌≡◌, ◌≤◌, ℕ, List, [], true, take, IfSome};
+ghost use Rattle.std.specs.Prelude.{◌≡◌, ◌≤◌, ℕ, List, [], take, IfSome};
 ghost use Rattle.gph_codes.specs.Allowed.{IsAllowed};
 ghost use Rattle.hamming_model.specs.declared.limits.TheConstants.{WORDS_MOST};
 ghost use Rattle.hamming_model.specs.Codes.{StandsFor};
@@ -37,7 +37,6 @@ pub fn add<const W: usize, D: Desk<W>, K: Sink>(
     sink: &mut K,
 ) -> Result<(), Failed>
     requires few_words { W ≤ WORDS_MOST }
-    requires alone { (D.desk desk.old).alone ≡ true }
     requires config { (D.desk desk.old).config ≡ config.now }
     requires code { StandsFor W config.now.bits code (take config.now.bits code) }
     ensures answers { AnswersUncounted (Add key (take config.now.bits code.entry)) result config.now
@@ -48,7 +47,6 @@ pub fn add<const W: usize, D: Desk<W>, K: Sink>(
     ensures requests { session.new.requests ≡ session.old.requests }
     ensures build { session.new.build ≡ session.old.build }
     ensures queries { session.new.queries ≡ session.old.queries }
-    ensures alone { (D.desk desk.new).alone ≡ true }
     ensures config { (D.desk desk.new).config ≡ config.now }
     ensures builds { KeepsBuilds (D.desk desk.old) (D.desk desk.new) }
     ensures cause { IsCaused (K.faults sink.old) (K.faults sink.new) result }
@@ -66,7 +64,6 @@ pub fn delete<const W: usize, D: Desk<W>, K: Sink>(
     sink: &mut K,
 ) -> Result<(), Failed>
     requires few_words { W ≤ WORDS_MOST }
-    requires alone { (D.desk desk.old).alone ≡ true }
     requires config { (D.desk desk.old).config ≡ config.now }
     ensures answers { AnswersUncounted (Del key) result config.now
         (D.desk desk.old) (D.desk desk.new) session.old session.new
@@ -76,7 +73,6 @@ pub fn delete<const W: usize, D: Desk<W>, K: Sink>(
     ensures requests { session.new.requests ≡ session.old.requests }
     ensures build { session.new.build ≡ session.old.build }
     ensures queries { session.new.queries ≡ session.old.queries }
-    ensures alone { (D.desk desk.new).alone ≡ true }
     ensures config { (D.desk desk.new).config ≡ config.now }
     ensures builds { KeepsBuilds (D.desk desk.old) (D.desk desk.new) }
     ensures cause { IsCaused (K.faults sink.old) (K.faults sink.new) result }
@@ -95,7 +91,6 @@ pub fn get<const W: usize, D: Desk<W>, K: Sink>(
 ) -> Result<(), Failed>
     requires few_words { W ≤ WORDS_MOST }
     requires allowed { IsAllowed W config.now.bits }
-    requires alone { (D.desk desk.old).alone ≡ true }
     requires config { (D.desk desk.old).config ≡ config.now }
     ensures answers { AnswersUncounted (Get key) result config.now
         (D.desk desk.old) (D.desk desk.new) session.old session.new
@@ -105,7 +100,6 @@ pub fn get<const W: usize, D: Desk<W>, K: Sink>(
     ensures requests { session.new.requests ≡ session.old.requests }
     ensures build { session.new.build ≡ session.old.build }
     ensures queries { session.new.queries ≡ session.old.queries }
-    ensures alone { (D.desk desk.new).alone ≡ true }
     ensures config { (D.desk desk.new).config ≡ config.now }
     ensures builds { KeepsBuilds (D.desk desk.old) (D.desk desk.new) }
     ensures cause { IsCaused (K.faults sink.old) (K.faults sink.new) result }

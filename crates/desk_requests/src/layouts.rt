@@ -1,6 +1,6 @@
 //! `layout`: the request on the layouts of the shards.
 
-ghost use Rattle.std.specs.Prelude.{◌≡◌, ◌<◌, true};
+ghost use Rattle.std.specs.Prelude.{◌≡◌, ◌<◌};
 ghost use Rattle.query_protocol.specs.Requests.{Layout};
 ghost use Rattle.open_queries.specs.Writing.{IsCaused};
 ghost use Rattle.open_session.specs.KeptBuild.{KeepsBuilds};
@@ -21,7 +21,6 @@ pub fn layout<const W: usize, D: Desk<W>, K: Sink>(
     shard: u32,
     sink: &mut K,
 ) -> Result<(), Failed>
-    requires alone { (D.desk desk.old).alone ≡ true }
     requires config { (D.desk desk.old).config ≡ config.now }
     requires shard { shard < config.now.shards }
     ensures answers { AnswersUncounted (Layout shard) result config.now (D.desk desk.old)
@@ -31,7 +30,6 @@ pub fn layout<const W: usize, D: Desk<W>, K: Sink>(
     ensures requests { session.new.requests ≡ session.old.requests }
     ensures build { session.new.build ≡ session.old.build }
     ensures queries { session.new.queries ≡ session.old.queries }
-    ensures alone { (D.desk desk.new).alone ≡ true }
     ensures config { (D.desk desk.new).config ≡ config.now }
     ensures builds { KeepsBuilds (D.desk desk.old) (D.desk desk.new) }
     ensures cause { IsCaused (K.faults sink.old) (K.faults sink.new) result }

@@ -8,8 +8,9 @@ use Rattle.session_desk.specs.Calls.{OnlyLearns, TellsLayout}
 use Rattle.open_session.specs.KeptBuild.{KeepsBuilds}
 use Rattle.shard_rebuild.specs.ShardBuilds.{SeesMore}
 use Rattle.shard_rebuild.proofs.BuildLemmas.{build_lasts, learns_more}
-use Rattle.std.proofs.Common.{zero, suc, ◌≤◌, slice_index_or, None, refl, arith}
-use Rattle.std.proofs.lemmas.List.{length-map}
+use Rattle.std.proofs.Common.{zero, suc, ◌≤◌, slice_index_or, slice_set, None, refl, arith}
+use Rattle.std.proofs.lemmas.List.{get_or-set_same, length-map, length-set, set-get_or}
+use Rattle.session_model.specs.Ledger.{layout_at}
 use Rattle.session_model.specs.Upkeep.{entries_beyond}
 use Rattle.query_opening.specs.Pinning.{ComesOn}
 use Rattle.open_session.specs.KeptDesk.{KeepsDesk, layouts_of}
@@ -113,6 +114,28 @@ module _ (words : ℕ) (old new : DeskState) (is_old : IsDesk words old) (is_new
   pub fewer_beyond : (most : ℕ) → entries_beyond (map pin_position new.pins) most ≤ entries_beyond (map pin_position old.pins) most
   fewer_beyond most =
       beyond_less old.pins new.pins most comes.number (λ i lt. comes.rises i (pin_within i lt))
+
+-- ---- the layout of one shard, in the place of another
+
+all_set : (P : List (List ℕ) → Type 0) (layouts : List (List (List ℕ))) (shard : ℕ) (layout : List (List ℕ))
+    → AllByRecursion P layouts → P layout → AllByRecursion P (slice_set layouts shard layout)
+all_set P [] shard layout all this = tt
+all_set P (first ∷ layouts) zero layout all this = (this, all.1)
+all_set P (first ∷ layouts) (suc shard) layout all this = (all.0, all_set P layouts shard layout all.1 this)
+
+module _ (layouts : List (List (List ℕ))) (shard : ℕ) (layout : List (List ℕ)) where
+  pub with_layout : (config : Config) → AreLayouts config layouts → IsLayout config.bits layout
+      → AreLayouts config (slice_set layouts shard layout)
+  with_layout config are this = record {
+    number = length-set layouts shard layout ∙ are.number;
+    each = all_set (IsLayout config.bits) layouts shard layout are.each this;
+  }
+
+  pub layout_there : shard < length layouts → layout_at (slice_set layouts shard layout) shard ≡ layout
+  layout_there lt = get_or-set_same layouts shard layout [] lt
+
+  pub same_layouts : layout ≡ layout_at layouts shard → slice_set layouts shard layout ≡ layouts
+  same_layouts is = ap (slice_set layouts shard) is ∙ set-get_or layouts shard []
 
 -- ---- the layouts of a desk
 

@@ -2,6 +2,7 @@
 use Rattle.std.proofs.Common.{◌≡◌, ◌≢◌, ◌≤◌, ℕ, true, List, [], ◌∷◌, ◌++◌, length, map, take, Option}
 use Rattle.std.proofs.Common.{Result, Ok, Err, OnOk, refl, sym, ap, ◌∙◌, subst, arith, append-nil, append_assoc, length-append}
 use Rattle.std.specs.List.{AllByRecursion}
+use Rattle.std.proofs.Math.ListN.{get_or-map}
 use Rattle.std.proofs.lemmas.List.{take_at, take-append-le, map-append}
 use Rattle.line_io.specs.declared.source.Failed.{Failed}
 use Rattle.hamming_model.specs.History.{JournalEntry, Operation}
@@ -11,7 +12,7 @@ use Rattle.query_protocol.specs.Requests.{LineReading}
 use Rattle.query_protocol.specs.Lines.{reading}
 use Rattle.query_protocol.specs.Replies.{text, reply_line, LineReply}
 use Rattle.session_desk.specs.Calls.{Learns, OnlyLearns}
-use Rattle.session_desk.specs.Desks.{DeskState, seen_history}
+use Rattle.session_desk.specs.Desks.{DeskState, ShardPlace, no_place, place_at, seen_history}
 use Rattle.layout_search.specs.Improves.{plain_sample}
 use Rattle.session_model.specs.State.{Query, State, open_queries}
 use Rattle.session_model.specs.Searches.{samples_of}
@@ -21,7 +22,7 @@ use Rattle.session_model.specs.Told.{pinned_by}
 use Rattle.session_model.specs.Upkeep.{other_steps}
 use Rattle.session_model.specs.Commits.{accepted, committed, commit_of}
 use Rattle.open_queries.specs.Writing.{Writes}
-use Rattle.session_model.specs.Ledger.{Ledgers}
+use Rattle.session_model.specs.Ledger.{Ledgers, layout_at}
 use Rattle.open_session.specs.Cursors.{Cursor}
 use Rattle.open_session.specs.Growth.{HistoryGrows, IsAside}
 use Rattle.open_session.specs.KeptDesk.{KeepsDesk, pins_of}
@@ -174,6 +175,13 @@ module _ {W : ℕ} (p : Here W) where
       keep_learned cursors queries keep =
           subst (λ h. AllKeep p.config h cursors queries) (sym history_learned)
           (keep_later p.config p.history learned cursors queries keep)
+
+-- the layout in which a shard of a desk that is alone stands is the state's
+pub layout_here : {W : ℕ} (p : Here W) → p.old.desk.alone ≡ true → (shard : ℕ)
+    → (place_at p.old.desk shard).1.parts ≡ layout_at p.s.layouts shard
+layout_here p alone shard =
+    sym (get_or-map (λ (place : ShardPlace). place.1.parts) p.old.desk.places shard no_place)
+    ∙ ap (λ l. layout_at l shard) (sym (p.stands.means.layouts alone))
 
 -- the state that a desk means which has learned more
 pub means_to : {W : ℕ} (p : Here W) (new : DeskState) (t : State) → KeepsDesk p.old.desk new

@@ -1,4 +1,4 @@
--- The commit is a step of a session that is alone.
+-- The commit is a step of a session.
 use Rattle.std.proofs.Common.{refl, rules}
 use Rattle.query_protocol.specs.Replies.{line_of}
 use Rattle.open_session.specs.Moments.{moment_of}
@@ -19,15 +19,10 @@ returns-clause-answers g c = λ reads upkeep line asked history s stands.
     delete_step p (held c.say.new.sink) c.say.result _ c.args.key (line_of c.commit-reply.result)
     c.commit-reply.ensures.queries c.commit-reply.ensures.pinned refl c.commit-reply.ensures.samples c.say.ensures.written asked c.commit-reply.ensures.commits
 
-pub returns-clause-alone : goal.returns-clause-alone
-returns-clause-alone g c = (here_commits c.args.config.now (g.D.Desk.desk c.args.desk.now) (g.D.Desk.desk c.commit-reply.new.desk)
-    c.args.session.now.position c.commit-reply.new.session.position c.args.key (journal.Delete c.args.key) (line_of c.commit-reply.result)
-    c.commit-reply.ensures.commits c.requires.alone c.requires.config).0
-
 pub returns-clause-config : goal.returns-clause-config
-returns-clause-config g c = (here_commits c.args.config.now (g.D.Desk.desk c.args.desk.now) (g.D.Desk.desk c.commit-reply.new.desk)
+returns-clause-config g c = here_commits c.args.config.now (g.D.Desk.desk c.args.desk.now) (g.D.Desk.desk c.commit-reply.new.desk)
     c.args.session.now.position c.commit-reply.new.session.position c.args.key (journal.Delete c.args.key) (line_of c.commit-reply.result)
-    c.commit-reply.ensures.commits c.requires.alone c.requires.config).1
+    c.commit-reply.ensures.commits c.requires.config
 
 pub returns-clause-builds : goal.returns-clause-builds
 returns-clause-builds g c = builds_commit (g.D.Desk.desk c.args.desk.now) (g.D.Desk.desk c.commit-reply.new.desk)

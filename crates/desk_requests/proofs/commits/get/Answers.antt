@@ -1,4 +1,4 @@
--- The call is a step of a session that is alone.
+-- The call is a step of a session.
 use Rattle.std.proofs.Common.{◌≡◌, refl, ap, ◌∙◌, subst, rules, take, IfSome}
 use Rattle.open_queries.specs.Writing.{Writes}
 use Rattle.open_session.specs.Moments.{moment_of}

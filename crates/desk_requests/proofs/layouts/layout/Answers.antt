@@ -1,4 +1,4 @@
--- The call is a step of a session that is alone.
+-- The call is a step of a session.
 use Rattle.std.proofs.Common.{refl, subst}
 use Rattle.open_queries.specs.Writing.{Writes}
 use Rattle.open_session.specs.Moments.{moment_of}
@@ -12,20 +12,15 @@ returns-clause-answers g c = λ reads upkeep line asked history s stands.
     let held = g.K.Sink.held in
     let p = here_of c.args.config.now (moment_of (g.D.Desk.desk c.args.desk.now) c.args.session.now reads upkeep)
     (held c.args.sink.now) line history s stands in
-    layout_step p (held c.send.new.sink) c.send.result _ refl refl refl refl c.args.shard c.layout_of-text.result asked
+    layout_step p (held c.send.new.sink) c.send.result _ refl refl refl refl c.args.shard c.requires.shard c.layout_of-text.result asked
     c.layout_of-text.ensures.layout refl
     (subst (Writes (held c.args.sink.now) (held c.send.new.sink) c.send.result) c.write_layout.ensures
     c.send.ensures.written)
 
-pub returns-clause-alone : goal.returns-clause-alone
-returns-clause-alone g c = (here_tells c.args.config.now (g.D.Desk.desk c.args.desk.now)
-    (g.D.Desk.desk c.layout_of-text.new.self) c.args.shard c.layout_of-text.result c.layout_of-text.ensures.layout
-    c.requires.alone c.requires.config).0
-
 pub returns-clause-config : goal.returns-clause-config
-returns-clause-config g c = (here_tells c.args.config.now (g.D.Desk.desk c.args.desk.now)
+returns-clause-config g c = here_tells c.args.config.now (g.D.Desk.desk c.args.desk.now)
     (g.D.Desk.desk c.layout_of-text.new.self) c.args.shard c.layout_of-text.result c.layout_of-text.ensures.layout
-    c.requires.alone c.requires.config).1
+    c.requires.config
 
 pub returns-clause-builds : goal.returns-clause-builds
 returns-clause-builds g c = builds_told (g.D.Desk.desk c.args.desk.now) (g.D.Desk.desk c.layout_of-text.new.self)
