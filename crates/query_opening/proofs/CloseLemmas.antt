@@ -126,6 +126,16 @@ module _ (old start mid new : DeskState) (front : FrontState) (opens : OpensFron
 
   -- ---- upkeep
 
+  pub at_behind : (from to position : ℕ) → position ≡ position_of front
+      → to ≤ from + behind start.pins (position_of front) start.config.shards
+      → to ≤ from + behind old.pins position old.config.shards
+  at_behind from to position here bound = omega (
+    arith,
+    bound,
+    ap (λ (d : DeskState). behind d.pins (position_of front) d.config.shards) opens.after,
+    ap (λ (n : ℕ). behind old.pins n old.config.shards) here,
+  )
+
   later_behind : (pins : List (Option Pin)) (position seen shards : ℕ) → position ≤ seen → behind pins position shards ≤ behind pins seen shards
   later_behind pins position seen zero within = omega arith
   later_behind pins position seen (suc shard) within = omega (arith, within, later_behind pins position seen shard within)

@@ -67,9 +67,16 @@ pub fn open_query<const W: usize, D: Desk<W>, M>(
         wanted (take (D.desk desk.old).config.bits query.entry) room opened.sources.items) }
     ensures versions { IfOk result (λ opened. PinsAll (D.desk desk.old) (D.desk desk.new)
         opened.position (contents_of_all opened.versions.items)) }
+    // The source of a shard stands on its version.
+    ensures on { IfOk result (λ opened. AreSourcesOn
+        ⟦<Source<W> as HitSource>⟧.asked ⟦<Source<W> as HitSource>⟧.standing
+        (contents_of_all opened.versions.items) wanted query.entry room
+        opened.sources.items (length (contents_of_all opened.versions.items))) }
     ensures fresh { IfOk result (λ opened.
         AllByRecursion (λ source. IsFresh (⟦<Source<W> as HitSource>⟧.standing source))
         opened.sources.items) }
+    ensures spent { IfOk result (λ opened. steps.new ≤ steps.old
+        + behind (D.desk desk.old).pins opened.position (D.desk desk.old).config.shards) }
     // The sources can be gathered.
     ensures some { IfOk result (λ opened. 1 ≤ length opened.sources.items) }
     ensures few { IfOk result (λ opened. length opened.sources.items ≤ SHARDS_MOST) }

@@ -33,6 +33,8 @@ pub fn pin_all<const W: usize, D: Desk<W>, M>(
     // Every shard is pinned at one position.
     ensures pinned { IfOk result (λ pinned. PinsAll (D.desk desk.old) (D.desk desk.new)
         pinned.position (contents_of_all pinned.versions.items)) }
+    ensures spent { IfOk result (λ pinned. steps.new ≤ steps.old
+        + behind (D.desk desk.old).pins pinned.position (D.desk desk.old).config.shards) }
     // In any case the desk is as before but for what it saw and how far its shards came.
     ensures comes { ComesOn (D.desk desk.old) (D.desk desk.new) }
     ensures known { KeepsKnown (D.desk desk.new) (D.knows desk.old) (D.knows desk.new) }

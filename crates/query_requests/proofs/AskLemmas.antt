@@ -1,4 +1,4 @@
--- Lemmas on `cost`, `plan` and `cancel`: what each tells is a step of a session that is alone.
+-- Lemmas on `cost`, `plan` and `cancel`: what each tells is a step of a session.
 use Rattle.std.proofs.Common.{◌≡◌, ℕ, ◌<◌, min, cond, List, [], ◌∷◌, ◌++◌, take, map}
 use Rattle.std.proofs.Common.{Option, Some, Result, Ok, refl, sym, ap, ◌∙◌, subst, arith, inl, inr}
 use Rattle.std.specs.List.{sum_by}
@@ -11,8 +11,8 @@ use Rattle.query_protocol.specs.Requests.{LineRequest, Cost, Plan, Cancel}
 use Rattle.query_protocol.specs.Replies.{reply_line, LineReply}
 use Rattle.query_protocol.specs.Replies as reply
 use Rattle.session_model.specs.State.{State, query_of, open_queries, replaced}
-use Rattle.session_model.specs.Upkeep.{other_steps}
-use Rattle.session_model.specs.Ledger.{sum_of, last_given, IsPlanOfQuery}
+use Rattle.session_desk.specs.Desks.{DeskState}
+use Rattle.session_model.specs.Ledger.{Ledgers, sum_of, last_given, IsPlanOfQuery}
 use Rattle.session_model.specs.QuerySteps.{IfOpen, Costs, TellsPlan, Cancels, closed_query, end_reply}
 use Rattle.session_model.specs.Step.{Answers}
 use Rattle.session_model.specs.Commits.{accepted}
@@ -20,18 +20,17 @@ use Rattle.open_queries.specs.Queries.{Changes, Removes, IsSame, last_in}
 use Rattle.open_queries.specs.Answers.{CostsAs, IsCost, IsPlan, TellsOfQuery, CancelsAs, reply_to_cancel}
 use Rattle.open_queries.specs.Writing.{Writes}
 use Rattle.open_session.specs.Cursors.{ShardSource, Cursor, asks, stands}
-use Rattle.open_session.specs.Moments.{Moment, ReadsTo, Spends}
-use Rattle.open_session.specs.Meaning.{AllKeep, IsSettled, Means}
-use Rattle.open_session.specs.KeptDesk.{KeepsDesk}
-use Rattle.open_session.proofs.MomentLemmas.{spends_still, desk_keeps}
+use Rattle.open_session.specs.Moments.{Moment, ReadsTo}
+use Rattle.open_session.specs.Meaning.{AllKeep, IsSettled}
+use Rattle.open_session.proofs.DeskLemmas.{only_still}
 use Rattle.open_session.proofs.QueryLemmas.{IsFound, found_changed, found_removed, found_holds, of_open}
 use Rattle.open_session.proofs.QueryLemmas.{replaced_same, replaced_closed, keeps_same, keeps_later, all_replaced}
 use Rattle.open_session.proofs.QueryLemmas.{pinned_replaced, read_replaced}
 use Rattle.open_session.proofs.BoundLemmas.{last_is, given_near, is_bound, all_bounds_are, plan_at, reads_few, sum_is_of}
 use Rattle.query_requests.proofs.NextLemmas.{unknown_step}
 use Rattle.session_model.proofs.SampleLemmas.{samples_stay}
-use Rattle.open_session.proofs.Here.{Here, StepTo, asked_here, exchange_here, pinned_still, quiet, quiet_by, samples_here}
-use Rattle.open_session.proofs.Here.{on_ok, means_to, writes_one}
+use Rattle.open_session.proofs.Here.{Here, StepTo, asked_here, exchange_here, later_learned, pinned_still, quiet}
+use Rattle.open_session.proofs.Here.{on_ok, quiet_learns, samples_here, within_new, writes_one}
 
 module _ {A : Type 0} {W : ℕ} (p : Here W) (after : Option (List ℕ)) (result : Result A Failed)
     (new : Moment W) (ranges : IsConfig p.config)
@@ -59,14 +58,15 @@ module _ {A : Type 0} {W : ℕ} (p : Here W) (after : Option (List ℕ)) (result
     asked_step : (asked : LineRequest) (this : LineReply) → asked_here p ≡ Ok (Some asked)
         → accepted (Ok (Some asked)) (this ∷ []) ≡ []
         → ((later : List JournalEntry) → Answers (Ok (Some asked)) p.config (p.history ++ later) p.s
-        (exchange_here p (this ∷ []) p.s.position) p.s)
+        (exchange_here p new (this ∷ []) p.s.position) p.s)
         → Writes p.before after result (reply_line this) → StepTo p after result new
     asked_step asked this reads none answers wrote =
-        quiet p after result new (Ok (Some asked)) (this ∷ []) reads none desk ledgers pinned position samples keep_still answers
+        quiet p after result new (Ok (Some asked)) (this ∷ []) reads none (only_still p.old.desk new.desk desk) ledgers pinned position
+        samples keep_still answers
         (writes_one p.before after result this wrote)
 
     costed : (later : List JournalEntry) (this : LineReply) → IsCost (asks {W = W}) (stands {W = W}) tag was this
-        → Costs p.config (p.history ++ later) tag it.query p.s (exchange_here p (this ∷ []) p.s.position) p.s
+        → Costs p.config (p.history ++ later) tag it.query p.s (exchange_here p new (this ∷ []) p.s.position) p.s
     costed later this cost =
         let query = it.query in
         let keeps = keeps_later p.config p.history later was query it.keeps in
@@ -100,7 +100,7 @@ module _ {A : Type 0} {W : ℕ} (p : Here W) (after : Option (List ℕ)) (result
     planned : (later : List JournalEntry) (shard : ℕ) (this : LineReply)
         → IsPlan (asks {W = W}) tag shard was this
         → TellsPlan p.config (p.history ++ later) tag shard it.query p.s
-        (exchange_here p (this ∷ []) p.s.position) p.s
+        (exchange_here p new (this ∷ []) p.s.position) p.s
     planned later shard this told =
         let query = it.query in
         let keeps = keeps_later p.config p.history later was query it.keeps in
@@ -131,7 +131,7 @@ module _ {A : Type 0} {W : ℕ} (p : Here W) (after : Option (List ℕ)) (result
   cost_step tag this reads (inr told) wrote =
       asked_step tag told.0 told.1 told.2 told.3 (Cost tag) this reads refl
       (λ later. subst (λ o. IfOpen o (Costs p.config (p.history ++ later) tag) p.s
-      (exchange_here p (this ∷ []) p.s.position) p.s) (sym (found tag told.0 told.1 told.2 told.3))
+      (exchange_here p new (this ∷ []) p.s.position) p.s) (sym (found tag told.0 told.1 told.2 told.3))
       (costed tag told.0 told.1 told.2 told.3 later this told.4)) wrote
 
   -- ---- `plan`
@@ -146,7 +146,7 @@ module _ {A : Type 0} {W : ℕ} (p : Here W) (after : Option (List ℕ)) (result
   plan_step tag shard this reads (inr told) wrote =
       asked_step tag told.0 told.1 told.2 told.3 (Plan tag shard) this reads refl
       (λ later. subst (λ o. IfOpen o (TellsPlan p.config (p.history ++ later) tag shard) p.s
-      (exchange_here p (this ∷ []) p.s.position) p.s) (sym (found tag told.0 told.1 told.2 told.3))
+      (exchange_here p new (this ∷ []) p.s.position) p.s) (sym (found tag told.0 told.1 told.2 told.3))
       (planned tag told.0 told.1 told.2 told.3 later shard this told.4)) wrote
 
   -- ---- `cancel`
@@ -162,21 +162,22 @@ module _ {A : Type 0} {W : ℕ} (p : Here W) (after : Option (List ℕ)) (result
         let found : query_of tag p.s.queries ≡ Some query = of_open tag p.s.queries ∙ it.found in
         let s = p.s in
         let t : State = record s { queries = replaced tag closed s.queries } in
-        let beside = other_steps p.config.shards (this ∷ []) s.position in
+        let only = only_still p.old.desk new.desk desk in
         let said : this ≡ end_reply query.done tag query.given =
         told ∙ ap (λ b. cond b (reply.Closed tag was.gather.given) (reply.Cancelled tag was.gather.given)) it.keeps.done
         ∙ ap (end_reply query.done tag) it.keeps.given in
         let settled = found_holds (IsSettled p.config p.history) tag s.queries query found p.stands.settled in
         let quiet : accepted (Ok (Some (Cancel tag))) (this ∷ []) ≡ [] = refl in
-        quiet_by p after result new (Ok (Some (Cancel tag))) (this ∷ []) t reads quiet
-        (λ later. subst (λ o. IfOpen o (Cancels tag) s (exchange_here p (this ∷ []) s.position) t) (sym found)
-        (record { said_is = ap (λ (r : LineReply). r ∷ []) said; position = refl; closed = refl }))
+        quiet_learns p after result new (Ok (Some (Cancel tag))) (this ∷ []) t reads quiet s.position only (λ alone. refl)
+        (within_new p new.desk only.learns)
+        (later_learned p new.desk only.learns (ap (λ (d : DeskState). d.config) desk)
+        (λ h. Answers (Ok (Some (Cancel tag))) p.config h s (exchange_here p new (this ∷ []) s.position) t)
+        (λ later. subst (λ o. IfOpen o (Cancels tag) s (exchange_here p new (this ∷ []) s.position) t) (sym found)
+        (record { said_is = ap (λ (r : LineReply). r ∷ []) said; position = refl; closed = refl })))
         (writes_one p.before after result this wrote)
         (subst (λ l. ReadsTo p.old.ledgers.reads l.reads s.queries t.queries) (sym ledgers)
         (record { number = refl; each = λ ledger lt. omega (arith, read_replaced ledger tag query closed s.queries found) }))
-        (subst (λ l. Spends p.old.desk new.desk p.old.ledgers.upkeep l.upkeep beside) (sym ledgers)
-        (subst (λ d. Spends p.old.desk d p.old.ledgers.upkeep p.old.ledgers.upkeep beside) (sym desk)
-        (spends_still p.old.desk p.old.ledgers.upkeep beside)))
+        (ap (λ (l : Ledgers). l.upkeep) ledgers)
         (all_replaced (IsSettled p.config p.history) tag closed s.queries p.stands.settled
         (record {
           within = settled.within;
@@ -190,10 +191,7 @@ module _ {A : Type 0} {W : ℕ} (p : Here W) (after : Option (List ℕ)) (result
           };
         }))
         (samples_here p new t.queries samples (samples_stay tag s.queries query closed found refl))
-        (subst (λ d. Means p.config d p.history t) (sym desk)
-        (means_to p.config p.old.desk p.old.desk p.history s t p.stands.means (desk_keeps p.old.desk)
-        refl refl refl refl))
-        (subst (KeepsDesk p.old.desk) (sym desk) (desk_keeps p.old.desk))
+        refl refl refl
         (on_ok result (AllKeep p.config p.history new.cursors (open_queries t.queries))
         (subst (λ l. AllKeep p.config p.history l (open_queries t.queries)) (sym removes.new_is)
         (subst (AllKeep p.config p.history (removes.front ++ removes.back))

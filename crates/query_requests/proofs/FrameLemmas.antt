@@ -1,5 +1,5 @@
 -- Lemmas on what a request on queries keeps: a source behind each cursor for each shard, and what the desk is.
-use Rattle.std.proofs.Common.{◌≡◌, ◌<◌, ℕ, true, List, [], ◌∷◌, ◌++◌, length, map, sym, ap, ◌∙◌, subst, inl, inr}
+use Rattle.std.proofs.Common.{◌≡◌, ◌<◌, ℕ, List, [], ◌∷◌, ◌++◌, length, map, sym, ap, ◌∙◌, subst, inl, inr}
 use Rattle.std.specs.List.{AllByRecursion}
 use Rattle.std.specs.declared.option.Option.{Option}
 use Rattle.std.specs.Prelude.{Result}
@@ -14,6 +14,7 @@ use Rattle.open_session.specs.Moments.{Moment}
 use Rattle.open_session.specs.Meaning.{HaveShards}
 use Rattle.query_requests.specs.Opened.{OpensAs}
 use Rattle.open_session.specs.KeptBuild.{KeepsBuilds}
+use Rattle.shard_rebuild.proofs.BuildLemmas.{build_lasts, learns_more}
 use Rattle.open_session.proofs.DeskLemmas.{IsHere, here_same, builds_seen}
 use Rattle.open_session.proofs.QueryLemmas.{same_number_of}
 
@@ -21,14 +22,14 @@ use Rattle.open_session.proofs.QueryLemmas.{same_number_of}
 
 module _ {W : ℕ} (config : Config) (old new : Moment W) (tag : List ℕ) (asked : Ask)
     (room : ℕ) (this : LineReply) where
-  pub here_opens : OpensAs old new tag asked room this → old.desk.alone ≡ true
-      → old.desk.config ≡ config → IsHere config new.desk
+  pub here_opens : OpensAs old new tag asked room this → old.desk.config ≡ config
+      → IsHere config new.desk
   here_opens (inl was) = here_same config old.desk new.desk
-      (ap (λ (m : Moment W). m.desk.alone) was.same) (ap (λ (m : Moment W). m.desk.config) was.same)
+      (ap (λ (m : Moment W). m.desk.config) was.same)
   here_opens (inr (inl was)) = here_same config old.desk new.desk
-      (ap (λ (m : Moment W). m.desk.alone) was.same) (ap (λ (m : Moment W). m.desk.config) was.same)
-  here_opens (inr (inr (inl had))) = here_same config old.desk new.desk had.opens.keeps.alone had.opens.keeps.config
-  here_opens (inr (inr (inr was))) = here_same config old.desk new.desk was.opened.opens.keeps.alone was.opened.opens.keeps.config
+      (ap (λ (m : Moment W). m.desk.config) was.same)
+  here_opens (inr (inr (inl had))) = here_same config old.desk new.desk had.opens.keeps.config
+  here_opens (inr (inr (inr was))) = here_same config old.desk new.desk was.opened.gathered.opens.keeps.config
 
 pub builds_open : {W : ℕ} (old new : Moment W) (tag : List ℕ) (asked : Ask) (room : ℕ) (this : LineReply)
     → OpensAs old new tag asked room this → KeepsBuilds old.desk new.desk
@@ -37,9 +38,10 @@ builds_open {W} old new tag asked room this (inl was) =
 builds_open {W} old new tag asked room this (inr (inl was)) =
     builds_seen old.desk new.desk (ap (λ (m : Moment W). m.desk.seen) was.same) (ap (λ (m : Moment W). m.desk.config) was.same)
 builds_open old new tag asked room this (inr (inr (inl had))) =
-    builds_seen old.desk new.desk had.opens.seen had.opens.keeps.config
+    build_lasts old.desk new.desk (learns_more old.desk new.desk had.opens.learns had.opens.keeps.config)
 builds_open old new tag asked room this (inr (inr (inr was))) =
-    builds_seen old.desk new.desk was.opened.opens.seen was.opened.opens.keeps.config
+    build_lasts old.desk new.desk
+    (learns_more old.desk new.desk was.opened.gathered.opens.learns was.opened.gathered.opens.keeps.config)
 
 -- ---- the cursors
 
@@ -105,4 +107,4 @@ opened_shards config old new tag asked room this is have (inr (inr (inl had))) =
 opened_shards {W} config old new tag asked room this is have (inr (inr (inr was))) =
     subst (HaveShards config.shards) (sym was.cursors)
     (all_last (λ (cursor : Cursor W). length cursor.gather.sources ≡ config.shards) old.cursors
-    (opened_query tag was.gather) have (was.opened.opens.number ∙ ap (λ (c : Config). c.shards) is))
+    (opened_query tag was.gather) have (was.opened.gathered.opens.number ∙ ap (λ (c : Config). c.shards) is))

@@ -1,4 +1,4 @@
--- Lemmas on `next`: what it gives is a step of a session that is alone.
+-- Lemmas on `next`: what it gives is a step of a session.
 use Rattle.std.proofs.Common.{◌≡◌, ℕ, ◌+◌, ◌≤◌, ◌<◌, min, nat_lt, Bool, true, false, cond}
 use Rattle.std.proofs.Common.{List, [], ◌∷◌, ◌++◌, length, map, take, slice_index, slice_index_or}
 use Rattle.std.proofs.Common.{Option, Some, None, Result, Ok, inl, inr, refl, sym, ap, ◌∙◌, subst, arith}
@@ -18,7 +18,7 @@ use Rattle.query_protocol.specs.Replies.{text, reply_line}
 use Rattle.query_protocol.specs.Replies as reply
 use Rattle.session_model.specs.State.{Query, State, query_of, replaced, open_queries}
 use Rattle.session_model.specs.Entries.{Exchange}
-use Rattle.session_model.specs.Upkeep.{other_steps}
+use Rattle.session_desk.specs.Desks.{DeskState}
 use Rattle.session_model.specs.Ledger.{ledgers, answer_to, IsBounded, rows_at, layout_at}
 use Rattle.session_model.specs.QuerySteps.{ReadsOn, Gives, IfOpen, given_more, next_replies}
 use Rattle.session_model.specs.Step.{Answers}
@@ -27,16 +27,15 @@ use Rattle.open_queries.specs.Queries.{IsFree, Changes, answer_in}
 use Rattle.open_queries.specs.Answers.{GivesAs, GivesQuery, IsGiven}
 use Rattle.open_queries.specs.Writing.{Writes}
 use Rattle.open_session.specs.Cursors.{ShardSource, Cursor, asks, stands, reads_in}
-use Rattle.open_session.specs.Moments.{Moment, ReadsTo, Spends}
-use Rattle.open_session.specs.Meaning.{AllKeep, AsksOn, IsSettled, Keeps, Means}
-use Rattle.open_session.specs.KeptDesk.{KeepsDesk}
-use Rattle.open_session.proofs.MomentLemmas.{spends_still, desk_keeps}
+use Rattle.open_session.specs.Moments.{Moment, ReadsTo}
+use Rattle.open_session.specs.Meaning.{AllKeep, AsksOn, IsSettled, Keeps}
+use Rattle.open_session.proofs.DeskLemmas.{only_still}
 use Rattle.open_session.proofs.QueryLemmas.{IsFound, found_changed, found_holds, not_open, of_open, replaced_open}
 use Rattle.open_session.proofs.QueryLemmas.{all_replaced, pinned_replaced, read_replaced, same_asks, same_number_of}
 use Rattle.open_session.proofs.BoundLemmas.{answer_is, answer_near, bound_at, first_of_some}
 use Rattle.session_model.proofs.SampleLemmas.{samples_stay}
-use Rattle.open_session.proofs.Here.{Here, StepTo, asked_here, exchange_here, pinned_still, quiet, quiet_by, samples_here}
-use Rattle.open_session.proofs.Here.{on_ok_then, means_to, writes_one}
+use Rattle.open_session.proofs.Here.{Here, StepTo, asked_here, exchange_here, later_learned, on_ok_then, pinned_still}
+use Rattle.open_session.proofs.Here.{quiet, quiet_learns, samples_here, within_new, writes_one}
 
 -- ---- a tag that no cursor has
 
@@ -55,11 +54,12 @@ unknown_step p after result new request tag Answered reads none answers free sam
     let missing : query_of tag p.s.queries ≡ None =
     of_open tag p.s.queries ∙ not_open p.config p.history p.old.cursors (open_queries p.s.queries) tag
     p.stands.keep free in
-    quiet p after result new (Ok (Some request)) (reply.Bad (bad 8) ∷ []) reads none desk ledgers pinned position samples
+    quiet p after result new (Ok (Some request)) (reply.Bad (bad 8) ∷ []) reads none (only_still p.old.desk new.desk desk) ledgers
+    pinned position samples
     (subst (λ l. AllKeep p.config p.history l (open_queries p.s.queries)) (sym same) p.stands.keep)
     (λ later. answers (p.history ++ later) _ p.s
     (subst (λ o. IfOpen o (Answered (p.history ++ later)) p.s
-    (exchange_here p (reply.Bad (bad 8) ∷ []) p.s.position) p.s) (sym missing)
+    (exchange_here p new (reply.Bad (bad 8) ∷ []) p.s.position) p.s) (sym missing)
     (record { said_is = refl; position = refl; same = refl })))
     (writes_one p.before after result (reply.Bad (bad 8)) wrote)
 
@@ -246,7 +246,7 @@ module _ {A : Type 0} {W : ℕ} (p : Here W) (after : Option (List ℕ)) (result
         ∙ ap (λ n. next_replies tag count n hits) it.keeps.given
 
     answered : (later : List JournalEntry) → Gives p.config (p.history ++ later) tag count query p.s
-        (exchange_here p (next_replies tag count query.given hits) p.s.position) then
+        (exchange_here p new (next_replies tag count query.given hits) p.s.position) then
     answered later = record {
       hits = hits;
       hits_are = ap (λ h. answer p.config.bits (rows_of h) query.ask)
@@ -261,22 +261,20 @@ module _ {A : Type 0} {W : ℕ} (p : Here W) (after : Option (List ℕ)) (result
     pub gives_step : StepTo p after result new
     gives_step =
         let replies = next_replies tag count query.given hits in
-        quiet_by p after result new (Ok (Some (Next tag count))) replies then is_asked refl
+        let only = only_still p.old.desk new.desk desk in
+        quiet_learns p after result new (Ok (Some (Next tag count))) replies then is_asked refl p.s.position only
+        (λ alone. refl) (within_new p new.desk only.learns)
+        (later_learned p new.desk only.learns (ap (λ (d : DeskState). d.config) desk)
+        (λ h. Answers (Ok (Some (Next tag count))) p.config h p.s (exchange_here p new replies p.s.position) then)
         (λ later. subst (λ o. IfOpen o (Gives p.config (p.history ++ later) tag count) p.s
-        (exchange_here p replies p.s.position) then) (sym found) (answered later))
+        (exchange_here p new replies p.s.position) then) (sym found) (answered later)))
         (subst (λ r. Writes p.before after result (text r)) replies_here gives.wrote)
         reads_to
-        (subst (λ n. Spends p.old.desk new.desk p.old.ledgers.upkeep n (other_steps p.config.shards replies p.s.position)) (sym upkeep)
-        (subst (λ d. Spends p.old.desk d p.old.ledgers.upkeep p.old.ledgers.upkeep
-        (other_steps p.config.shards replies p.s.position)) (sym desk)
-        (spends_still p.old.desk p.old.ledgers.upkeep (other_steps p.config.shards replies p.s.position))))
+        upkeep
         (all_replaced (IsSettled p.config p.history) tag this p.s.queries p.stands.settled
         (record { within = it.keeps.within; bounded = bounded }))
         (samples_here p new then.queries samples (samples_stay tag p.s.queries query this found refl))
-        (subst (λ d. Means p.config d p.history then) (sym desk)
-        (means_to p.config p.old.desk p.old.desk p.history p.s then p.stands.means (desk_keeps p.old.desk)
-        refl refl refl refl))
-        (subst (KeepsDesk p.old.desk) (sym desk) (desk_keeps p.old.desk))
+        refl refl refl
         (on_ok_then result (IsGiven (asks {W = W}) count was is) _
         (λ given. subst (λ l. AllKeep p.config p.history l (open_queries then.queries)) (sym changes.new_is)
         (subst (AllKeep p.config p.history (changes.front ++ is ∷ changes.back))

@@ -5,8 +5,6 @@ use Rattle.std.specs.Prelude.{List, [], ◌∷◌, ◌++◌, length}
 use Rattle.hamming_model.specs.Scan.{Ask}
 use Rattle.scatter_gather.specs.Gathering.{Gathered}
 use Rattle.open_session.specs.Cursors.{ShardSource}
-use Rattle.open_session.specs.KeptDesk.{layouts_of}
-use Rattle.open_session.specs.Pinned.{PinsMore}
 use Rattle.open_session.specs.Moments.{Moment}
 use Rattle.open_session.specs.Samples.{SamplesJoined}
 use Rattle.query_protocol.specs.Requests.{bad}
@@ -14,7 +12,7 @@ use Rattle.query_protocol.specs.Replies.{LineReply}
 use Rattle.query_protocol.specs.Replies as reply
 use Rattle.open_queries.specs.Queries.{IsFree, IsUsed, opened_query}
 use Rattle.session_model.specs.Openings.{most_open}
-use Rattle.query_requests.specs.Opening.{OpensNone, OpensGathered}
+use Rattle.query_requests.specs.Opening.{OpensNone, OpensPinned}
 
 -- the tag is used, and nothing is opened
 pub record WasUsed {W : ℕ} (old new : Moment W) (tag : List ℕ) (this : LineReply) : Type 0 where
@@ -49,10 +47,9 @@ pub record WasOpened {W : ℕ} (old new : Moment W) (tag : List ℕ) (asked : As
     (this : LineReply) : Type 0 where
   pub judged : IsJudged old tag false
   pub gather : Gathered (ShardSource W)
-  pub opened : OpensGathered old.desk new.desk gather new.position asked room old.ledgers.upkeep
-      new.ledgers.upkeep
+  pub opened : OpensPinned old.desk new.desk old.pinned new.pinned gather new.position asked room
+      old.ledgers.upkeep new.ledgers.upkeep
   pub cursors : new.cursors ≡ old.cursors ++ opened_query tag gather ∷ []
-  pub pinned : PinsMore old.pinned new.pinned (layouts_of new.desk)
   pub samples : SamplesJoined old.desk.config.bits asked old.samples new.samples
   pub reads : new.ledgers.reads ≡ old.ledgers.reads
   pub told : this ≡ reply.Open tag new.position

@@ -1,6 +1,6 @@
--- What an opening leaves of a desk that is alone, and the sources that it gives.
+-- What an opening leaves of a desk, and the sources that it gives.
 -- No public clause cites this module.
-use Rattle.std.specs.Prelude.{◌≡◌, ℕ, ◌+◌, ◌*◌, ◌<◌, ◌≤◌}
+use Rattle.std.specs.Prelude.{◌≡◌, ℕ, ◌+◌, ◌*◌, ◌<◌, ◌≤◌, true}
 use Rattle.std.specs.Prelude.{List, length, replicate, slice_index_or, take}
 use Rattle.std.specs.List.{AllByRecursion}
 use Rattle.hamming_model.specs.History.{rows_of}
@@ -8,43 +8,54 @@ use Rattle.hamming_model.specs.Scan.{Ask}
 use Rattle.hit_source.specs.Sources.{Asked, Standing}
 use Rattle.shard_version.specs.Contents.{Contents}
 use Rattle.query_opening.specs.Opening.{IsSourceOn}
-use Rattle.session_desk.specs.Desks.{DeskState, place_at, IsVersionOf, seen_history}
+use Rattle.session_desk.specs.Calls.{Learns}
+use Rattle.session_desk.specs.Desks.{DeskState, IsVersionOf, seen_history}
+use Rattle.session_model.specs.Ledger.{layout_at}
+use Rattle.session_model.specs.Step.{AreLayouts}
+use Rattle.session_model.specs.Told.{ShardLayouts}
 use Rattle.session_model.specs.Upkeep.{entries_beyond}
 use Rattle.scatter_gather.specs.Gathering.{Gathered}
 use Rattle.open_queries.specs.Kept.{IsUntouched}
 use Rattle.open_session.specs.Questions.{asked_code, limit_in, wanted_in}
 use Rattle.open_session.specs.Cursors.{ShardSource, asks, stands}
-use Rattle.open_session.specs.KeptDesk.{KeepsDesk, pins_of}
+use Rattle.open_session.specs.KeptDesk.{KeepsDesk, layouts_of, pins_of}
+use Rattle.open_session.specs.Pinned.{PinnedSoFar, PinsMore}
 
--- a source stands on a shard's version at the length of the history, in the layout of the place
-pub record OpensShard (desk : DeskState) (shard : ℕ) (asked : Ask) (room : ℕ) (a : Asked)
-    (s : Standing) : Type 0 where
+-- a source stands on a shard's version at a position, in this layout
+pub record OpensShard (desk : DeskState) (position shard : ℕ) (layout : List (List ℕ)) (asked : Ask)
+    (room : ℕ) (a : Asked) (s : Standing) : Type 0 where
   pub version : Contents
-  pub version_is : IsVersionOf desk shard (length desk.seen) version
-  pub layout : version.layout ≡ (place_at desk shard).1
+  pub version_is : IsVersionOf desk shard position version
+  pub layout_is : version.layout.parts ≡ layout
   pub source_is : IsSourceOn (wanted_in asked) version (asked_code asked) room a s
 
--- a source for each shard, and the number of all rows
+-- a source for each shard at one position, between what was seen before and what is seen after, and
+-- the number of all rows there; the layouts are those that were pinned, of a desk that is alone
+-- those in which its shards stand
 pub record OpensAll {S : Type 0} (asks : S → Asked) (stands : S → Standing) (old new : DeskState)
-    (sources : List S) (position rows : ℕ) (asked : Ask) (room from to : ℕ) : Type 0 where
-  pub position_is : position ≡ length new.seen
+    (sources : List S) (layouts : ShardLayouts) (position rows : ℕ) (asked : Ask)
+    (room from to : ℕ) : Type 0 where
+  pub after : length old.seen ≤ position
+  pub within : position ≤ length new.seen
   pub rows_are : rows ≡ length (rows_of (take position (seen_history new)))
-  pub seen : new.seen ≡ old.seen
+  pub learns : Learns old new.seen
   pub keeps : KeepsDesk old new
   pub pins : pins_of new ≡ replicate old.config.shards position
   pub steps : to ≤ from + entries_beyond (pins_of old) position
   pub pins_number : length (pins_of old) ≡ old.config.shards
   pub behind : AllByRecursion (λ pin. pin ≤ position) (pins_of old)
+  pub are_layouts : AreLayouts new.config layouts
+  pub alone : old.alone ≡ true → layouts ≡ layouts_of old
   pub number : length sources ≡ old.config.shards
-  pub each : (shard : ℕ) (d : S) → shard < old.config.shards → OpensShard new shard asked room
+  pub each : (shard : ℕ) (d : S) → shard < old.config.shards
+      → OpensShard new position shard (layout_at layouts shard) asked room
       (asks (slice_index_or sources shard d)) (stands (slice_index_or sources shard d))
 
 -- there was no memory
 pub record OpensNone (old new : DeskState) (from to : ℕ) : Type 0 where
-  pub seen : new.seen ≡ old.seen
+  pub learns : Learns old new.seen
   pub keeps : KeepsDesk old new
-  pub pins : (most : ℕ) → length new.seen ≤ most →
-      entries_beyond (pins_of new) most ≤ entries_beyond (pins_of old) most
+  pub pins : (most : ℕ) → entries_beyond (pins_of new) most ≤ entries_beyond (pins_of old) most
   pub steps : to ≤ from + old.config.shards * length new.seen
 
 -- a gathering that has given nothing, and gives what is asked of so many rows
@@ -56,8 +67,16 @@ pub record IsGathered {W : ℕ} (asked : Ask) (rows : ℕ) (gather : Gathered (S
 
 -- a gathering of a source for each shard
 pub record OpensGathered {W : ℕ} (old new : DeskState) (gather : Gathered (ShardSource W))
-    (position : ℕ) (asked : Ask) (room from to : ℕ) : Type 0 where
+    (layouts : ShardLayouts) (position : ℕ) (asked : Ask) (room from to : ℕ) : Type 0 where
   pub rows : ℕ
   pub gathers : IsGathered asked rows gather
-  pub opens : OpensAll (asks {W = W}) (stands {W = W}) old new gather.sources position rows asked
-      room from to
+  pub opens : OpensAll (asks {W = W}) (stands {W = W}) old new gather.sources layouts position rows
+      asked room from to
+
+-- the same, where the layouts are taken down
+pub record OpensPinned {W : ℕ} (old new : DeskState) (before after : PinnedSoFar)
+    (gather : Gathered (ShardSource W)) (position : ℕ) (asked : Ask) (room from to : ℕ)
+    : Type 0 where
+  pub layouts : ShardLayouts
+  pub gathered : OpensGathered old new gather layouts position asked room from to
+  pub pinned : PinsMore before after layouts

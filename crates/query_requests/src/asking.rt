@@ -1,6 +1,6 @@
 //! `next`, `cost`, `plan` and `cancel`: the requests on open queries.
 
-ghost use Rattle.std.specs.Prelude.{◌≡◌, ◌<◌, ◌≤◌, ℕ, List, true};
+ghost use Rattle.std.specs.Prelude.{◌≡◌, ◌<◌, ◌≤◌, ℕ, List};
 ghost use Rattle.std.specs.Thread.{IsSync};
 ghost use Rattle.hamming_model.specs.declared.limits.TheConstants.{WORDS_MOST};
 ghost use Rattle.query_protocol.specs.Requests.{Next, Cost, Plan, Cancel};
@@ -35,7 +35,7 @@ pub fn next<const W: usize, K: Sink, R: Threads + Sync, G: Gate, L: Send>(
     requires ready { IsReady W config.now }
     requires sync { IsSync R.row }
     requires shards { HaveShards config.now.shards session.old.queries }
-    ensures answers { (desk : DeskState) (upkeep : ℕ) → desk.alone ≡ true → AnswersPlainlyBetween
+    ensures answers { (desk : DeskState) (upkeep : ℕ) → AnswersPlainlyBetween
         (Next tag.now count) result config.now (point_of desk session.old meters.old upkeep
         (K.held sink.old)) (point_of desk session.new meters.new upkeep (K.held sink.new)) }
     ensures cutter { session.new.cutter ≡ session.old.cutter }
@@ -63,7 +63,7 @@ pub fn cost<const W: usize, K: Sink>(
 ) -> Result<(), Failed>
     requires ready { IsReady W config.now }
     requires shards { HaveShards config.now.shards session.old.queries }
-    ensures answers { (desk : DeskState) (reads : List ℕ) (upkeep : ℕ) → desk.alone ≡ true →
+    ensures answers { (desk : DeskState) (reads : List ℕ) (upkeep : ℕ) →
         AnswersPlainly (Cost tag.now) result config.now (K.held sink.old) (K.held sink.new)
         (moment_of desk session.old reads upkeep) (moment_of desk session.new reads upkeep) }
     ensures cutter { session.new.cutter ≡ session.old.cutter }
@@ -88,7 +88,7 @@ pub fn plan<const W: usize, K: Sink>(
     requires ready { IsReady W config.now }
     requires shard { shard < config.now.shards }
     requires shards { HaveShards config.now.shards session.old.queries }
-    ensures answers { (desk : DeskState) (reads : List ℕ) (upkeep : ℕ) → desk.alone ≡ true →
+    ensures answers { (desk : DeskState) (reads : List ℕ) (upkeep : ℕ) →
         AnswersPlainly (Plan tag.now shard) result config.now (K.held sink.old) (K.held sink.new)
         (moment_of desk session.old reads upkeep) (moment_of desk session.new reads upkeep) }
     ensures cutter { session.new.cutter ≡ session.old.cutter }
@@ -124,7 +124,7 @@ pub fn cancel<const W: usize, K: Sink>(
 ) -> Result<(), Failed>
     requires ready { IsReady W config.now }
     requires shards { HaveShards config.now.shards session.old.queries }
-    ensures answers { (desk : DeskState) (reads : List ℕ) (upkeep : ℕ) → desk.alone ≡ true →
+    ensures answers { (desk : DeskState) (reads : List ℕ) (upkeep : ℕ) →
         AnswersPlainly (Cancel tag.now) result config.now (K.held sink.old) (K.held sink.new)
         (moment_of desk session.old reads upkeep) (moment_of desk session.new reads upkeep) }
     ensures cutter { session.new.cutter ≡ session.old.cutter }

@@ -1,6 +1,6 @@
 //! `range` and `near`.
 
-ghost use Rattle.std.specs.Prelude.{◌≡◌, ◌≤◌, ℕ, List, true, take, IfOk, OnErr, OnOk};
+ghost use Rattle.std.specs.Prelude.{◌≡◌, ◌≤◌, ℕ, List, take, IfOk, OnErr};
 ghost use Rattle.hamming_model.specs.Codes.{StandsFor};
 ghost use Rattle.hamming_model.specs.declared.limits.TheConstants.{ROOM_MOST, WORDS_MOST};
 ghost use Rattle.layout_search.specs.Improves.{AreSamples};
@@ -9,11 +9,10 @@ ghost use Rattle.open_queries.specs.Writing.{IsCaused};
 ghost use Rattle.open_session.specs.Questions.{ask_of, opening_request, radius_in};
 ghost use Rattle.open_session.specs.Meaning.{IsReady, HaveShards};
 ghost use Rattle.open_session.specs.KeptBuild.{KeepsBuilds};
-ghost use Rattle.open_session.specs.KeptDesk.{layouts_of};
-ghost use Rattle.open_session.specs.Pinned.{PinsMore, pinned_in};
+ghost use Rattle.open_session.specs.Pinned.{pinned_in};
 ghost use Rattle.open_session.specs.PlainSteps.{AnswersUnread};
 ghost use Rattle.open_session.specs.Moments.{moment_of};
-ghost use Rattle.query_requests.specs.Opening.{OpensGathered, OpensNone};
+ghost use Rattle.query_requests.specs.Opening.{OpensNone, OpensPinned};
 ghost use Rattle.query_requests.specs.Opened.{OpensAs};
 
 use gph_codes::Code;
@@ -41,7 +40,6 @@ pub fn begin_query<const W: usize, D: Desk<W>, K: Sink, M>(
     upkeep: &mut Steps<M>,
 ) -> Result<(), Failed>
     requires ready { IsReady W config.now }
-    requires alone { (D.desk desk.old).alone ≡ true }
     requires config { (D.desk desk.old).config ≡ config.now }
     requires shards { HaveShards config.now.shards session.old.queries }
     requires code { StandsFor W config.now.bits code (take config.now.bits code) }
@@ -56,7 +54,6 @@ pub fn begin_query<const W: usize, D: Desk<W>, K: Sink, M>(
     ensures build { session.new.build ≡ session.old.build }
     ensures samples { AreSamples config.now.bits session.new.samples }
     ensures shards { HaveShards config.now.shards session.new.queries }
-    ensures alone { (D.desk desk.new).alone ≡ true }
     ensures config { (D.desk desk.new).config ≡ config.now }
     ensures builds { KeepsBuilds (D.desk desk.old) (D.desk desk.new) }
     ensures cause { IsCaused (K.faults sink.old) (K.faults sink.new) result }
@@ -77,7 +74,6 @@ fn opened<const W: usize, D: Desk<W>, M>(
     upkeep: &mut Steps<M>,
 ) -> Reply
     requires ready { IsReady W config.now }
-    requires alone { (D.desk desk.old).alone ≡ true }
     requires config { (D.desk desk.old).config ≡ config.now }
     requires code { StandsFor W config.now.bits code (take config.now.bits code) }
     requires samples { AreSamples config.now.bits session.old.samples }
@@ -125,7 +121,6 @@ fn open_all<const W: usize, D: Desk<W>, M>(
     upkeep: &mut Steps<M>,
 ) -> Result<(Gather<Source<W>>, u64), NoMemory>
     requires few_words { W ≤ WORDS_MOST }
-    requires alone { (D.desk desk.old).alone ≡ true }
     requires code { StandsFor W (D.desk desk.old).config.bits code
         (take (D.desk desk.old).config.bits code) }
     requires within { radius_in (D.desk desk.old).config.bits
@@ -133,11 +128,10 @@ fn open_all<const W: usize, D: Desk<W>, M>(
         ≤ (D.desk desk.old).config.bits }
     requires some_room { 1 ≤ room }
     requires small_room { room ≤ ROOM_MOST }
-    ensures opened { IfOk result (λ opened. OpensGathered (D.desk desk.old) (D.desk desk.new)
-        opened.0 opened.1 (ask_of question (take (D.desk desk.old).config.bits code.entry)) room
+    ensures opened { IfOk result (λ opened. OpensPinned (D.desk desk.old) (D.desk desk.new)
+        (pinned_in pinned.old) (pinned_in pinned.new) opened.0 opened.1
+        (ask_of question (take (D.desk desk.old).config.bits code.entry)) room
         upkeep.old upkeep.new) }
-    ensures pinned { OnOk result (PinsMore (pinned_in pinned.old) (pinned_in pinned.new)
-        (layouts_of (D.desk desk.new))) }
     ensures unpinned { OnErr result (pinned_in pinned.new ≡ pinned_in pinned.old) }
     ensures none { OnErr result (OpensNone (D.desk desk.old) (D.desk desk.new)
         upkeep.old upkeep.new) }

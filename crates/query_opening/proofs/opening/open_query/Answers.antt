@@ -81,3 +81,9 @@ returns-clause-few g c =
       ap
           (λ config. config.shards) c.in_ok-pinned.ensures.pinned.comes.config,
     )
+
+pub returns-clause-on : goal.returns-clause-on
+returns-clause-on g c =
+    sources_of source_asked source_standing c.deref-2.result.now c.in_ok-pinned.pinned.versions.items c.args.wanted c.args.query c.args.room
+    c.in_ok-sources.sources.items
+    c.deref-2.ensures.value c.in_ok-sources.ensures

@@ -1,4 +1,4 @@
--- The call is a step of a session that is alone.
+-- The call is a step of a session.
 use Rattle.std.proofs.Common.{refl}
 use Rattle.query_protocol.specs.Replies.{line_of}
 use Rattle.open_session.specs.Moments.{moment_of}
@@ -8,7 +8,7 @@ use Rattle.query_requests.proofs.FrameLemmas.{cancelled_shards}
 use Rattle.query_requests.proofs.asking.cancel.Goals as goal
 
 pub returns-clause-answers : goal.returns-clause-answers
-returns-clause-answers g c = λ desk reads upkeep alone line asked history s stands.
+returns-clause-answers g c = λ desk reads upkeep line asked history s stands.
     let ready = c.requires.ready.is_config in
     let held = g.K.Sink.held in
     let p = here_of c.args.config.now (moment_of desk c.args.session.now reads upkeep) (held c.args.sink.now) line

@@ -1,4 +1,4 @@
--- The call is a step of a session that is alone.
+-- The call is a step of a session.
 use Rattle.std.proofs.Common.{◌≡◌, refl, sym, ap, ◌∙◌, subst, arith, take, ◌++◌, length, drop}
 use Rattle.open_session.specs.Moments.{moment_of}
 use Rattle.open_session.proofs.Here.{here_of}
@@ -10,7 +10,7 @@ use Rattle.query_requests.proofs.FrameLemmas.{given_shards}
 use Rattle.query_requests.proofs.asking.next.Goals as goal
 
 pub returns-clause-answers : goal.returns-clause-answers
-returns-clause-answers g c = λ desk upkeep alone line asked history s stands'.
+returns-clause-answers g c = λ desk upkeep line asked history s stands'.
     let ready = c.requires.ready.is_config in
     let held = g.K.Sink.held in
     let p = here_of c.args.config.now (moment_of desk c.args.session.now c.args.meters.now upkeep)

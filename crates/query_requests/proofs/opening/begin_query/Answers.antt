@@ -1,4 +1,4 @@
--- The call is a step of a session that is alone.
+-- The call is a step of a session.
 use Rattle.std.proofs.Common.{take, []}
 use Rattle.query_protocol.specs.Replies.{line_of}
 use Rattle.open_session.specs.Moments.{moment_of}
@@ -25,17 +25,10 @@ returns-clause-shards g c =
     (ask_of c.args.question (take c.args.config.now.bits c.args.code)) c.args.config.now.room
     (line_of c.opened-reply.result) c.requires.config c.requires.shards (c.opened-reply.ensures.opens [])
 
-pub returns-clause-alone : goal.returns-clause-alone
-returns-clause-alone g c = (here_opens c.args.config.now _ _ c.args.tag
-    (ask_of c.args.question (take c.args.config.now.bits c.args.code)) c.args.config.now.room
-    (line_of c.opened-reply.result) (c.opened-reply.ensures.opens []) c.requires.alone
-    c.requires.config).0
-
 pub returns-clause-config : goal.returns-clause-config
-returns-clause-config g c = (here_opens c.args.config.now _ _ c.args.tag
+returns-clause-config g c = here_opens c.args.config.now _ _ c.args.tag
     (ask_of c.args.question (take c.args.config.now.bits c.args.code)) c.args.config.now.room
-    (line_of c.opened-reply.result) (c.opened-reply.ensures.opens []) c.requires.alone
-    c.requires.config).1
+    (line_of c.opened-reply.result) (c.opened-reply.ensures.opens []) c.requires.config
 
 pub returns-clause-builds : goal.returns-clause-builds
 returns-clause-builds g c = builds_open _ _ c.args.tag
