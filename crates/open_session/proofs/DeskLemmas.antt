@@ -4,7 +4,7 @@ use Rattle.std.specs.List.{AllByRecursion}
 use Rattle.std.specs.declared.option.Option.{Option}
 use Rattle.part_layout.specs.declared.config.Config.{Config}
 use Rattle.session_desk.specs.Desks.{DeskState, IsDesk, Pin, ShardPlace, no_place, pin_position, pinned_at}
-use Rattle.session_desk.specs.Calls.{OnlyLearns, TellsLayout}
+use Rattle.session_desk.specs.Calls.{Learns, OnlyLearns, TellsLayout}
 use Rattle.open_session.specs.KeptBuild.{KeepsBuilds}
 use Rattle.shard_rebuild.specs.ShardBuilds.{SeesMore}
 use Rattle.shard_rebuild.proofs.BuildLemmas.{build_lasts, learns_more}
@@ -44,14 +44,16 @@ only_still old new same = subst (OnlyLearns old) (sym same) (record {
 
 -- ---- the builds of the desk
 
+pub builds_learned : (old new : DeskState) → Learns old new.seen → new.config ≡ old.config → KeepsBuilds old new
+builds_learned old new learns config = build_lasts old new (learns_more old new learns config)
+
 pub builds_learn : (old new : DeskState) → OnlyLearns old new → KeepsBuilds old new
-builds_learn old new only =
-    build_lasts old new (learns_more old new only.learns (ap (λ (d : DeskState). d.config) only.after))
+builds_learn old new only = builds_learned old new only.learns (ap (λ (d : DeskState). d.config) only.after)
 
 pub builds_told : (old new : DeskState) (shard : ℕ) (told : List ℕ) → TellsLayout old new shard told
     → KeepsBuilds old new
 builds_told old new shard told tells =
-    build_lasts old new (learns_more old new tells.learns (ap (λ (d : DeskState). d.config) tells.after))
+    builds_learned old new tells.learns (ap (λ (d : DeskState). d.config) tells.after)
 
 -- where no more is seen
 pub builds_seen : (old new : DeskState) → new.seen ≡ old.seen → new.config ≡ old.config → KeepsBuilds old new

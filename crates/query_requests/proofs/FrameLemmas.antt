@@ -14,8 +14,7 @@ use Rattle.open_session.specs.Moments.{Moment}
 use Rattle.open_session.specs.Meaning.{HaveShards}
 use Rattle.query_requests.specs.Opened.{OpensAs}
 use Rattle.open_session.specs.KeptBuild.{KeepsBuilds}
-use Rattle.shard_rebuild.proofs.BuildLemmas.{build_lasts, learns_more}
-use Rattle.open_session.proofs.DeskLemmas.{IsHere, here_same, builds_seen}
+use Rattle.open_session.proofs.DeskLemmas.{IsHere, builds_learned, builds_seen, here_same}
 use Rattle.open_session.proofs.QueryLemmas.{same_number_of}
 
 -- ---- the desk
@@ -38,10 +37,9 @@ builds_open {W} old new tag asked room this (inl was) =
 builds_open {W} old new tag asked room this (inr (inl was)) =
     builds_seen old.desk new.desk (ap (λ (m : Moment W). m.desk.seen) was.same) (ap (λ (m : Moment W). m.desk.config) was.same)
 builds_open old new tag asked room this (inr (inr (inl had))) =
-    build_lasts old.desk new.desk (learns_more old.desk new.desk had.opens.learns had.opens.keeps.config)
+    builds_learned old.desk new.desk had.opens.learns had.opens.keeps.config
 builds_open old new tag asked room this (inr (inr (inr was))) =
-    build_lasts old.desk new.desk
-    (learns_more old.desk new.desk was.opened.gathered.opens.learns was.opened.gathered.opens.keeps.config)
+    builds_learned old.desk new.desk was.opened.gathered.opens.learns was.opened.gathered.opens.keeps.config
 
 -- ---- the cursors
 

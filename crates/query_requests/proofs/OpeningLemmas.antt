@@ -1,4 +1,4 @@
--- Lemmas on an opening over a desk that is alone.
+-- Lemmas on an opening over a desk.
 use Rattle.std.proofs.Common.{◌≡◌, ℕ, zero, suc, ◌+◌, ◌-◌, ◌*◌, ◌≤◌, ◌<◌, ◌&&◌, min, nat_le, Bool, true}
 use Rattle.std.proofs.Common.{List, [], ◌∷◌, sum, take, length, map, replicate, slice_index_or, Option, None}
 use Rattle.std.proofs.Common.{refl, sym, ap, ◌∙◌, subst, arith, inl, inr, Result, Ok, Err, OnErr}
@@ -12,13 +12,13 @@ use Rattle.hit_source.specs.Sources.{Asked, Standing, IsFresh}
 use Rattle.part_layout.specs.Laid.{Laid}
 use Rattle.part_layout.specs.declared.config.Config.{Config}
 use Rattle.shard_version.specs.Contents.{Contents}
-use Rattle.session_desk.specs.Desks.{DeskState, IsDesk, Pin, ShardPlace, no_place, pin_position, IsVersionOf}
+use Rattle.session_desk.specs.Desks.{DeskState, IsDesk, Pin, ShardPlace, no_place, pin_position}
 use Rattle.session_desk.specs.Desks.{seen_history}
 use Rattle.session_model.specs.Upkeep.{entries_beyond}
 use Rattle.scatter_gather.specs.Gathering.{Gathered, gathered}
 use Rattle.scatter_gather.specs.Kept.{AreOneLength}
 use Rattle.query_opening.specs.Pinning.{ComesOn, PinsAll, behind}
-use Rattle.query_opening.specs.Opening.{AsksWanted, OpensSources, is_nearest}
+use Rattle.query_opening.specs.Opening.{AreSourcesOn, AsksWanted, IsSourceOn, is_nearest}
 use Rattle.query_opening.specs.declared.wanted.Wanted.{Wanted}
 use Rattle.query_opening.specs.declared.wanted.Wanted.TheVariants.{Within, Nearest}
 use Rattle.hamming_model.specs.Shards.{AreShardNumbers}
@@ -29,10 +29,14 @@ use Rattle.open_session.specs.declared.question.Question.{Question}
 use Rattle.open_session.specs.declared.question.Question.TheVariants as question
 use Rattle.open_session.specs.KeptDesk.{layouts_of, pins_of}
 use Rattle.open_session.specs.Pinned.{layouts_in}
-use Rattle.query_requests.specs.Opening.{OpensAll, OpensNone, OpensGathered}
+use Rattle.hamming_model.specs.Layouts.{IsLayout}
+use Rattle.session_model.specs.Ledger.{layout_at}
+use Rattle.session_model.specs.Step.{AreLayouts}
+use Rattle.session_model.specs.Told.{ShardLayouts}
+use Rattle.query_requests.specs.Opening.{OpensAll, OpensGathered, OpensNone, OpensShard}
 use Rattle.open_session.specs.Cursors.{ShardSource, asks, stands}
 use Rattle.open_session.proofs.BoundLemmas.{first_of_some}
-use Rattle.open_session.proofs.DeskLemmas.{beyond_less, keeps, pin_within, seen_same, shards_same}
+use Rattle.open_session.proofs.DeskLemmas.{fewer_beyond, keeps, pin_within, shards_same}
 
 -- what holds anyway holds on an error
 pub on_err : {A E : Type 0} (result : Result A E) (P : Type 0) → P → OnErr result P
@@ -85,7 +89,7 @@ beyond_most : (pins : List ℕ) (position : ℕ) → entries_beyond pins positio
 beyond_most [] position = omega arith
 beyond_most (pin ∷ pins) position = omega (arith, beyond_most pins position)
 
--- ---- a desk that is alone
+-- ---- a desk that comes on
 
 -- the code of a question is the one that it was made with
 code_of_ask : (asked : Question) (code : List ℕ) → asked_code (ask_of asked code) ≡ code
@@ -93,20 +97,12 @@ code_of_ask (question.Range tau) code = refl
 code_of_ask (question.Near number) code = refl
 
 module _ (words : ℕ) (old new : DeskState) (is_old : IsDesk words old) (is_new : IsDesk words new)
-    (alone : old.alone ≡ true) (comes : ComesOn old new) where
-  seen : new.seen ≡ old.seen
-  seen = seen_same words old new is_old is_new alone comes
-
+    (comes : ComesOn old new) where
   shards : new.config.shards ≡ old.config.shards
-  shards = shards_same words old new is_old is_new alone comes
+  shards = shards_same words old new is_old is_new comes
 
   pins_number : length (pins_of old) ≡ old.config.shards
   pins_number = length-map old.pins pin_position ∙ is_old.pins
-
-  pinned_within : AllByRecursion (λ pin. pin ≤ length new.seen) (pins_of old)
-  pinned_within = all_places (λ pin. pin ≤ length new.seen) pin_position old.pins None (λ i lt.
-      let place = is_old.each alone i (omega (arith, lt, is_old.pins)) in
-      omega (arith, is_old.pinned i (omega (arith, lt, is_old.pins)), place.left, place.within, ap length seen))
 
   behind_here : (position : ℕ) → behind old.pins position old.config.shards ≡ entries_beyond (pins_of old) position
   behind_here position = ap (behind old.pins position) (sym is_old.pins) ∙ behind_is old.pins position
@@ -114,10 +110,9 @@ module _ (words : ℕ) (old new : DeskState) (is_old : IsDesk words old) (is_new
   opens_none : (from to : ℕ) → to ≤ from + behind old.pins (length new.seen) old.config.shards
       → OpensNone old new from to
   opens_none from to steps = record {
-    seen = seen;
-    keeps = keeps words old new is_old is_new alone comes;
-    pins = λ most le. beyond_less old.pins new.pins most comes.number (λ i lt. comes.rises i
-        (pin_within words old new is_old is_new alone comes i lt));
+    learns = comes.learns;
+    keeps = keeps words old new is_old is_new comes;
+    pins = fewer_beyond words old new is_old is_new comes;
     steps = omega (
       arith,
       steps,
@@ -127,66 +122,93 @@ module _ (words : ℕ) (old new : DeskState) (is_old : IsDesk words old) (is_new
     );
   }
 
-  -- the layouts that were pinned are those in which the shards stand
-  pub layouts_pinned : (position : ℕ) (versions : List Contents) → PinsAll old new position versions
-      → layouts_in versions ≡ layouts_of new
-  layouts_pinned position versions pins =
-      let number : length new.places ≡ old.config.shards = is_new.places (comes.alone ∙ alone) ∙ shards in
-      let some = first_of_some versions (omega (arith, pins.number, is_old.config.some_shards)) in
-      same_seen (λ (version : Contents). version.layout.parts) (λ (place : ShardPlace). place.1.parts) versions new.places
-      some no_place (pins.number ∙ sym number)
-      (λ i lt. ap (λ (l : Laid). l.parts)
-      ((pins.each i some (omega (arith, lt, number))).layout alone ∙ sym (comes.layouts alone i)))
+  module _ (position : ℕ) (versions : List Contents) (pins : PinsAll old new position versions) where
+    -- the first version, since there is one
+    some : Contents
+    some = first_of_some versions (omega (arith, pins.number, is_old.config.some_shards))
 
-  opens_all : {S : Type 0} (asks : S → Asked) (stands : S → Standing) (sources : List S)
-      (position rows : ℕ) (asked : Ask) (room from to : ℕ)
-      → OpensSources asks stands old new position rows (wanted_in asked) (asked_code asked) room sources
-      → to ≤ from + behind old.pins (length new.seen) old.config.shards
-      → OpensAll asks stands old new sources position rows asked room from to
-  opens_all asks stands sources position rows asked room from to opens steps =
-      let some = first_of_some sources (omega (arith, opens.number, is_old.config.some_shards)) in
-      let at : position ≡ length new.seen = omega (arith, opens.after, opens.within, ap length seen) in
-      record {
-        position_is = at;
-        rows_are = opens.rows_are;
-        seen = seen;
-        keeps = keeps words old new is_old is_new alone comes;
+    bits_of : (shard : ℕ) → shard < old.config.shards
+        → (slice_index_or versions shard some).layout.bits ≡ old.config.bits
+    bits_of shard lt = (pins.each shard some lt).version_is.bits_are ∙ ap (λ (c : Config). c.bits) comes.config
+
+    -- the layouts that were pinned are layouts
+    layouts_are : AreLayouts new.config (layouts_in versions)
+    layouts_are = record {
+      number = length-map versions (λ (version : Contents). version.layout.parts) ∙ pins.number ∙ sym shards;
+      each = all_places (IsLayout new.config.bits) (λ (version : Contents). version.layout.parts) versions some
+          (λ i lt.
+          let is = (pins.each i some (omega (arith, lt, pins.number))).version_is in
+          subst (λ bits. IsLayout bits (slice_index_or versions i some).layout.parts) is.bits_are is.sound.laid.layout);
+    }
+
+    -- those in which the shards of a desk stand that is alone
+    layouts_pinned : old.alone ≡ true → layouts_in versions ≡ layouts_of old
+    layouts_pinned alone =
+        same_seen (λ (version : Contents). version.layout.parts) (λ (place : ShardPlace). place.1.parts) versions old.places
+        some no_place (pins.number ∙ sym (is_old.places alone))
+        (λ i lt. ap (λ (l : Laid). l.parts) ((pins.each i some (omega (arith, lt, is_old.places alone))).layout alone))
+
+    module _ {S : Type 0} (asks : S → Asked) (stands : S → Standing) (sources : List S) (asked : Ask) (stored : List ℕ)
+        (code : asked_code asked ≡ take old.config.bits stored) (room : ℕ) where
+      shard_opened : AreSourcesOn asks stands versions (wanted_in asked) stored room sources (length versions)
+          → (shard : ℕ) (d : S) → shard < old.config.shards
+          → OpensShard new position shard (layout_at (layouts_in versions) shard) asked room
+          (asks (slice_index_or sources shard d)) (stands (slice_index_or sources shard d))
+      shard_opened on shard d lt =
+          let version = slice_index_or versions shard some in
+          let inside : shard < length versions = omega (arith, lt, pins.number) in
+          record {
+            version = version;
+            version_is = (pins.each shard some lt).version_is;
+            layout_is = sym (get_or-map (λ (v : Contents). v.layout.parts) versions shard some [] inside);
+            source_is = subst (λ c. IsSourceOn (wanted_in asked) version c room (asks (slice_index_or sources shard d))
+                (stands (slice_index_or sources shard d))) (ap (λ n. take n stored) (bits_of shard lt) ∙ sym code)
+                (on.each shard some d inside);
+          }
+
+      opens_all : (rows from to : ℕ) → AreSourcesOn asks stands versions (wanted_in asked) stored room sources (length versions)
+          → rows ≡ length (rows_of (take position (seen_history new)))
+          → to ≤ from + behind old.pins position old.config.shards
+          → OpensAll asks stands old new sources (layouts_in versions) position rows asked room from to
+      opens_all rows from to on rows_are steps = record {
+        after = pins.after;
+        within = pins.within;
+        rows_are = rows_are;
+        learns = comes.learns;
+        keeps = keeps words old new is_old is_new comes;
         pins = one_list pin_position new.pins None position (λ i lt.
-            ap pin_position (opens.each i some (omega (arith, lt, is_new.pins, shards))).pinned.pin)
+            ap pin_position (pins.each i some (omega (arith, lt, is_new.pins, shards))).pin)
             ∙ ap (λ n. replicate n position) (is_new.pins ∙ shards);
-        steps = omega (arith, steps, behind_here (length new.seen), ap (entries_beyond (pins_of old)) at);
+        steps = omega (arith, steps, behind_here position);
         pins_number = pins_number;
-        behind = subst (λ n. AllByRecursion (λ pin. pin ≤ n) (pins_of old)) (sym at) pinned_within;
-        number = opens.number;
-        each = λ shard d lt.
-            let one = opens.each shard d lt in
-            record {
-              version = one.version;
-              version_is = subst (λ n. IsVersionOf new shard n one.version) at one.pinned.version_is;
-              layout = one.pinned.layout alone ∙ sym (comes.layouts alone shard);
-              source_is = one.source_is;
-            };
+        behind = all_places (λ pin. pin ≤ position) pin_position old.pins None (λ i lt.
+            omega (arith, pin_within words old new is_old is_new comes i lt, pins.after));
+        are_layouts = layouts_are;
+        alone = layouts_pinned;
+        number = on.number_is ∙ pins.number;
+        each = shard_opened on;
       }
 
-  -- the same of a question, by what it wants
-  pub opens_asked : {S : Type 0} (asks : S → Asked) (stands : S → Standing) (sources : List S)
-      (position rows : ℕ) (what : Question) (code : List ℕ) (wanted : Wanted) → wanted ≡ wanted_in (ask_of what code)
-      → (room from to : ℕ) → OpensSources asks stands old new position rows wanted code room sources
-      → to ≤ from + behind old.pins (length new.seen) old.config.shards
-      → OpensAll asks stands old new sources position rows (ask_of what code) room from to
-  opens_asked asks stands sources position rows what code wanted is room from to opens =
-      let asked = ask_of what code in
-      opens_all asks stands sources position rows asked room from to
-      (subst (λ c. OpensSources asks stands old new position rows (wanted_in asked) c room sources)
-      (sym (code_of_ask what code))
-      (subst (λ w. OpensSources asks stands old new position rows w code room sources) is opens))
+    -- the same of a question, by what it wants
+    pub opens_asked : {S : Type 0} (asks : S → Asked) (stands : S → Standing) (sources : List S)
+        (rows : ℕ) (what : Question) (stored : List ℕ) (wanted : Wanted)
+        → wanted ≡ wanted_in (ask_of what (take old.config.bits stored))
+        → (room from to : ℕ) → AreSourcesOn asks stands versions wanted stored room sources (length versions)
+        → rows ≡ length (rows_of (take position (seen_history new)))
+        → to ≤ from + behind old.pins position old.config.shards
+        → OpensAll asks stands old new sources (layouts_in versions) position rows
+        (ask_of what (take old.config.bits stored)) room from to
+    opens_asked asks stands sources rows what stored wanted is room from to on =
+        let code = take old.config.bits stored in
+        opens_all asks stands sources (ask_of what code) stored (code_of_ask what code) room rows from to
+        (subst (λ w. AreSourcesOn asks stands versions w stored room sources (length versions)) is on)
 
 -- what an opening leaves that found no memory
 pub none_opened : {words : ℕ} {old new : DeskState} {from to : ℕ} → IsDesk words old → IsDesk words new
-    → old.alone ≡ true → ComesOn old new → to ≤ from + behind old.pins (length new.seen) old.config.shards
+    → ComesOn old new → to ≤ from + behind old.pins (length new.seen) old.config.shards
     → OpensNone old new from to
-none_opened {words} {old} {new} {from} {to} is_old is_new alone comes steps =
-    opens_none words old new is_old is_new alone comes from to steps
+none_opened {words} {old} {new} {from} {to} is_old is_new comes steps =
+    opens_none words old new is_old is_new comes from to steps
 
 -- ---- a gathering of what was opened
 
@@ -211,11 +233,12 @@ sum_of_rows : (all : List Asked) → sum_by (λ (a : Asked). a.rows) all ≡ sum
 sum_of_rows all = sym (sum-map (λ (a : Asked). a.rows) all)
 
 -- a gathering of what was opened has given nothing
-module _ {W : ℕ} (words : ℕ) (old new : DeskState) (sources : List (ShardSource W)) (position rows : ℕ) (asked : Ask)
+module _ {W : ℕ} (words : ℕ) (old new : DeskState) (sources : List (ShardSource W)) (layouts : ShardLayouts)
+    (position rows : ℕ) (asked : Ask)
     (room from to : ℕ) (is_old : IsDesk words old)
-    (opens : OpensAll (asks {W = W}) (stands {W = W}) old new sources position rows asked room from to) where
-  some : ShardSource W
-  some = first_of_some sources (omega (arith, opens.number, is_old.config.some_shards))
+    (opens : OpensAll (asks {W = W}) (stands {W = W}) old new sources layouts position rows asked room from to) where
+  some_source : ShardSource W
+  some_source = first_of_some sources (omega (arith, opens.number, is_old.config.some_shards))
 
   abbrev numbers : List ℕ
   numbers = map (λ (a : Asked). a.rows) (map (asks {W = W}) sources)
@@ -231,23 +254,22 @@ module _ {W : ℕ} (words : ℕ) (old new : DeskState) (sources : List (ShardSou
     some = is_old.config.some_shards;
     number = length-map (map (asks {W = W}) sources) (λ (a : Asked). a.rows) ∙ length-map sources (asks {W = W}) ∙ opens.number;
     each = λ shard other lt.
-        let one = opens.each shard some lt in
-        get_or-map (λ (a : Asked). a.rows) (map (asks {W = W}) sources) shard (asks some) other
+        let one = opens.each shard some_source lt in
+        get_or-map (λ (a : Asked). a.rows) (map (asks {W = W}) sources) shard (asks some_source) other
         (omega (arith, lt, opens.number, length-map sources (asks {W = W})))
-        ∙ ap (λ (a : Asked). a.rows) (get_or-map (asks {W = W}) sources shard some (asks some) (omega (arith, lt, opens.number)))
+        ∙ ap (λ (a : Asked). a.rows) (get_or-map (asks {W = W}) sources shard some_source (asks some_source) (omega (arith, lt, opens.number)))
         ∙ rows_asked (wanted_in asked) one.version (asked_code asked) _ one.source_is.asks
         ∙ ap length one.version_is.rows
-        ∙ ap (λ n. length (shard_rows shard n (rows_of (take (length new.seen) (seen_history new))))) (ap (λ (c : Config). c.shards) opens.keeps.config)
-        ∙ ap (λ n. length (shard_rows shard old.config.shards (rows_of (take n (seen_history new))))) (sym opens.position_is);
+        ∙ ap (λ n. length (shard_rows shard n (rows_of (take position (seen_history new))))) (ap (λ (c : Config). c.shards) opens.keeps.config);
   }
 
   pub is_gathered : (gather : Gathered (ShardSource W)) → gather ≡ gathered sources (limit_in asked rows) 0 None
       → AllByRecursion (λ source. IsFresh (stands {W = W} source)) sources
       → AreOneLength (map (asks {W = W}) sources)
       → AllByRecursion (λ (a : Asked). a.near ≡ is_nearest (wanted_in asked)) (map (asks {W = W}) sources)
-      → OpensGathered old new gather position asked room from to
+      → OpensGathered old new gather layouts position asked room from to
   is_gathered gather same fresh one_length kind =
-      subst (λ g. OpensGathered {W = W} old new g position asked room from to) (sym same) (record {
+      subst (λ g. OpensGathered {W = W} old new g layouts position asked room from to) (sym same) (record {
         rows = rows;
         gathers = record {
           limit = refl;
