@@ -1,8 +1,8 @@
--- Lemmas on `search`: what it tells is a step of a session that is alone.
-use Rattle.std.proofs.Common.{◌≡◌, ◌<◌, ℕ, ◌+◌, ◌-◌, ◌*◌, true, List, [], ◌∷◌, ◌++◌, length, map, take, Option, Some}
-use Rattle.std.proofs.Common.{Result, Ok, refl, sym, ap, ◌∙◌, subst, inl, inr, arith, length-append}
+-- Lemmas on `search`: what it tells is a step of a session.
+use Rattle.std.proofs.Common.{◌≡◌, ◌<◌, ℕ, ◌+◌, ◌-◌, ◌*◌, true, List, [], ◌∷◌, ◌++◌, length, map, take, slice_set, Option, Some}
+use Rattle.std.proofs.Common.{Result, Ok, OnOk, refl, sym, ap, ◌∙◌, subst, inl, inr, arith}
+use Rattle.std.specs.List.{AllByRecursion}
 use Rattle.std.proofs.Math.Nat.{add-mul}
-use Rattle.std.proofs.Math.ListN.{get_or-map}
 use Rattle.std.specs.Arc.{arc_value}
 use Rattle.line_io.specs.declared.source.Failed.{Failed}
 use Rattle.hamming_model.specs.History.{JournalEntry, rows_of, shard_rows}
@@ -18,26 +18,29 @@ use Rattle.query_protocol.specs.Replies as reply
 use Rattle.shard_version.specs.Contents.{Contents}
 use Rattle.shard_rebuild.specs.Searching.{FindsFrom}
 use Rattle.shard_rebuild.proofs.BuildLemmas.{build_lasts, learns_more}
-use Rattle.session_desk.specs.Desks.{ShardPlace, no_place, pin_position, seen_history}
-use Rattle.session_model.specs.State.{open_queries}
+use Rattle.hamming_model.specs.Layouts.{IsLayout}
+use Rattle.session_desk.specs.Desks.{pin_position, seen_history}
+use Rattle.session_model.specs.State.{State, open_queries}
+use Rattle.session_model.specs.Step.{AreLayouts}
 use Rattle.session_model.specs.Ledger.{layout_at}
 use Rattle.session_model.specs.Searches.{samples_of}
 use Rattle.open_queries.specs.Writing.{Writes}
 use Rattle.open_session.specs.KeptBuild.{KeepsBuilds}
 use Rattle.open_session.specs.KeptDesk.{KeepsDesk}
-use Rattle.open_session.specs.Meaning.{AllKeep, Means}
+use Rattle.open_session.specs.Meaning.{AllKeep, IsSettled}
 use Rattle.open_session.specs.Moments.{Moment, ReadsTo}
 use Rattle.build_requests.specs.Searching.{HasSearched, LacksSearch, SearchesOver}
-use Rattle.open_session.proofs.DeskLemmas.{IsHere, here_same, beyond_less, keeps, pin_within, seen_same}
-use Rattle.open_session.proofs.Here.{Here, StepTo, asked_here, means_to, on_ok, pinned_still, prefix_here, quiet_by, samples_here, writes_one}
-use Rattle.open_session.proofs.MomentLemmas.{reads_still}
-use Rattle.build_requests.proofs.StartLemmas.{beyond_one, seen_here, shards_here, whole_here}
+use Rattle.open_session.proofs.DeskLemmas.{IsHere, fewer_beyond, here_same, keeps, layout_there, pin_within, same_layouts, with_layout}
+use Rattle.open_session.proofs.Here.{Here, StepTo, asked_here, front_of, inside_of, keep_learned, layout_here, means_to, on_ok, pinned_still}
+use Rattle.open_session.proofs.Here.{quiet_by, samples_here, settled_learned, whole_here, within_here, within_new, writes_one}
+use Rattle.open_session.proofs.MomentLemmas.{reads_still, seen_longer, seen_whole}
+use Rattle.build_requests.proofs.StartLemmas.{beyond_one, shards_here}
 
 -- ---- what a search keeps
 
 module _ {W : ℕ} (old new : Moment W) (shard : ℕ) (over : SearchesOver W old new shard) where
-  pub searched_here : (config : Config) → old.desk.alone ≡ true → old.desk.config ≡ config → IsHere config new.desk
-  searched_here config = here_same config old.desk new.desk over.comes.alone over.comes.config
+  pub searched_here : (config : Config) → old.desk.config ≡ config → IsHere config new.desk
+  searched_here config = here_same config old.desk new.desk over.comes.config
 
   pub searched_builds : KeepsBuilds old.desk new.desk
   searched_builds = build_lasts old.desk new.desk (learns_more old.desk new.desk over.comes.learns over.comes.config)
@@ -46,20 +49,22 @@ module _ {A : Type 0} {W : ℕ} (p : Here W) (after : Option (List ℕ)) (result
     (new : Moment W) (shard rounds : ℕ) (is : asked_here p ≡ Ok (Some (Search shard rounds))) where
   module _ (over : SearchesOver W p.old new shard) where
     kept : KeepsDesk p.old.desk new.desk
-    kept = keeps W p.old.desk new.desk over.over.before over.over.after p.stands.means.alone over.comes
+    kept = keeps W p.old.desk new.desk over.over.before over.over.after over.comes
 
-    seen : new.desk.seen ≡ p.old.desk.seen
-    seen = seen_same W p.old.desk new.desk over.over.before over.over.after p.stands.means.alone over.comes
-
-    means_new : Means p.config new.desk p.history p.s
-    means_new = means_to p.config p.old.desk new.desk p.history p.s p.s p.stands.means kept seen refl refl refl
+    config_new : new.desk.config ≡ p.config
+    config_new = kept.config ∙ p.stands.means.config_is
 
     reads_new : ReadsTo p.old.ledgers.reads new.ledgers.reads p.s.queries p.s.queries
     reads_new = subst (λ l. ReadsTo p.old.ledgers.reads l p.s.queries p.s.queries) (sym over.over.reads)
         (reads_still p.old.ledgers.reads p.s.queries)
 
-    keep_new : AllKeep p.config p.history new.cursors (open_queries p.s.queries)
-    keep_new = subst (λ l. AllKeep p.config p.history l (open_queries p.s.queries)) (sym over.over.cursors) p.stands.keep
+    keep_new : OnOk result (AllKeep p.config (seen_history new.desk) new.cursors (open_queries p.s.queries))
+    keep_new = on_ok result (AllKeep p.config (seen_history new.desk) new.cursors (open_queries p.s.queries))
+        (subst (λ l. AllKeep p.config (seen_history new.desk) l (open_queries p.s.queries)) (sym over.over.cursors)
+        (keep_learned p new.desk over.comes.learns kept.config p.old.cursors (open_queries p.s.queries) p.stands.keep))
+
+    settled_new : AllByRecursion (IsSettled p.config (seen_history new.desk)) p.s.queries
+    settled_new = settled_learned p new.desk over.comes.learns kept.config p.s.queries p.stands.settled
 
   -- ---- there was no memory
 
@@ -67,23 +72,26 @@ module _ {A : Type 0} {W : ℕ} (p : Here W) (after : Option (List ℕ)) (result
       → StepTo p after result new
   lacks_step lacks wrote =
       let over = lacks.over in
+      let learns = over.comes.learns in
+      let seen = length new.desk.seen in
       let s = p.s in
       let replies = reply.NoMemory ∷ [] in
-      quiet_by p after result new (Ok (Some (Search shard rounds))) replies s is refl
+      quiet_by p after result new (Ok (Some (Search shard rounds))) replies s is refl s.position s.layouts learns
+      (λ alone. refl) p.stands.means.are_layouts (λ alone. refl)
       (λ later. inl (record { said_is = refl; position = refl; same = refl }))
       (writes_one p.before after result reply.NoMemory wrote)
       (reads_new over)
       (record {
-        longer = omega (arith, ap length (seen over));
+        longer = seen_longer p.old.desk new.desk.seen learns;
         within = λ most le.
-            let pins = beyond_less p.old.desk.pins new.desk.pins most over.comes.number (λ i lt.
-            over.comes.rises i (pin_within W p.old.desk new.desk over.over.before over.over.after p.stands.means.alone over.comes i lt)) in
-            let all : (p.config.shards + 2) * s.position ≡ p.config.shards * s.position + 2 * s.position =
-            add-mul p.config.shards 2 s.position in
-            omega (arith, lacks.steps, pins, all, ap length (seen over), seen_here p);
+            let pins = fewer_beyond W p.old.desk new.desk over.over.before over.over.after over.comes most in
+            let all : (p.config.shards + 2) * seen ≡ p.config.shards * seen + 2 * seen = add-mul p.config.shards 2 seen in
+            omega (arith, lacks.steps, pins, all);
       })
-      p.stands.settled (samples_here p new s.queries over.over.samples refl) (means_new over) (kept over)
-      (on_ok result (AllKeep p.config p.history new.cursors (open_queries s.queries)) (keep_new over))
+      (settled_new over) (samples_here p new s.queries over.over.samples refl)
+      (means_to p new.desk s (kept over) (within_new p new.desk learns)
+      (λ alone. sym (whole_here p new.desk learns alone)) refl refl)
+      (kept over) (keep_new over)
       (pinned_still p new s over.over.pinned refl) (lacks.position ∙ p.stands.position)
 
   -- ---- a layout was found
@@ -98,40 +106,53 @@ module _ {A : Type 0} {W : ℕ} (p : Here W) (after : Option (List ℕ)) (result
     abbrev parts : List (List ℕ)
     parts = (arc_value found.layout).parts
 
-    at_here : at ≡ p.s.position
-    at_here = omega (arith, has.finds.after, has.finds.within, ap length (seen has.over), seen_here p)
+    abbrev past : List JournalEntry
+    past = seen_history new.desk
 
-    -- the search began with the layout of the state
-    layout_here : version.layout.parts ≡ layout_at p.s.layouts shard
-    layout_here =
-        ap (λ (l : Laid). l.parts) (finds.pinned.layout p.stands.means.alone)
-        ∙ sym (get_or-map (λ (place : ShardPlace). place.1.parts) p.old.desk.places shard no_place)
-        ∙ ap (λ l. layout_at l shard) (sym p.stands.means.layouts)
+    -- where the desk is alone, it was searched over all that was seen
+    at_whole : p.old.desk.alone ≡ true → at ≡ length new.desk.seen
+    at_whole alone = omega (
+      arith,
+      has.finds.after,
+      has.finds.within,
+      ap length (seen_whole p.old.desk new.desk.seen has.over.comes.learns alone),
+    )
 
-    -- over the shard's rows of the whole history
+    -- the layout that the line saw, and those of the state beside it
+    abbrev layouts : List (List (List ℕ))
+    layouts = slice_set p.s.layouts shard version.layout.parts
+
+    bits_here : version.layout.bits ≡ p.config.bits
+    bits_here = finds.pinned.version_is.bits_are ∙ ap (λ (c : Config). c.bits) (config_new has.over)
+
+    are_layouts : AreLayouts p.config layouts
+    are_layouts = with_layout p.s.layouts shard version.layout.parts p.config p.stands.means.are_layouts
+        (subst (λ bits. IsLayout bits version.layout.parts) bits_here finds.pinned.version_is.sound.laid.layout)
+
+    -- the search began with it
+    layout_seen : version.layout.parts ≡ layout_at layouts shard
+    layout_seen = sym (layout_there p.s.layouts shard version.layout.parts
+        (omega (arith, inside, p.stands.means.are_layouts.number)))
+
+    -- over the shard's rows at the position
     rows_here : (later : List JournalEntry)
-        → version.rows ≡ shard_rows shard p.config.shards (rows_of (take p.s.position (p.history ++ later)))
+        → version.rows ≡ shard_rows shard p.config.shards (rows_of (take at (past ++ later)))
     rows_here later =
         finds.pinned.version_is.rows
-        ∙ ap (λ (c : Config). shard_rows shard c.shards (rows_of (take at (seen_history new.desk)))) (means_new has.over).config_is
-        ∙ ap (λ h. shard_rows shard p.config.shards (rows_of (take at h))) (sym (means_new has.over).history_is)
-        ∙ ap (λ n. shard_rows shard p.config.shards (rows_of (take n p.history))) at_here
-        ∙ ap (λ h. shard_rows shard p.config.shards (rows_of h)) (whole_here p ∙ sym (prefix_here p later))
+        ∙ ap (λ (c : Config). shard_rows shard c.shards (rows_of (take at past))) (config_new has.over)
+        ∙ ap (λ h. shard_rows shard p.config.shards (rows_of h)) (sym (front_of new.desk later at has.finds.within))
 
     -- for the samples of the state
     samples_are : map (plain_sample version.layout.bits) p.old.samples ≡ samples_of p.s.queries
-    samples_are =
-        ap (λ n. map (plain_sample n) p.old.samples)
-        (finds.pinned.version_is.bits_are ∙ ap (λ (c : Config). c.bits) (means_new has.over).config_is)
-        ∙ p.stands.samples
+    samples_are = ap (λ n. map (plain_sample n) p.old.samples) bits_here ∙ p.stands.samples
 
     ends_here : (later : List JournalEntry)
-        → IsSearchEnd (shard_rows shard p.config.shards (rows_of (take p.s.position (p.history ++ later))))
-        (samples_of p.s.queries) rounds (layout_at p.s.layouts shard) parts found.before found.after found.swaps
+        → IsSearchEnd (shard_rows shard p.config.shards (rows_of (take at (past ++ later))))
+        (samples_of p.s.queries) rounds (layout_at layouts shard) parts found.before found.after found.swaps
     ends_here later =
-        subst (λ l. IsSearchEnd (shard_rows shard p.config.shards (rows_of (take p.s.position (p.history ++ later))))
-        (samples_of p.s.queries) rounds l parts found.before found.after found.swaps) layout_here
-        (subst (λ samples. IsSearchEnd (shard_rows shard p.config.shards (rows_of (take p.s.position (p.history ++ later))))
+        subst (λ l. IsSearchEnd (shard_rows shard p.config.shards (rows_of (take at (past ++ later))))
+        (samples_of p.s.queries) rounds l parts found.before found.after found.swaps) layout_seen
+        (subst (λ samples. IsSearchEnd (shard_rows shard p.config.shards (rows_of (take at (past ++ later))))
         samples rounds version.layout.parts parts found.before found.after found.swaps) samples_are
         (subst (λ rows. IsSearchEnd rows (map (plain_sample version.layout.bits) p.old.samples) rounds version.layout.parts
         parts found.before found.after found.swaps) (rows_here later) finds.ends))
@@ -142,12 +163,16 @@ module _ {A : Type 0} {W : ℕ} (p : Here W) (after : Option (List ℕ)) (result
     found_step wrote =
         let s = p.s in
         let over = has.over in
-        let Said : ℕ → LineReply = λ n. reply.Searched shard found.before found.after found.swaps n (layout_text parts) in
-        let said : LineReply = Said s.position in
-        quiet_by p after result new (Ok (Some (Search shard rounds))) (said ∷ []) s is refl
+        let learns = over.comes.learns in
+        let said : LineReply = reply.Searched shard found.before found.after found.swaps at (layout_text parts) in
+        let then : State = record s { position = at } in
+        quiet_by p after result new (Ok (Some (Search shard rounds))) (said ∷ []) then is refl at layouts learns
+        (λ alone. at_whole alone ∙ whole_here p new.desk learns alone) are_layouts
+        (λ alone. same_layouts s.layouts shard version.layout.parts
+        (ap (λ (l : Laid). l.parts) (finds.pinned.layout alone) ∙ layout_here p alone shard))
         (λ later. inr (record {
-          not_before = omega arith;
-          within = omega (arith, p.stands.means.position, length-append p.history later);
+          not_before = omega (arith, within_here p, has.finds.after);
+          within = inside_of new.desk later at has.finds.within;
           found = parts;
           before = found.before;
           after = found.after;
@@ -156,19 +181,20 @@ module _ {A : Type 0} {W : ℕ} (p : Here W) (after : Option (List ℕ)) (result
           said_is = refl;
           position = refl;
         }))
-        (writes_one p.before after result said (subst (λ n. Writes p.before after result (reply_line (Said n))) at_here wrote))
+        (writes_one p.before after result said wrote)
         (reads_new over)
         (record {
-          longer = omega (arith, ap length (seen over));
+          longer = seen_longer p.old.desk new.desk.seen learns;
           within = λ most le.
               let pin = ap pin_position finds.pinned.pin in
               let lt : shard < length p.old.desk.pins = omega (arith, inside, over.over.before.pins, shards_here p) in
-              let before = pin_within W p.old.desk new.desk over.over.before over.over.after p.stands.means.alone over.comes shard lt in
-              let pins = beyond_one at most (omega (arith, at_here, le, ap length (seen over), seen_here p))
+              let before = pin_within W p.old.desk new.desk over.over.before over.over.after over.comes shard lt in
+              let pins = beyond_one at most (omega (arith, has.finds.within, le))
               p.old.desk.pins new.desk.pins shard over.comes.number lt over.over.others pin
-              (omega (arith, before, at_here, seen_here p)) in
+              (omega (arith, before, has.finds.after)) in
               omega (arith, has.steps, pins);
         })
-        p.stands.settled (samples_here p new s.queries over.over.samples refl) (means_new over) (kept over)
-        (on_ok result (AllKeep p.config p.history new.cursors (open_queries s.queries)) (keep_new over))
-        (pinned_still p new s over.over.pinned refl) (has.position ∙ at_here)
+        (settled_new over) (samples_here p new s.queries over.over.samples refl)
+        (means_to p new.desk then (kept over) has.finds.within at_whole refl refl)
+        (kept over) (keep_new over)
+        (pinned_still p new then over.over.pinned refl) has.position

@@ -1,7 +1,7 @@
--- Lemmas on `repart` and `build`: what each tells is a step of a session that is alone.
-use Rattle.std.proofs.Common.{◌≡◌, ◌≢◌, ℕ, zero, suc, ◌+◌, ◌-◌, ◌*◌, ◌<◌, ◌≤◌, List, [], ◌∷◌, ◌++◌}
+-- Lemmas on `repart` and `build`: what each tells is a step of a session.
+use Rattle.std.proofs.Common.{◌≡◌, ◌≢◌, true, ℕ, zero, suc, ◌+◌, ◌-◌, ◌*◌, ◌<◌, ◌≤◌, List, [], ◌∷◌, ◌++◌}
 use Rattle.std.proofs.Common.{length, map, take, slice_index_or, Option, Some, None, Result, Ok, refl, sym, ap, ◌∙◌}
-use Rattle.std.proofs.Common.{subst, inl, inr, arith, append-nil, length-append}
+use Rattle.std.proofs.Common.{subst, inl, inr, arith}
 use Rattle.std.proofs.Math.Nat.{add-mul}
 use Rattle.line_io.specs.declared.source.Failed.{Failed}
 use Rattle.hamming_model.specs.History.{JournalEntry, rows_of, shard_rows}
@@ -20,13 +20,14 @@ use Rattle.open_queries.specs.Writing.{Writes}
 use Rattle.version_draft.specs.Unfinished.{Unfinished, with_placed}
 use Rattle.open_session.specs.declared.shard_build.ShardBuild.{ShardBuild}
 use Rattle.open_session.specs.KeptBuild.{IsBuildKept, MeansBuild, StandsFrom, left_in}
-use Rattle.open_session.specs.KeptDesk.{LeavesDesk, pins_of}
-use Rattle.open_session.specs.Meaning.{AllKeep, Means}
+use Rattle.open_session.specs.KeptDesk.{pins_of}
+use Rattle.open_session.specs.Meaning.{AllKeep}
 use Rattle.open_session.specs.Moments.{Moment, ReadsTo}
 use Rattle.build_requests.specs.Rebuilding.{HadNoBuild, HasPlaced, HasStarted, PlacesAs, StartsAs, WasOtherBuild, kept_build}
-use Rattle.open_session.proofs.Here.{Here, asked_here, exchange_here, means_to, on_ok, pinned_still, prefix_here, samples_here, writes_one}
-use Rattle.open_session.proofs.MomentLemmas.{as_long, reads_still}
-use Rattle.open_session.proofs.DeskLemmas.{beyond_less, keeps, pin_within, seen_same}
+use Rattle.open_session.proofs.Here.{Here, asked_here, exchange_here, front_of, inside_of, means_to, pinned_still, samples_here, whole_here}
+use Rattle.open_session.proofs.Here.{within_here, within_new, writes_one}
+use Rattle.open_session.proofs.MomentLemmas.{only_keeps, reads_still, seen_longer, seen_whole}
+use Rattle.open_session.proofs.DeskLemmas.{beyond_less, fewer_beyond, keeps, only_still, pin_within}
 use Rattle.open_session.proofs.WholeLemmas.{WholeTo, leaves, no_build, some_build, still_whole, whole_by}
 
 -- ---- one shard was pinned further
@@ -49,19 +50,10 @@ module _ (at most : ℕ) (le : at ≤ most) where
       (λ other apart. others (suc other) (λ e. apart (omega (arith, e)))) here before in
       omega (arith, rest, ap pin_position (others zero (λ e. omega (arith, e))))
 
--- ---- the desk has seen no more
+-- ---- the desk
 
-module _ {W : ℕ} (p : Here W) where
-  -- all that the desk has seen
-  pub seen_here : length p.old.desk.seen ≡ p.s.position
-  seen_here = sym (as_long p.old.desk) ∙ ap length (sym p.stands.means.history_is) ∙ sym p.stands.means.position
-
-  pub shards_here : p.old.desk.config.shards ≡ p.config.shards
-  shards_here = ap (λ (c : Config). c.shards) p.stands.means.config_is
-
-  -- the whole history, up to the last position
-  pub whole_here : take p.s.position p.history ≡ p.history
-  whole_here = ap (take p.s.position) (sym (append-nil p.history)) ∙ prefix_here p []
+pub shards_here : {W : ℕ} (p : Here W) → p.old.desk.config.shards ≡ p.config.shards
+shards_here p = ap (λ (c : Config). c.shards) p.stands.means.config_is
 
 -- ---- `repart`
 
@@ -79,7 +71,7 @@ module _ {A : Type 0} {W : ℕ} (p : Here W) (after : Option (List ℕ)) (result
       subst (λ m. WholeTo p after result m) (sym was.same)
       (still_whole p after result (Ok (Some (Repart shard layout.parts))) (reply.Bad (bad 10)) is refl
       (record { steps = λ told. refl; at = λ told. refl; moved = refl; swapped = refl })
-      (λ later. subst (λ b. Starting b (p.history ++ later) (exchange_here p (reply.Bad (bad 10) ∷ []) p.s.position) p.s)
+      (λ later. subst (λ b. Starting b (p.history ++ later) (exchange_here p p.old (reply.Bad (bad 10) ∷ []) p.s.position) p.s)
       (sym found.1) (record { said_is = refl; position = refl; same = refl }))
       (subst (λ r. Writes p.before after result (reply_line r)) was.told wrote))
 
@@ -89,76 +81,66 @@ module _ {A : Type 0} {W : ℕ} (p : Here W) (after : Option (List ℕ)) (result
   no_start : HadNoBuild W p.old new shard this → WholeTo p after result new
   no_start had =
       let over = had.over in
-      let kept = keeps W p.old.desk new.desk over.before over.after p.stands.means.alone had.comes in
-      let seen = seen_same W p.old.desk new.desk over.before over.after p.stands.means.alone had.comes in
+      let kept = keeps W p.old.desk new.desk over.before over.after had.comes in
+      let learns = had.comes.learns in
+      let seen = length new.desk.seen in
       let s = p.s in
       let replies = reply.NoMemory ∷ [] in
-      whole_by p after result new (Ok (Some (Repart shard layout.parts))) replies s is refl
-      (λ later. subst (λ b. Starting b (p.history ++ later) (exchange_here p replies s.position) s)
+      whole_by p after result new (Ok (Some (Repart shard layout.parts))) replies s is refl s.position learns (λ alone. refl)
+      (λ later. subst (λ b. Starting b (seen_history new.desk ++ later) (exchange_here p new replies s.position) s)
       (sym (none_here had.none)) (inl (record { said_is = refl; position = refl; same = refl })))
-      refl
+      (λ alone. refl)
       (writes_one p.before after result reply.NoMemory
       (subst (λ r. Writes p.before after result (reply_line r)) had.told wrote))
       (subst (λ l. ReadsTo p.old.ledgers.reads l s.queries s.queries) (sym over.reads)
       (reads_still p.old.ledgers.reads s.queries))
       (λ from stands. record {
         spent = record {
-          longer = omega (arith, ap length seen);
+          longer = seen_longer p.old.desk new.desk.seen learns;
           within = λ most le.
-              let pins = beyond_less p.old.desk.pins new.desk.pins most had.comes.number (λ i lt.
-              had.comes.rises i (pin_within W p.old.desk new.desk over.before over.after p.stands.means.alone had.comes i lt)) in
-              let all : (p.config.shards + 2) * s.position ≡ p.config.shards * s.position + 2 * s.position =
-              add-mul p.config.shards 2 s.position in
-              omega (arith, had.steps, pins, all, ap length seen, seen_here p, ap left_in had.build);
+              let pins = fewer_beyond W p.old.desk new.desk over.before over.after had.comes most in
+              let all : (p.config.shards + 2) * seen ≡ p.config.shards * seen + 2 * seen = add-mul p.config.shards 2 seen in
+              omega (arith, had.steps, pins, all, ap left_in had.build);
         };
         stands = subst (StandsFrom from) (sym had.build) tt;
       })
       p.stands.settled (samples_here p new s.queries over.samples refl)
-      (means_to p.config p.old.desk new.desk p.history s s p.stands.means kept seen refl refl refl)
+      (means_to p new.desk s kept (within_new p new.desk learns) (λ alone. sym (whole_here p new.desk learns alone)) refl refl)
       (subst (λ b. MeansBuild new.desk b s.build) (sym had.build) (subst (MeansBuild {W = W} new.desk None) (sym (none_here had.none)) tt))
       (leaves p.old.desk new.desk kept) kept.done
-      (on_ok result (AllKeep p.config p.history new.cursors (open_queries s.queries))
-      (subst (λ l. AllKeep p.config p.history l (open_queries s.queries)) (sym over.cursors) p.stands.keep))
+      (subst (λ l. AllKeep p.config p.history l (open_queries s.queries)) (sym over.cursors) p.stands.keep)
       (pinned_still p new s over.pinned refl) (had.position ∙ p.stands.position)
 
   module _ (has : HasStarted W p.old new shard layout this) where
     abbrev build : Unfinished
     build = has.build
 
+    -- the position at which the build was started
+    abbrev at : ℕ
+    at = build.contents.at
+
     abbrev started : State
-    started = record p.s { position = p.s.position; build = Some (record { shard = shard; layout = layout.parts; left = build.left }) }
+    started = record p.s { position = at; build = Some (record { shard = shard; layout = layout.parts; left = build.left }) }
 
-    seen_start : new.desk.seen ≡ p.old.desk.seen
-    seen_start = seen_same W p.old.desk new.desk has.over.before has.over.after p.stands.means.alone has.comes
-
-    -- the build was started at the last position
-    at_here : build.contents.at ≡ p.s.position
-    at_here = omega (arith, has.begins.after, has.of_shard.within, ap length seen_start, seen_here p)
-
-    abbrev kept_desk : Means p.config new.desk p.history started
-    kept_desk = means_to p.config p.old.desk new.desk p.history p.s started p.stands.means
-        (keeps W p.old.desk new.desk has.over.before has.over.after p.stands.means.alone has.comes) seen_start
-        refl refl refl
+    -- where the desk is alone, it is all that was seen
+    at_whole : p.old.desk.alone ≡ true → at ≡ length new.desk.seen
+    at_whole alone =
+        omega (arith, has.begins.after, has.of_shard.within, ap length (seen_whole p.old.desk new.desk.seen has.comes.learns alone))
 
     -- all rows of the shard are left
     left_here : (later : List JournalEntry) → build.left
-        ≡ length (shard_rows shard p.config.shards (rows_of (take p.s.position (p.history ++ later))))
+        ≡ length (shard_rows shard p.config.shards (rows_of (take at (seen_history new.desk ++ later))))
     left_here later =
         has.begins.left
-        ∙ ap (λ n. length (shard_rows shard n (rows_of (take build.contents.at (seen_history new.desk))))) (shards_here p)
-        ∙ ap (λ h. length (shard_rows shard p.config.shards (rows_of (take build.contents.at h)))) (sym kept_desk.history_is)
-        ∙ ap (λ n. length (shard_rows shard p.config.shards (rows_of (take n p.history)))) at_here
-        ∙ ap (λ h. length (shard_rows shard p.config.shards (rows_of h))) (whole_here p ∙ sym (prefix_here p later))
-
-    same_reply : this ≡ reply.Building shard build.left p.s.position
-    same_reply = has.told ∙ ap (reply.Building shard build.left) at_here
+        ∙ ap (λ n. length (shard_rows shard n (rows_of (take at (seen_history new.desk))))) (shards_here p)
+        ∙ ap (λ h. length (shard_rows shard p.config.shards (rows_of h))) (sym (front_of new.desk later at has.of_shard.within))
 
     is_kept : IsBuildKept new.desk (kept_build {W = W} shard build)
         (record { shard = shard; layout = layout.parts; left = build.left })
     is_kept = record {
       shard = refl;
       of_desk = record {
-        inside = omega (arith, inside, ap (λ (c : Config). c.shards) kept_desk.config_is);
+        inside = omega (arith, inside, shards_here p, ap (λ (c : Config). c.shards) has.comes.config);
         of_shard = has.of_shard;
       };
       layout = ap (λ (u : Unfinished). u.contents.layout.parts) has.begins.begins;
@@ -169,42 +151,45 @@ module _ {A : Type 0} {W : ℕ} (p : Here W) (after : Option (List ℕ)) (result
     start_done =
         let s = p.s in
         let over = has.over in
-        let kept = keeps W p.old.desk new.desk over.before over.after p.stands.means.alone has.comes in
-        let replies = reply.Building shard build.left s.position ∷ [] in
-        whole_by p after result new (Ok (Some (Repart shard layout.parts))) replies started is refl
-        (λ later. subst (λ b. Starting b (p.history ++ later) (exchange_here p replies s.position) started)
+        let kept = keeps W p.old.desk new.desk over.before over.after has.comes in
+        let learns = has.comes.learns in
+        let replies = reply.Building shard build.left at ∷ [] in
+        whole_by p after result new (Ok (Some (Repart shard layout.parts))) replies started is refl at learns
+        (λ alone. at_whole alone ∙ whole_here p new.desk learns alone)
+        (λ later. subst (λ b. Starting b (seen_history new.desk ++ later) (exchange_here p new replies at) started)
         (sym (none_here has.none)) (inr (record {
-          not_before = omega arith;
-          within = omega (arith, p.stands.means.position, length-append p.history later);
+          not_before = omega (arith, within_here p, has.begins.after);
+          within = inside_of new.desk later at has.of_shard.within;
           left = build.left;
           left_is = left_here later;
           said_is = refl;
           started = refl;
         })))
-        refl
-        (writes_one p.before after result (reply.Building shard build.left s.position)
-        (subst (λ r. Writes p.before after result (reply_line r)) same_reply wrote))
+        (λ alone. refl)
+        (writes_one p.before after result (reply.Building shard build.left at)
+        (subst (λ r. Writes p.before after result (reply_line r)) has.told wrote))
         (subst (λ l. ReadsTo p.old.ledgers.reads l s.queries s.queries) (sym over.reads)
         (reads_still p.old.ledgers.reads s.queries))
         (λ from stands. record {
           spent = record {
-            longer = omega (arith, ap length seen_start);
+            longer = seen_longer p.old.desk new.desk.seen learns;
             within = λ most le.
                 let pin = ap pin_position has.begins.pinned.pin in
                 let lt : shard < length p.old.desk.pins = omega (arith, inside, over.before.pins, shards_here p) in
-                let before = pin_within W p.old.desk new.desk over.before over.after p.stands.means.alone has.comes shard lt in
-                let pins = beyond_one build.contents.at most (omega (arith, at_here, le, ap length seen_start, seen_here p))
+                let before = pin_within W p.old.desk new.desk over.before over.after has.comes shard lt in
+                let pins = beyond_one at most (omega (arith, has.of_shard.within, le))
                 p.old.desk.pins new.desk.pins shard has.comes.number lt over.others pin
-                (omega (arith, before, at_here, seen_here p)) in
+                (omega (arith, before, has.begins.after)) in
                 omega (arith, has.steps, pins, ap left_in has.none, ap left_in has.kept);
           };
-          stands = subst (StandsFrom s.position) (sym has.kept) (omega (arith, at_here));
+          stands = subst (StandsFrom at) (sym has.kept) (omega arith);
         })
-        p.stands.settled (samples_here p new s.queries over.samples refl) kept_desk (subst (λ b. MeansBuild new.desk b started.build) (sym has.kept) is_kept)
+        p.stands.settled (samples_here p new s.queries over.samples refl)
+        (means_to p new.desk started kept has.of_shard.within at_whole refl refl)
+        (subst (λ b. MeansBuild new.desk b started.build) (sym has.kept) is_kept)
         (leaves p.old.desk new.desk kept) kept.done
-        (on_ok result (AllKeep p.config p.history new.cursors (open_queries s.queries))
-        (subst (λ l. AllKeep p.config p.history l (open_queries s.queries)) (sym over.cursors) p.stands.keep))
-        (pinned_still p new started over.pinned refl) (has.position ∙ at_here)
+        (subst (λ l. AllKeep p.config p.history l (open_queries s.queries)) (sym over.cursors) p.stands.keep)
+        (pinned_still p new started over.pinned refl) has.position
 
   pub start_step : StartsAs W p.old new shard layout this → WholeTo p after result new
   start_step (inl other) = other_start other.0 other.1 other.2
@@ -226,7 +211,7 @@ module _ {A : Type 0} {W : ℕ} (p : Here W) (after : Option (List ℕ)) (result
       subst (λ m. WholeTo p after result m) (sym was.same)
       (still_whole p after result (Ok (Some (request.Build number))) (reply.Bad (bad 10)) is refl
       (record { steps = λ told. refl; at = λ told. refl; moved = refl; swapped = refl })
-      (λ later. subst (λ b. Placing b (exchange_here p (reply.Bad (bad 10) ∷ []) p.s.position) p.s)
+      (λ later. subst (λ b. Placing b (exchange_here p p.old (reply.Bad (bad 10) ∷ []) p.s.position) p.s)
       (sym missing) (record { said_is = refl; position = refl; same = refl }))
       (subst (λ r. Writes p.before after result (reply_line r)) was.told wrote))
 
@@ -255,10 +240,13 @@ module _ {A : Type 0} {W : ℕ} (p : Here W) (after : Option (List ℕ)) (result
         has.told ∙ ap (λ n. reply.Built n (has.build.left - number)) found.2.shard
         ∙ ap (λ n. reply.Built before_it.shard (n - number)) found.2.left in
         let after_it = ap (λ (m : Moment W). m.build) has.after in
-        whole_by p after result new (Ok (Some (request.Build number))) (said ∷ []) placed is refl
-        (λ later. subst (λ b. Placing b (exchange_here p (said ∷ []) s.position) placed) (sym found.1)
+        let only = only_still old.desk new.desk desk_same in
+        let kept = only_keeps old.desk new.desk only in
+        whole_by p after result new (Ok (Some (request.Build number))) (said ∷ []) placed is refl s.position only.learns
+        (λ alone. refl)
+        (λ later. subst (λ b. Placing b (exchange_here p new (said ∷ []) s.position) placed) (sym found.1)
         (record { said_is = refl; position = refl; placed = refl }))
-        refl
+        (λ alone. refl)
         (writes_one p.before after result said (subst (λ r. Writes p.before after result (reply_line r)) same wrote))
         (subst (λ l. ReadsTo old.ledgers.reads l s.queries s.queries) (sym has.reads)
         (reads_still old.ledgers.reads s.queries))
@@ -276,15 +264,8 @@ module _ {A : Type 0} {W : ℕ} (p : Here W) (after : Option (List ℕ)) (result
           stands = subst (StandsFrom from) (sym after_it) (subst (StandsFrom from) has.was stands);
         })
         p.stands.settled (samples_here p new s.queries (ap (λ (m : Moment W). m.samples) has.after) refl)
-        (subst (λ d. Means p.config d p.history placed) (sym desk_same) (record {
-          config_is = p.stands.means.config_is;
-          alone = p.stands.means.alone;
-          history_is = p.stands.means.history_is;
-          position = p.stands.means.position;
-          who = p.stands.means.who;
-          layouts = p.stands.means.layouts;
-          are_layouts = p.stands.means.are_layouts;
-        }))
+        (means_to p new.desk placed kept (within_new p new.desk only.learns)
+        (λ alone. sym (whole_here p new.desk only.learns alone)) refl refl)
         (subst (λ b. MeansBuild new.desk b placed.build) (sym after_it)
         (subst (λ d. IsBuildKept d (kept_build {W = W} has.shard (with_placed has.build number)) (build_placed before_it number))
         (sym desk_same) (record {
@@ -296,11 +277,9 @@ module _ {A : Type 0} {W : ℕ} (p : Here W) (after : Option (List ℕ)) (result
           layout = found.2.layout;
           left = ap (λ n. n - number) found.2.left;
         })))
-        (subst (LeavesDesk old.desk) (sym desk_same) (record { board = refl; who = refl; config = refl; fronts = refl; late = refl; alone = refl }))
-        (ap (λ (d : DeskState). d.done) desk_same)
-        (on_ok result (AllKeep p.config p.history new.cursors (open_queries s.queries))
+        (leaves old.desk new.desk kept) kept.done
         (subst (λ l. AllKeep p.config p.history l (open_queries s.queries))
-        (sym (ap (λ (m : Moment W). m.cursors) has.after)) p.stands.keep))
+        (sym (ap (λ (m : Moment W). m.cursors) has.after)) p.stands.keep)
         (pinned_still p new placed (ap (λ (m : Moment W). m.pinned) has.after) refl)
         (ap (λ (m : Moment W). m.position) has.after ∙ p.stands.position)
 

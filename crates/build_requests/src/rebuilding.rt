@@ -1,6 +1,6 @@
 //! `repart`, `build` and `swap`: the requests on builds.
 
-ghost use Rattle.std.specs.Prelude.{◌≡◌, ◌<◌, ◌≤◌, ℕ, List, true};
+ghost use Rattle.std.specs.Prelude.{◌≡◌, ◌<◌, ◌≤◌, ℕ, List};
 ghost use Rattle.std.specs.Arc.{arc_value};
 ghost use Rattle.hamming_model.specs.declared.limits.TheConstants.{WORDS_MOST};
 ghost use Rattle.query_protocol.specs.Requests.{Repart, Build, Swap};
@@ -38,7 +38,6 @@ pub fn start<const W: usize, D: Desk<W>, K: Sink, M>(
     upkeep: &mut Steps<M>,
 ) -> Result<(), Failed>
     requires ready { IsReady W config.now }
-    requires alone { (D.desk desk.old).alone ≡ true }
     requires config { (D.desk desk.old).config ≡ config.now }
     requires build { IsBuildOfDesk (D.desk desk.old) session.old.build }
     requires shard { shard < config.now.shards }
@@ -51,7 +50,6 @@ pub fn start<const W: usize, D: Desk<W>, K: Sink, M>(
     ensures samples { session.new.samples ≡ session.old.samples }
     ensures requests { session.new.requests ≡ session.old.requests }
     ensures queries { session.new.queries ≡ session.old.queries }
-    ensures alone { (D.desk desk.new).alone ≡ true }
     ensures config { (D.desk desk.new).config ≡ config.now }
     ensures cause { IsCaused (K.faults sink.old) (K.faults sink.new) result }
 {
@@ -105,7 +103,7 @@ pub fn place<const W: usize, K: Sink, M>(
     upkeep: &mut Steps<M>,
 ) -> Result<(), Failed>
     requires ready { IsReady W config.now }
-    ensures answers { (desk : DeskState) → desk.alone ≡ true →
+    ensures answers { (desk : DeskState) →
         AnswersOnBuild (Build rows_most) result config.now desk desk session.old session.new
         upkeep.old upkeep.new (K.held sink.old) (K.held sink.new) }
     ensures build { (desk : DeskState) → IsBuildOfDesk desk session.old.build →
@@ -144,7 +142,8 @@ fn placed<const W: usize, M>(
     Reply::Built { shard, left }
 }
 
-/// Puts the build in the place of its shard's layout, and answers the position at which it stands.
+/// Puts the build in the place of its shard's layout, and answers the position at which it stands; or, where another desk brought the
+/// shard beyond it, the position to which the build came and that of the shard.
 pub fn swap<const W: usize, D: Desk<W>, K: Sink, M>(
     alloc: Global,
     config: &Config,
@@ -154,7 +153,6 @@ pub fn swap<const W: usize, D: Desk<W>, K: Sink, M>(
     upkeep: &mut Steps<M>,
 ) -> Result<(), Failed>
     requires ready { IsReady W config.now }
-    requires alone { (D.desk desk.old).alone ≡ true }
     requires config { (D.desk desk.old).config ≡ config.now }
     requires build { IsBuildOfDesk (D.desk desk.old) session.old.build }
     ensures answers { AnswersOnBuild Swap result config.now (D.desk desk.old) (D.desk desk.new)
@@ -164,7 +162,6 @@ pub fn swap<const W: usize, D: Desk<W>, K: Sink, M>(
     ensures samples { session.new.samples ≡ session.old.samples }
     ensures requests { session.new.requests ≡ session.old.requests }
     ensures queries { session.new.queries ≡ session.old.queries }
-    ensures alone { (D.desk desk.new).alone ≡ true }
     ensures config { (D.desk desk.new).config ≡ config.now }
     ensures cause { IsCaused (K.faults sink.old) (K.faults sink.new) result }
 {
@@ -180,7 +177,6 @@ fn swapped<const W: usize, D: Desk<W>, M>(
     upkeep: &mut Steps<M>,
 ) -> Reply
     requires few_words { W ≤ WORDS_MOST }
-    requires alone { (D.desk desk.old).alone ≡ true }
     requires build { IsBuildOfDesk (D.desk desk.old) session.old.build }
     ensures swaps { (reads : List ℕ) →
         SwapsInAs W (moment_of (D.desk desk.old) session.old reads upkeep.old)

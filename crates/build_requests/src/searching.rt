@@ -1,6 +1,6 @@
 //! `search`.
 
-ghost use Rattle.std.specs.Prelude.{◌≡◌, ◌<◌, ◌≤◌, ℕ, List, true, IfOk, OnErr};
+ghost use Rattle.std.specs.Prelude.{◌≡◌, ◌<◌, ◌≤◌, ℕ, List, IfOk, OnErr};
 ghost use Rattle.layout_search.specs.Improves.{AreSamples};
 ghost use Rattle.query_protocol.specs.Requests.{Search};
 ghost use Rattle.query_protocol.specs.Stored.{AreRounds};
@@ -33,7 +33,6 @@ pub fn search<const W: usize, D: Desk<W>, K: Sink, M>(
     sink: &mut K,
     upkeep: &mut Steps<M>,
 ) -> Result<(), Failed>
-    requires alone { (D.desk desk.old).alone ≡ true }
     requires config { (D.desk desk.old).config ≡ config.now }
     requires samples { AreSamples config.now.bits session.old.samples }
     requires shard { shard < config.now.shards }
@@ -47,7 +46,6 @@ pub fn search<const W: usize, D: Desk<W>, K: Sink, M>(
     ensures pinned { session.new.pinned ≡ session.old.pinned }
     ensures samples { session.new.samples ≡ session.old.samples }
     ensures build { session.new.build ≡ session.old.build }
-    ensures alone { (D.desk desk.new).alone ≡ true }
     ensures config { (D.desk desk.new).config ≡ config.now }
     ensures builds { KeepsBuilds (D.desk desk.old) (D.desk desk.new) }
     ensures cause { IsCaused (K.faults sink.old) (K.faults sink.new) result }

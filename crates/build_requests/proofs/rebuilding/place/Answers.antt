@@ -1,4 +1,4 @@
--- The call is a step of a session that is alone.
+-- The call is a step of a session.
 use Rattle.std.proofs.Common.{[]}
 use Rattle.query_protocol.specs.Replies.{line_of}
 use Rattle.open_session.specs.Moments.{moment_of}
@@ -8,7 +8,7 @@ use Rattle.build_requests.proofs.RebuildFrames.{places_build}
 use Rattle.build_requests.proofs.rebuilding.place.Goals as goal
 
 pub returns-clause-answers : goal.returns-clause-answers
-returns-clause-answers g c = λ desk alone reads line asked history s stands.
+returns-clause-answers g c = λ desk reads line asked history s stands.
     let held = g.K.Sink.held in
     let p = here_of c.args.config.now (moment_of desk c.args.session.now reads c.args.upkeep.now) (held c.args.sink.now)
     line history s stands in

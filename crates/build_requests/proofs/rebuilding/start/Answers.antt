@@ -1,4 +1,4 @@
--- The call is a step of a session that is alone.
+-- The call is a step of a session.
 use Rattle.std.proofs.Common.{◌<◌, [], sym, subst}
 use Rattle.part_layout.specs.declared.config.Config.{Config}
 use Rattle.query_protocol.specs.Replies.{line_of}
@@ -22,10 +22,6 @@ returns-clause-build g c = starts_build _ _ c.args.shard c.args.layout (line_of 
     (c.started-reply.ensures.starts []) (subst (λ (config : Config). c.args.shard < config.shards) (sym c.requires.config) c.requires.shard)
     c.requires.build
 
-pub returns-clause-alone : goal.returns-clause-alone
-returns-clause-alone g c = (starts_here _ _ c.args.shard c.args.layout (line_of c.started-reply.result)
-    (c.started-reply.ensures.starts []) c.args.config.now c.requires.alone c.requires.config).0
-
 pub returns-clause-config : goal.returns-clause-config
-returns-clause-config g c = (starts_here _ _ c.args.shard c.args.layout (line_of c.started-reply.result)
-    (c.started-reply.ensures.starts []) c.args.config.now c.requires.alone c.requires.config).1
+returns-clause-config g c = starts_here _ _ c.args.shard c.args.layout (line_of c.started-reply.result)
+    (c.started-reply.ensures.starts []) c.args.config.now c.requires.config

@@ -1,4 +1,4 @@
--- The call is a step of a session that is alone.
+-- The call is a step of a session.
 use Rattle.std.proofs.Common.{[]}
 use Rattle.query_protocol.specs.Replies.{line_of}
 use Rattle.open_session.specs.Moments.{moment_of}
@@ -20,10 +20,6 @@ pub returns-clause-build : goal.returns-clause-build
 returns-clause-build g c = swaps_build _ _ (line_of c.swapped-reply.result) (c.swapped-reply.ensures.swaps [])
     c.requires.build
 
-pub returns-clause-alone : goal.returns-clause-alone
-returns-clause-alone g c = (swaps_here _ _ (line_of c.swapped-reply.result) (c.swapped-reply.ensures.swaps [])
-    c.args.config.now c.requires.alone c.requires.config).0
-
 pub returns-clause-config : goal.returns-clause-config
-returns-clause-config g c = (swaps_here _ _ (line_of c.swapped-reply.result) (c.swapped-reply.ensures.swaps [])
-    c.args.config.now c.requires.alone c.requires.config).1
+returns-clause-config g c = swaps_here _ _ (line_of c.swapped-reply.result) (c.swapped-reply.ensures.swaps [])
+    c.args.config.now c.requires.config

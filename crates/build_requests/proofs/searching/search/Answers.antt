@@ -1,4 +1,4 @@
--- The call is a step of a session that is alone.
+-- The call is a step of a session.
 use Rattle.std.proofs.Common.{[], ap, ◌∙◌, subst}
 use Rattle.part_layout.specs.Laid.{Laid}
 use Rattle.part_layout.specs.Text.{layout_text}
@@ -19,13 +19,9 @@ returns-in_default-clause-answers g c = λ reads line asked history s stands.
     lacks_step p (held c.say.new.sink) c.say.result _ c.args.shard c.args.rounds asked (c.in_default.ensures.none reads)
     c.say.ensures.written
 
-pub returns-in_default-clause-alone : goal.returns-in_default-clause-alone
-returns-in_default-clause-alone g c = (searched_here _ _ c.args.shard (c.in_default.ensures.none []).over c.args.config.now
-    c.requires.alone c.requires.config).0
-
 pub returns-in_default-clause-config : goal.returns-in_default-clause-config
-returns-in_default-clause-config g c = (searched_here _ _ c.args.shard (c.in_default.ensures.none []).over c.args.config.now
-    c.requires.alone c.requires.config).1
+returns-in_default-clause-config g c = searched_here _ _ c.args.shard (c.in_default.ensures.none []).over c.args.config.now
+    c.requires.config
 
 pub returns-in_default-clause-builds : goal.returns-in_default-clause-builds
 returns-in_default-clause-builds g c = searched_builds _ _ c.args.shard (c.in_default.ensures.none []).over
@@ -45,13 +41,9 @@ returns-clause-answers g c = λ reads line asked history s stands.
     (c.text-text.ensures ∙ ap (λ (l : Laid). layout_text l.parts) c.deref.ensures))
     c.send.ensures.written)
 
-pub returns-clause-alone : goal.returns-clause-alone
-returns-clause-alone g c = (searched_here _ _ c.args.shard (c.in-Ok.ensures.found []).over c.args.config.now
-    c.requires.alone c.requires.config).0
-
 pub returns-clause-config : goal.returns-clause-config
-returns-clause-config g c = (searched_here _ _ c.args.shard (c.in-Ok.ensures.found []).over c.args.config.now
-    c.requires.alone c.requires.config).1
+returns-clause-config g c = searched_here _ _ c.args.shard (c.in-Ok.ensures.found []).over c.args.config.now
+    c.requires.config
 
 pub returns-clause-builds : goal.returns-clause-builds
 returns-clause-builds g c = searched_builds _ _ c.args.shard (c.in-Ok.ensures.found []).over
