@@ -1,4 +1,4 @@
--- Lemmas on one line: what a request, a fault and nothing make of a session that is alone.
+-- Lemmas on one line: what a request, a fault and nothing make of a session.
 use Rattle.std.proofs.Common.{◌≡◌, ℕ, ◌+◌, min, true, cond, List, [], ◌∷◌, ◌++◌, Option, Some, None, is_some}
 use Rattle.std.proofs.Common.{Result, Ok, Err, refl, sym, ap, ◌∙◌, subst, inl}
 use Rattle.std.specs.Io.KnownBytes.{Appends}
@@ -22,6 +22,7 @@ use Rattle.session_step.specs.declared.turn.Turn.TheVariants.{Goes}
 use Rattle.open_session.specs.Moments.{Moment}
 use Rattle.session_step.specs.Answering.{TurnIs, fault_reply, turn_after, requests_with}
 use Rattle.open_session.specs.KeptBuild.{MeansBuild}
+use Rattle.open_session.proofs.DeskLemmas.{only_still}
 use Rattle.open_session.proofs.Here.{Here, asked_here, exchange_here, quiet, writes_one}
 use Rattle.open_session.proofs.WholeLemmas.{WholeTo, still_whole, whole_of}
 
@@ -32,8 +33,11 @@ counted_step p after result mid requests step = record {
   exchange = step.exchange;
   state = step.state;
   is_line = step.is_line;
+  past = step.past;
+  grows = step.grows;
   step = step.step;
-  alone = step.alone;
+  aside = step.aside;
+  seen = step.seen;
   unmoved = step.unmoved;
   wrote = step.wrote;
   reads = step.reads;
@@ -58,8 +62,11 @@ turned_step p after unit new step = record {
   exchange = step.exchange;
   state = step.state;
   is_line = step.is_line;
+  past = step.past;
+  grows = step.grows;
   step = step.step;
-  alone = step.alone;
+  aside = step.aside;
+  seen = step.seen;
   unmoved = step.unmoved;
   wrote = step.wrote;
   reads = step.reads;
@@ -81,8 +88,11 @@ failed_step p after failed new step = record {
   exchange = step.exchange;
   state = step.state;
   is_line = step.is_line;
+  past = step.past;
+  grows = step.grows;
   step = step.step;
-  alone = step.alone;
+  aside = step.aside;
+  seen = step.seen;
   unmoved = step.unmoved;
   wrote = step.wrote;
   reads = step.reads;
@@ -126,7 +136,7 @@ refused_step : {A : Type 0} {W : ℕ} (p : Here W) (after : Option (List ℕ)) (
     → WholeTo p after result p.old
 refused_step p after result fault is wrote =
     whole_of p after result p.old (Err fault) is refl refl (λ shard build is. is)
-    (quiet p after result p.old (Err fault) (reply.Bad fault ∷ []) is refl refl refl refl refl refl p.stands.keep
+    (quiet p after result p.old (Err fault) (reply.Bad fault ∷ []) is refl (only_still p.old.desk p.old.desk refl) refl refl refl refl p.stands.keep
     (λ later. record { said_is = refl; position = refl; same = refl })
     (writes_one p.before after result (reply.Bad fault) wrote))
 
@@ -161,7 +171,7 @@ module _ {A : Type 0} {W : ℕ} (p : Here W) (after : Option (List ℕ)) (result
       still_whole p after result (Ok (Some (Repart shard layout))) reply.NoMemory is refl
       (record { steps = λ told. refl; at = λ told. refl; moved = refl; swapped = refl })
       (λ later. subst (λ b. StartsUnlessBuilding b p.config (p.history ++ later) shard layout p.s
-      (exchange_here p (reply.NoMemory ∷ []) p.s.position) p.s) (sym same)
+      (exchange_here p p.old (reply.NoMemory ∷ []) p.s.position) p.s) (sym same)
       (inl (record { said_is = refl; position = refl; same = refl })))
       wrote
   unread_by None (Some build) means same wrote = absurd means
@@ -170,7 +180,7 @@ module _ {A : Type 0} {W : ℕ} (p : Here W) (after : Option (List ℕ)) (result
       still_whole p after result (Ok (Some (Repart shard layout))) (reply.Bad (bad 10)) is refl
       (record { steps = λ told. refl; at = λ told. refl; moved = refl; swapped = refl })
       (λ later. subst (λ b. StartsUnlessBuilding b p.config (p.history ++ later) shard layout p.s
-      (exchange_here p (reply.Bad (bad 10) ∷ []) p.s.position) p.s) (sym same)
+      (exchange_here p p.old (reply.Bad (bad 10) ∷ []) p.s.position) p.s) (sym same)
       (record { said_is = refl; position = refl; same = refl }))
       wrote
 
@@ -195,7 +205,7 @@ pub nothing_turn : {W : ℕ} (p : Here W) (after : Option (List ℕ)) → asked_
     → TurnIs (Ok Goes) W p.config p.history p.s p.line p.before after p.old p.old
 nothing_turn p after is wrote = record {
   step = whole_of p after (Ok Goes) p.old (Ok None) is refl refl (λ shard build is. is)
-      (quiet p after (Ok Goes) p.old (Ok None) [] is refl refl refl refl refl refl p.stands.keep
+      (quiet p after (Ok Goes) p.old (Ok None) [] is refl (only_still p.old.desk p.old.desk refl) refl refl refl refl p.stands.keep
       (λ later. record { said_is = refl; position = refl; same = refl }) wrote);
   requests = sym (ap (λ asked. requests_with asked p.old.requests) is);
 }

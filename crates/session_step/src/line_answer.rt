@@ -1,6 +1,6 @@
 //! The answer to one line.
 
-ghost use Rattle.std.specs.Prelude.{◌≡◌, ◌≤◌, ◌∷◌, [], ℕ, List, Some, Ok, true};
+ghost use Rattle.std.specs.Prelude.{◌≡◌, ◌≤◌, ◌∷◌, [], ℕ, List, Some, Ok};
 ghost use Rattle.std.specs.Thread.{IsSync};
 ghost use Rattle.byte_lines.specs.Cut.{TellsOf};
 ghost use Rattle.gph_codes.specs.Allowed.{IsAllowed};
@@ -47,7 +47,6 @@ pub fn answer<const W: usize, D: Desk<W>, K: Sink, R: Threads + Sync, G: Gate, L
 ) -> Result<Turn, Failed>
     requires sync { IsSync R.row }
     requires ready { IsReady W config.now }
-    requires alone { (D.desk desk.old).alone ≡ true }
     requires config { (D.desk desk.old).config ≡ config.now }
     requires shards { HaveShards config.now.shards session.old.queries }
     requires samples { AreSamples config.now.bits session.old.samples }
@@ -56,7 +55,6 @@ pub fn answer<const W: usize, D: Desk<W>, K: Sink, R: Threads + Sync, G: Gate, L
         (point_of (D.desk desk.old) session.old meters.old upkeep.old (K.held sink.old))
         (point_of (D.desk desk.new) session.new meters.new upkeep.new (K.held sink.new)) }
     ensures cutter { session.new.cutter ≡ session.old.cutter }
-    ensures alone { (D.desk desk.new).alone ≡ true }
     ensures config { (D.desk desk.new).config ≡ config.now }
     ensures shards { HaveShards config.now.shards session.new.queries }
     ensures samples { AreSamples config.now.bits session.new.samples }
@@ -107,7 +105,6 @@ fn meet<const W: usize, D: Desk<W>, K: Sink, R: Threads + Sync, G: Gate, L: Send
 ) -> Result<(), Failed>
     requires sync { IsSync R.row }
     requires ready { IsReady W config.now }
-    requires alone { (D.desk desk.old).alone ≡ true }
     requires config { (D.desk desk.old).config ≡ config.now }
     requires shards { HaveShards config.now.shards session.old.queries }
     requires samples { AreSamples config.now.bits session.old.samples }
@@ -120,7 +117,6 @@ fn meet<const W: usize, D: Desk<W>, K: Sink, R: Threads + Sync, G: Gate, L: Send
         (point_of (D.desk desk.new) session.new meters.new upkeep.new (K.held sink.new)) }
     ensures cutter { session.new.cutter ≡ session.old.cutter }
     ensures requests { session.new.requests ≡ session.old.requests }
-    ensures alone { (D.desk desk.new).alone ≡ true }
     ensures config { (D.desk desk.new).config ≡ config.now }
     ensures shards { HaveShards config.now.shards session.new.queries }
     ensures samples { AreSamples config.now.bits session.new.samples }
@@ -154,7 +150,6 @@ fn meet_plainly<const W: usize, D: Desk<W>, K: Sink, R: Threads + Sync, G: Gate,
 ) -> Result<(), Failed>
     requires sync { IsSync R.row }
     requires ready { IsReady W config.now }
-    requires alone { (D.desk desk.old).alone ≡ true }
     requires config { (D.desk desk.old).config ≡ config.now }
     requires shards { HaveShards config.now.shards session.old.queries }
     requires samples { AreSamples config.now.bits session.old.samples }
@@ -166,7 +161,6 @@ fn meet_plainly<const W: usize, D: Desk<W>, K: Sink, R: Threads + Sync, G: Gate,
         (point_of (D.desk desk.new) session.new meters.new upkeep.new (K.held sink.new)) }
     ensures cutter { session.new.cutter ≡ session.old.cutter }
     ensures requests { session.new.requests ≡ session.old.requests }
-    ensures alone { (D.desk desk.new).alone ≡ true }
     ensures config { (D.desk desk.new).config ≡ config.now }
     ensures shards { HaveShards config.now.shards session.new.queries }
     ensures samples { AreSamples config.now.bits session.new.samples }

@@ -1,4 +1,4 @@
--- A line is answered by a step of a session that is alone.
+-- A line is answered by a step of a session.
 use Rattle.std.proofs.Common.{◌≡◌, Ok, is_some, refl, sym, ap, ◌∙◌, subst, rules}
 use Rattle.std.proofs.KnownBytes.{Appends-nil}
 use Rattle.query_protocol.specs.Stored.{unstored_reading}
@@ -33,7 +33,6 @@ returns-in-Ok-Some g c =
           (call.ensures.answers line asks history s stands) c.saturating_add-session.ensures call.ensures.requests
           (ap is_answered asks));
       cutter = call.ensures.cutter;
-      alone = call.ensures.alone;
       config = call.ensures.config;
       shards = call.ensures.shards;
       samples = call.ensures.samples;

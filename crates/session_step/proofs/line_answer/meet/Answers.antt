@@ -21,7 +21,6 @@ returns-in_default g c =
           config old new call.ensures.build call.ensures.builds call.ensures.answers;
       cutter = call.ensures.cutter;
       requests = call.ensures.requests;
-      alone = call.ensures.alone;
       config = call.ensures.config;
       shards = call.ensures.shards;
       samples = call.ensures.samples;
