@@ -14,12 +14,13 @@ use Rattle.line_io.specs.declared.source.Failed.{Failed}
 use Rattle.byte_lines.proofs.LinesLemmas.{ended_lines-append}
 use Rattle.hamming_model.specs.History.{JournalEntry}
 use Rattle.part_layout.specs.declared.config.Config.{Config}
+use Rattle.session_desk.specs.Desks.{seen_history}
 use Rattle.query_protocol.specs.Replies.{text}
 use Rattle.session_model.specs.Run.{before_quit}
 use Rattle.session_step.specs.declared.turn.Turn.{Turn}
 use Rattle.session_step.specs.declared.turn.Turn.TheVariants.{Goes, Quits}
 use Rattle.open_session.specs.Moments.{Moment}
-use Rattle.gph_session.specs.Flow.{Start, GoesOn, history_after}
+use Rattle.gph_session.specs.Flow.{Start, GoesOn}
 use Rattle.gph_session.specs.Pieces.{HasServed, HasEnded, WasRefused, FlowIs, FlowsOn, EndIs}
 use Rattle.session_step.specs.Answering.{TurnIs, AnswersAs}
 use Rattle.gph_session.proofs.FlowLemmas.{served_so_far, all_before_quit, goes_line, served_last, stands_here}
@@ -40,7 +41,7 @@ module _ {W : ℕ} (config : Config) (start : Start) (now : Moment W) (bytes out
     (before after : Option (List ℕ)) where
   module _ (next : Moment W) (begun' : Option (List ℕ)) where
     abbrev past : List JournalEntry
-    past = history_after start config going.exchanges
+    past = seen_history now.desk
 
     -- a piece that ended one line
     turn_flow : (result : Result Turn Failed) (line piece : List ℕ)

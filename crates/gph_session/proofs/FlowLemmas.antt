@@ -1,7 +1,7 @@
 -- Lemmas on a session that goes on: one line more, the line that ends it, and the line whose reply is
 -- refused.
-use Rattle.std.proofs.Common.{◌≡◌, ℕ, ◌+◌, ◌-◌, ◌≤◌, ◌<◌, ◌==◌, ◌⊎◌, inl, inr, min, true, false, cond, Option, Result, Ok, Bool}
-use Rattle.std.proofs.Common.{List, [], ◌∷◌, ◌++◌, length, take, drop}
+use Rattle.std.proofs.Common.{◌≡◌, ◌≢◌, ℕ, ◌+◌, ◌-◌, ◌≤◌, ◌<◌, ◌==◌, ◌⊎◌, inl, inr, min, true, false, cond, Option, Result, Ok, Bool}
+use Rattle.std.proofs.Common.{List, [], ◌∷◌, ◌++◌, length, take, drop, replicate}
 use Rattle.std.proofs.Common.{refl, sym, ap, ◌∙◌, subst, arith, append_assoc, append-nil}
 use Rattle.std.specs.List.{AllByRecursion}
 use Rattle.std.specs.Io.KnownBytes.{Appends}
@@ -18,28 +18,32 @@ use Rattle.part_layout.specs.declared.config.Config.{Config}
 use Rattle.query_protocol.specs.Lines.{reading}
 use Rattle.query_protocol.specs.Replies.{text}
 use Rattle.session_desk.specs.Desks.{DeskState, seen_history}
-use Rattle.session_model.specs.State.{Query, State, open_queries}
+use Rattle.part_layout.specs.Contiguous.{contiguous}
+use Rattle.session_model.specs.State.{Query, State, new_session, open_queries}
+use Rattle.session_model.specs.Step.{Step}
 use Rattle.session_model.specs.Entries.{Exchange}
-use Rattle.session_model.specs.Ledger.{Rise, RisesBy, readings_of, IsBounded}
+use Rattle.session_model.specs.Ledger.{IsBounded, IsRise, Rise, RisesBy, readings_of}
 use Rattle.session_desk.specs.Calls.{one_more}
 use Rattle.session_model.specs.Builds.{swaps_of, was_moved, was_swapped}
-use Rattle.session_model.specs.Upkeep.{all_other_steps, other_steps}
+use Rattle.session_model.specs.Upkeep.{all_other_steps, most_upkeep, other_steps}
 use Rattle.session_model.specs.Upkeep.{all_build_steps, build_after, build_at, build_steps}
 use Rattle.session_model.specs.Commits.{entries_by, is_answered, requests_of, commit_of, commits}
-use Rattle.session_model.specs.Run.{Run, IsAlone, lines_of, asks_quit, before_quit, has_quit}
-use Rattle.session_model.proofs.RunLemmas.{run_more, commits_more, written_more, own_commits}
+use Rattle.session_model.specs.Run.{Run, IsAlone, IsAmongOthers, lines_of, asks_quit, before_quit, has_quit}
+use Rattle.session_model.proofs.RunLemmas.{run_more, commits_more, written_more}
 use Rattle.session_model.proofs.RunLemmas.{before_answered, quit_answered, before_more, quit_more}
 use Rattle.session_step.specs.declared.turn.Turn.{Turn}
 use Rattle.session_step.specs.declared.turn.Turn.TheVariants.{Goes}
-use Rattle.gph_session.specs.Sessions.{IsServed, RisesByCount, state_of}
+use Rattle.gph_session.specs.Sessions.{IsServed, IsServedSolo, RisesByCount, state_of}
 use Rattle.open_session.specs.KeptBuild.{StandsFrom, left_in}
-use Rattle.open_session.specs.KeptDesk.{LeavesDesk, pins_of}
+use Rattle.open_session.specs.Growth.{IsAside}
+use Rattle.open_session.specs.KeptDesk.{LeavesDesk, layouts_of, pins_of}
 use Rattle.open_session.specs.Moments.{Moment}
 use Rattle.open_session.specs.Meaning.{Means, IsSettled, AllKeep}
 use Rattle.session_step.specs.Answering.{OneLine, requests_with}
-use Rattle.gph_session.specs.Flow.{Start, HasRun, GoesOn, told_so_far, history_after}
+use Rattle.gph_session.specs.Flow.{Start, HasRun, GoesOn, begun_state, told_so_far}
 use Rattle.gph_session.specs.Pieces.{HasServed, HasEnded, WasRefused}
 use Rattle.open_session.specs.Steps.{Stands}
+use Rattle.gph_session.proofs.GrowthLemmas.{each_more, each_seen_later, own_more, run_as}
 use Rattle.open_session.proofs.MomentLemmas.{reads_then, spends_then, others_more, as_long}
 
 -- ---- what a state's queries have read
@@ -63,14 +67,20 @@ drop_front front rest number same =
 
 module _ {W : ℕ} (config : Config) (start : Start) (now : Moment W) (exchanges : List Exchange)
     (state : State) (ran : HasRun config start now exchanges state) where
-  abbrev history : List JournalEntry
-  history = history_after start config exchanges
-
   abbrev steps : ℕ
   steps = now.ledgers.upkeep - start.ledgers.upkeep
 
-  pub run_here : Run (IsAlone config) config history (state_of start.desk) exchanges state
-  run_here = subst (λ h. Run (IsAlone config) config h (state_of start.desk) exchanges state)
+  abbrev before : List JournalEntry
+  before = seen_history start.desk
+
+  abbrev history : List JournalEntry
+  history = seen_history now.desk
+
+  abbrev own_who : ℕ
+  own_who = start.desk.who
+
+  pub run_here : Run (IsAside start.desk.alone config) config history (begun_state start.desk) exchanges state
+  run_here = subst (λ h. Run (IsAside start.desk.alone config) config h (begun_state start.desk) exchanges state)
       (append-nil history) (ran.run [])
 
   pub rises_here : RisesBy start.ledgers now.ledgers (rise_of state steps)
@@ -80,52 +90,106 @@ module _ {W : ℕ} (config : Config) (start : Start) (now : Moment W) (exchanges
     steps = omega arith;
   }
 
+  own_here : entries_by own_who (drop (length start.desk.seen) history) ≡ commits own_who config exchanges
+  own_here =
+      ap (λ h. entries_by own_who (drop (length start.desk.seen) h)) ran.longer
+      ∙ ap (entries_by own_who) (drop_front before ran.more (length start.desk.seen) (sym (as_long start.desk)))
+      ∙ ran.own
+
+  -- the steps of upkeep, up to a position
+  upkeep_here : (most : ℕ) → length now.desk.seen ≤ most
+      → steps ≤ most_upkeep config.shards (pins_of start.desk) most exchanges
+  upkeep_here most le = omega (arith, ran.spent.within most le)
+
+  is_rise : IsRise config history state.queries (rise_of state steps)
+  is_rise = record {
+    readings = refl;
+    bounded = all_bounded config history state.queries ran.settled;
+  }
+
+  -- ---- a desk that is alone
+
+  module _ (alone : start.desk.alone ≡ true) where
+    state_is : begun_state start.desk ≡ state_of start.desk
+    state_is = ap (λ b. new_session own_who (length start.desk.seen) (cond b (layouts_of start.desk)
+        (replicate start.desk.config.shards (contiguous start.desk.config.bits start.desk.config.parts)))) alone
+
+    history_is : history ≡ before ++ commits own_who config exchanges
+    history_is = ran.longer ∙ ap (λ l. before ++ l) (ran.whole alone)
+
+    now_alone : now.desk.alone ≡ true
+    now_alone = ran.keeps.alone ∙ alone
+
+    run_alone : Run (IsAlone config) config (before ++ commits own_who config exchanges) (state_of start.desk) exchanges state
+    run_alone =
+        subst (λ s. Run (IsAlone config) config (before ++ commits own_who config exchanges) s exchanges state) state_is
+        (subst (λ h. Run (IsAlone config) config h (begun_state start.desk) exchanges state) history_is
+        (run_as (IsAside start.desk.alone config) (IsAlone config) (λ s e aside. aside alone) config history
+        (begun_state start.desk) exchanges state run_here))
+
+    served_solo : IsServedSolo start.desk now.desk (told_so_far now) config exchanges (rise_of state steps)
+    served_solo = record {
+      served = record {
+        last = state;
+        solo = record {
+          begins = sym (as_long start.desk);
+          session = record {
+            run = run_alone;
+            own = ap (λ h. entries_by own_who (drop (length start.desk.seen) h)) (sym history_is) ∙ own_here;
+          };
+          unmoved = ran.unmoved alone;
+        };
+        ledger = subst (λ h. IsRise config h state.queries (rise_of state steps)) history_is is_rise;
+        upkeep = upkeep_here state.position (omega (arith, ran.means.whole now_alone, as_long now.desk));
+      };
+      seen = history_is;
+      keeps = ran.keeps;
+      layouts = sym (ran.means.layouts now_alone);
+      done = ran.done;
+      requests = ran.requests;
+      position = ran.position;
+      pinned = ran.pinned.told;
+    }
+
+  -- ---- any desk
+
   pub is_served : IsServed start.desk now.desk (told_so_far now) config exchanges
       (rise_of state steps)
-  is_served =
-      let who = start.desk.who in
-      let before = seen_history start.desk in
-      let seen_all : length now.desk.seen ≡ state.position =
-      sym (as_long now.desk) ∙ ap length (sym ran.means.history_is) ∙ sym ran.means.position in
-      record {
-        served = record {
-          last = state;
-          solo = record {
-            begins = sym (as_long start.desk);
-            session = record {
-              run = run_here;
-              own = ap (entries_by who)
-                  (drop_front before (commits who config exchanges) (length start.desk.seen)
-                  (sym (as_long start.desk)))
-                  ∙ own_commits who config exchanges;
-            };
-            unmoved = ran.unmoved;
-          };
-          ledger = record {
-            readings = refl;
-            bounded = all_bounded config history state.queries ran.settled;
-          };
-          upkeep =
-              let most = state.position in
-              let pins = pins_of start.desk in
-              omega (arith, ran.spent.within most (omega (arith, seen_all)));
-        };
-        seen = sym ran.means.history_is;
-        keeps = ran.keeps;
-        layouts = sym ran.means.layouts;
-        done = ran.done;
-        requests = ran.requests;
-        position = ran.position;
-        pinned = ran.pinned.told;
-      }
+  is_served = record {
+    start = begun_state start.desk;
+    begins = record {
+      is_new = refl;
+      seen = omega arith;
+      are_layouts = ran.first;
+      alone = state_is;
+    };
+    last = state;
+    session = record {
+      run = run_as (IsAside start.desk.alone config) IsAmongOthers (λ s e aside. tt) config history
+          (begun_state start.desk) exchanges state run_here;
+      own = own_here;
+    };
+    more = ran.more;
+    longer = ran.longer;
+    each_seen = ran.each_seen;
+    within = omega (arith, ran.means.within, as_long now.desk);
+    ledger = is_rise;
+    upkeep = upkeep_here (length now.desk.seen) (omega arith);
+    keeps = ran.keeps;
+    done = ran.done;
+    requests = ran.requests;
+    position = ran.position;
+    pinned = ran.pinned.told;
+    alone = served_solo;
+  }
 
-leaves_then : (a b c : DeskState) → LeavesDesk a b → LeavesDesk b c → LeavesDesk a c
+pub leaves_then : (a b c : DeskState) → LeavesDesk a b → LeavesDesk b c → LeavesDesk a c
 leaves_then a b c one two = record {
   board = two.board ∙ one.board;
   who = two.who ∙ one.who;
   config = two.config ∙ one.config;
   fronts = two.fronts ∙ one.fronts;
-  late = two.late ∙ one.late;
+  late = λ alone. two.late (one.alone ∙ alone) ∙ one.late alone;
   alone = two.alone ∙ one.alone;
 }
 
@@ -157,12 +221,6 @@ build_steps_more : (from : ℕ) (exchanges : List Exchange) (e : Exchange)
 build_steps_more from [] e = omega arith
 build_steps_more from (first ∷ exchanges) e =
     omega (arith, build_steps_more (build_at from first.replies) exchanges e)
-
-unmoved_more : (exchanges : List Exchange) (e : Exchange)
-    → AllByRecursion (λ e. was_moved e.replies ≡ false) exchanges → was_moved e.replies ≡ false
-    → AllByRecursion (λ e. was_moved e.replies ≡ false) (exchanges ++ e ∷ [])
-unmoved_more [] e all last = (last, tt)
-unmoved_more (first ∷ exchanges) e all last = (all.0, unmoved_more exchanges e all.1 last)
 
 -- the swaps with one exchange more, and the count of them
 swaps_more : (exchanges : List Exchange) (e : Exchange)
@@ -200,7 +258,7 @@ counted_by old mid new number true (inl rose) same =
 module _ {W : ℕ} (config : Config) (start : Start) (now : Moment W) (exchanges : List Exchange)
     (state : State) (ran : HasRun config start now exchanges state) (line : List ℕ)
     (before after : Option (List ℕ)) (result : Result Turn Failed) (next : Moment W)
-    (one : OneLine {A = Turn} W config (history_after start config exchanges) state line before after
+    (one : OneLine {A = Turn} W config (seen_history now.desk) state line before after
     result now next) where
   -- the exchanges with this one
   abbrev all : List Exchange
@@ -209,34 +267,74 @@ module _ {W : ℕ} (config : Config) (start : Start) (now : Moment W) (exchanges
   abbrev who : ℕ
   who = start.desk.who
 
+  -- what the session and the others committed meanwhile
+  abbrev committed : List JournalEntry
+  committed = commit_of state.who config one.step.exchange
+
+  abbrev others : List JournalEntry
+  others = one.step.grows.more
+
   same_who : state.who ≡ who
   same_who = ran.means.who ∙ ran.keeps.who
 
-  same_commit : commit_of state.who config one.step.exchange ≡ commit_of who config one.step.exchange
+  same_commit : committed ≡ commit_of who config one.step.exchange
   same_commit = ap (λ w. commit_of w config one.step.exchange) same_who
 
-  pub same_history : history_after start config all
-      ≡ history_after start config exchanges ++ commit_of state.who config one.step.exchange
-  same_history =
-      let before = seen_history start.desk in
-      ap (λ l. before ++ l) (commits_more who config exchanges one.step.exchange)
-      ∙ sym (append_assoc before (commits who config exchanges) (commit_of who config one.step.exchange))
-      ∙ ap (λ l. history_after start config exchanges ++ l) (sym same_commit)
+  past_is : one.step.past ≡ seen_history now.desk ++ (others ++ committed)
+  past_is = one.step.grows.after_is ∙ append_assoc (seen_history now.desk) others committed
+
+  grown : seen_history next.desk ≡ seen_history now.desk ++ (others ++ committed)
+  grown = sym one.step.means.history_is ∙ past_is
+
+  -- what was committed since the session began
+  abbrev more_now : List JournalEntry
+  more_now = ran.more ++ (others ++ committed)
+
+  longer_now : seen_history next.desk ≡ seen_history start.desk ++ more_now
+  longer_now = grown ∙ ap (λ l. l ++ (others ++ committed)) ran.longer
+      ∙ append_assoc (seen_history start.desk) ran.more (others ++ committed)
+
+  own_now : entries_by who more_now ≡ commits who config all
+  own_now =
+      ap (λ l. entries_by who (ran.more ++ (others ++ l))) same_commit
+      ∙ own_more who config ran.more (commits who config exchanges) others one.step.exchange ran.own
+      (subst (λ w. AllByRecursion (λ (entry : JournalEntry). entry.who ≢ w) others) same_who one.step.grows.others)
+      ∙ sym (commits_more who config exchanges one.step.exchange)
+
+  whole_now : start.desk.alone ≡ true → more_now ≡ commits who config all
+  whole_now alone =
+      ap (λ l. ran.more ++ (l ++ committed)) (one.step.grows.none (ran.keeps.alone ∙ alone))
+      ∙ ap (λ l. l ++ committed) (ran.whole alone)
+      ∙ ap (λ l. commits who config exchanges ++ l) same_commit
+      ∙ sym (commits_more who config exchanges one.step.exchange)
+
+  seen_now : length now.desk.seen ≤ length next.desk.seen
+  seen_now = (one.step.spent (build_after 0 exchanges) ran.stands).spent.longer
 
   pub ran_more : HasRun config start next all one.step.state
   ran_more = record {
+    first = ran.first;
     run = λ later.
-        let past = history_after start config exchanges in
-        let this = commit_of state.who config one.step.exchange in
-        let run = subst (λ h. Run (IsAlone config) config h (state_of start.desk) exchanges state)
+        let past = seen_history now.desk in
+        let this = others ++ committed in
+        let At = IsAside start.desk.alone config in
+        let run = subst (λ h. Run At config h (begun_state start.desk) exchanges state)
         (sym (append_assoc past this later)) (ran.run (this ++ later)) in
-        subst (λ h. Run (IsAlone config) config (h ++ later) (state_of start.desk) all one.step.state)
-        (sym same_history)
-        (run_more (IsAlone config) config ((past ++ this) ++ later) (state_of start.desk) exchanges
-        one.step.exchange state one.step.state run one.step.alone (one.step.step later));
+        let step = subst (λ h. Step config (h ++ later) state one.step.exchange one.step.state) past_is (one.step.step later) in
+        subst (λ h. Run At config (h ++ later) (begun_state start.desk) all one.step.state) (sym grown)
+        (run_more At config ((past ++ this) ++ later) (begun_state start.desk) exchanges
+        one.step.exchange state one.step.state run (λ alone. one.step.aside (ran.keeps.alone ∙ alone)) step);
+    more = more_now;
+    longer = longer_now;
+    own = own_now;
+    whole = whole_now;
     reads = reads_then start.ledgers.reads now.ledgers.reads next.ledgers.reads [] state.queries
         one.step.state.queries ran.reads one.step.reads;
-    unmoved = unmoved_more exchanges one.step.exchange ran.unmoved one.step.unmoved;
+    unmoved = λ alone. each_more (λ e. was_moved e.replies ≡ false) exchanges one.step.exchange (ran.unmoved alone)
+        (one.step.unmoved (ran.keeps.alone ∙ alone));
+    each_seen = each_more (λ e. e.seen ≤ length next.desk.seen) exchanges one.step.exchange
+        (each_seen_later exchanges (length now.desk.seen) (length next.desk.seen) seen_now ran.each_seen)
+        (omega (arith, one.step.seen, ap length one.step.means.history_is, as_long next.desk));
     spent =
         let both = spends_then start.desk now.desk next.desk start.ledgers.upkeep
         (now.ledgers.upkeep + left_in now.build) (next.ledgers.upkeep + left_in next.build)
@@ -255,8 +353,8 @@ module _ {W : ℕ} (config : Config) (start : Start) (now : Moment W) (exchanges
         };
     stands = subst (λ n. StandsFrom n next.build) (sym (build_more 0 exchanges one.step.exchange))
         (one.step.spent (build_after 0 exchanges) ran.stands).stands;
-    means = subst (λ h. Means config next.desk h one.step.state) (sym same_history) one.step.means;
-    settled = subst (λ h. AllByRecursion (IsSettled config h) one.step.state.queries) (sym same_history)
+    means = subst (λ h. Means config next.desk h one.step.state) one.step.means.history_is one.step.means;
+    settled = subst (λ h. AllByRecursion (IsSettled config h) one.step.state.queries) one.step.means.history_is
         one.step.settled;
     samples = one.step.samples;
     build = one.step.build;
@@ -276,12 +374,12 @@ module _ {W : ℕ} (config : Config) (start : Start) (now : Moment W) (exchanges
 module _ {W : ℕ} (config : Config) (start : Start) (now : Moment W) (bytes output : List ℕ)
     (begun : Option (List ℕ)) (going : GoesOn config start now bytes output begun) where
   abbrev past : List JournalEntry
-  past = history_after start config going.exchanges
+  past = seen_history now.desk
 
   abbrev so_far : List Exchange
   so_far = going.exchanges
 
-  run_so_far : Run (IsAlone config) config past (state_of start.desk) so_far going.state
+  run_so_far : Run (IsAside start.desk.alone config) config past (begun_state start.desk) so_far going.state
   run_so_far = run_here config start now so_far going.state going.ran
 
   abbrev rise_so_far : Rise
@@ -315,12 +413,12 @@ module _ {W : ℕ} (config : Config) (start : Start) (now : Moment W) (bytes out
   pub goes_on : has_quit config (ended_lines [] bytes) ≡ false
   goes_on =
       ap (has_quit config) (sym going.lines_are ∙ sym (append-nil (lines_of so_far)))
-      ∙ quit_answered (IsAlone config) config past (state_of start.desk) so_far going.state run_so_far []
+      ∙ quit_answered (IsAside start.desk.alone config) config past (begun_state start.desk) so_far going.state run_so_far []
 
   pub all_before_quit : before_quit config (ended_lines [] bytes) ≡ ended_lines [] bytes
   all_before_quit =
       ap (before_quit config) (sym going.lines_are ∙ sym (append-nil (lines_of so_far)))
-      ∙ before_answered (IsAlone config) config past (state_of start.desk) so_far going.state run_so_far []
+      ∙ before_answered (IsAside start.desk.alone config) config past (begun_state start.desk) so_far going.state run_so_far []
       ∙ append-nil (lines_of so_far) ∙ going.lines_are
 
   -- ---- one line more
@@ -386,8 +484,7 @@ module _ {W : ℕ} (config : Config) (start : Start) (now : Moment W) (bytes out
         state = one.step.state;
         ran = ran_with line before after (Ok Goes) next one;
         keep = subst (λ h. AllKeep config h next.cursors (open_queries one.step.state.queries))
-            (sym (same_history config start now so_far going.state going.ran line before after (Ok Goes) next one))
-            one.step.keep;
+            one.step.means.history_is one.step.keep;
         lines_are = lines_with line before after (Ok Goes) next one
             ∙ ap (λ l. ended_lines [] bytes ++ l) (sym lines_are) ∙ sym (ended_lines-append [] bytes piece);
         output_is = ap (λ o. o ++ text one.step.exchange.replies) going.output_is
@@ -405,8 +502,8 @@ module _ {W : ℕ} (config : Config) (start : Start) (now : Moment W) (bytes out
         let ran = ran_with line before after (Ok Goes) next one in
         let same : lines_of all ≡ of_lines =
         lines_with line before after (Ok Goes) next one ∙ sym is in
-        let answered = before_answered (IsAlone config) config (history_after start config all)
-        (state_of start.desk) all one.step.state (run_here config start next all one.step.state ran) [] in (
+        let answered = before_answered (IsAside start.desk.alone config) config (seen_history next.desk)
+        (begun_state start.desk) all one.step.state (run_here config start next all one.step.state ran) [] in (
           text one.step.exchange.replies,
           one.step.wrote,
           record {
@@ -433,7 +530,7 @@ module _ {W : ℕ} (config : Config) (start : Start) (now : Moment W) (bytes out
       is ∙ ap (λ l. l ++ line ∷ []) (sym going.lines_are) in
       subst (λ m. HasEnded config start m of_lines output) (sym still) (record {
         quits = ap (has_quit config) same
-            ∙ quit_answered (IsAlone config) config past (state_of start.desk) so_far going.state run_so_far
+            ∙ quit_answered (IsAside start.desk.alone config) config past (begun_state start.desk) so_far going.state run_so_far
             (line ∷ [])
             ∙ ap (λ b. cond b true false) quits;
         served = record {
@@ -443,7 +540,7 @@ module _ {W : ℕ} (config : Config) (start : Start) (now : Moment W) (bytes out
             exchanges = so_far;
             served = is_served config start now so_far going.state going.ran;
             lines_are = sym (ap (before_quit config) same
-                ∙ before_answered (IsAlone config) config past (state_of start.desk) so_far going.state
+                ∙ before_answered (IsAside start.desk.alone config) config past (begun_state start.desk) so_far going.state
                 run_so_far (line ∷ [])
                 ∙ ap (λ b. lines_of so_far ++ cond b [] (line ∷ [])) quits
                 ∙ append-nil (lines_of so_far));

@@ -1,3 +1,5 @@
+pub mod GrowthLemmas
+pub mod EndingLemmas
 pub mod FlowLemmas
 pub mod BlockLemmas
 pub mod ServeLemmas

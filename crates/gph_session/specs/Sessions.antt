@@ -1,14 +1,18 @@
 -- A session over a desk: the state in which it begins, and what it leaves.
-use Rattle.std.specs.Prelude.{◌≡◌, ℕ, ◌+◌, ◌⊎◌, min, List, ◌++◌, length, map}
+use Rattle.std.specs.Prelude.{◌≡◌, ℕ, ◌+◌, ◌≤◌, ◌⊎◌, true, min, List, ◌++◌, length, map}
+use Rattle.std.specs.List.{AllByRecursion}
+use Rattle.hamming_model.specs.History.{JournalEntry}
 use Rattle.part_layout.specs.declared.config.Config.{Config}
 use Rattle.session_desk.specs.Desks.{DeskState, seen_history}
 use Rattle.open_session.specs.KeptDesk.{LeavesDesk, layouts_of, pins_of}
 use Rattle.session_model.specs.Builds.{swaps_of}
 use Rattle.session_model.specs.State.{State, new_session}
 use Rattle.session_model.specs.Entries.{Exchange}
-use Rattle.session_model.specs.Ledger.{Rise}
+use Rattle.session_model.specs.Ledger.{IsRise, Rise}
+use Rattle.session_model.specs.Step.{AreLayouts}
+use Rattle.session_model.specs.Upkeep.{most_upkeep}
 use Rattle.session_model.specs.Commits.{commits, requests_of}
-use Rattle.session_model.specs.Run.{IsServedAlone}
+use Rattle.session_model.specs.Run.{IsAmongOthers, IsServedAlone, IsSession}
 use Rattle.session_model.specs.Told.{ToldLayout, layouts_told}
 use Rattle.open_session.specs.Pinned.{told_layout}
 use Rattle.session_model.specs.Outside.{Call}
@@ -38,9 +42,18 @@ told_by report = record {
 abbrev pub RisesByCount : ℕ → ℕ → ℕ → Type 0
 RisesByCount old new number = (new ≡ old + number) ⊎ (new ≡ 18446744073709551615)
 
+-- a session begins with its desk's number, at a position no shorter than what the desk had seen,
+-- and with nothing opened or built; where the desk is alone, at all that was seen and in the
+-- layouts of its shards
+pub record BeginsOver (config : Config) (old : DeskState) (start : State) : Type 0 where
+  pub is_new : start ≡ new_session old.who start.position start.layouts
+  pub seen : length old.seen ≤ start.position
+  pub are_layouts : AreLayouts config start.layouts
+  pub alone : old.alone ≡ true → start ≡ state_of old
+
 -- the exchanges are those of a session over a desk that is alone, which leaves it having seen what
 -- it committed, with the shards in the layouts that it put in place, and which tells this of itself
-pub record IsServed (old new : DeskState) (told : Told) (config : Config)
+pub record IsServedSolo (old new : DeskState) (told : Told) (config : Config)
     (exchanges : List Exchange) (rise : Rise) : Type 0 where
   pub served : IsServedAlone config (seen_history old) (state_of old) (pins_of old) exchanges rise
   pub seen : seen_history new ≡ seen_history old ++ commits old.who config exchanges
@@ -50,6 +63,27 @@ pub record IsServed (old new : DeskState) (told : Told) (config : Config)
   pub requests : told.requests ≡ min (requests_of config exchanges) 18446744073709551615
   pub position : told.position ≡ served.last.position
   pub pinned : told.layouts ≡ layouts_told served.last.queries
+
+-- the exchanges are those of a session over a desk, which leaves it having seen more, and which
+-- tells this of itself: others' entries stand between its own, unless the desk is alone
+pub record IsServed (old new : DeskState) (told : Told) (config : Config)
+    (exchanges : List Exchange) (rise : Rise) : Type 0 where
+  pub start : State
+  pub begins : BeginsOver config old start
+  pub last : State
+  pub session : IsSession IsAmongOthers config (seen_history new) start exchanges last
+  pub more : List JournalEntry
+  pub longer : seen_history new ≡ seen_history old ++ more
+  pub each_seen : AllByRecursion (λ e. e.seen ≤ length new.seen) exchanges
+  pub within : last.position ≤ length new.seen
+  pub ledger : IsRise config (seen_history new) last.queries rise
+  pub upkeep : rise.upkeep ≤ most_upkeep config.shards (pins_of old) (length new.seen) exchanges
+  pub keeps : LeavesDesk old new
+  pub done : RisesByCount old.done new.done (swaps_of exchanges)
+  pub requests : told.requests ≡ min (requests_of config exchanges) 18446744073709551615
+  pub position : told.position ≡ last.position
+  pub pinned : told.layouts ≡ layouts_told last.queries
+  pub alone : old.alone ≡ true → IsServedSolo old new told config exchanges rise
 
 -- a session over a desk, of which this is the report, ended so, by what it has read, written and
 -- counted

@@ -1,6 +1,6 @@
 //! Bytes as they come.
 
-ghost use Rattle.std.specs.Prelude.{◌≡◌, ◌<◌, ◌≤◌, length, take, true};
+ghost use Rattle.std.specs.Prelude.{◌≡◌, ◌<◌, ◌≤◌, length, take};
 ghost use Rattle.std.specs.Thread.{IsSync};
 ghost use Rattle.open_queries.specs.Writing.{IsCaused};
 ghost use Rattle.layout_search.specs.Improves.{AreSamples};
@@ -42,7 +42,6 @@ pub(crate) fn answer_block<
 ) -> Result<Turn, Failed>
     requires sync { IsSync R.row }
     requires ready { IsReady W config.now }
-    requires alone { (D.desk desk.old).alone ≡ true }
     requires config { (D.desk desk.old).config ≡ config.now }
     requires shards { HaveShards config.now.shards session.old.queries }
     requires samples { AreSamples config.now.bits session.old.samples }
@@ -50,7 +49,6 @@ pub(crate) fn answer_block<
     ensures flow { FlowsBetween result config.now block.now
         (point_of (D.desk desk.old) session.old meters.old upkeep.old (K.held sink.old))
         (point_of (D.desk desk.new) session.new meters.new upkeep.new (K.held sink.new)) }
-    ensures alone { (D.desk desk.new).alone ≡ true }
     ensures config { (D.desk desk.new).config ≡ config.now }
     ensures shards { HaveShards config.now.shards session.new.queries }
     ensures samples { AreSamples config.now.bits session.new.samples }
@@ -95,7 +93,6 @@ fn answer_line<const W: usize, D: Desk<W>, K: Sink, R: Threads + Sync, G: Gate, 
 ) -> (usize, Result<Turn, Failed>)
     requires sync { IsSync R.row }
     requires ready { IsReady W config.now }
-    requires alone { (D.desk desk.old).alone ≡ true }
     requires config { (D.desk desk.old).config ≡ config.now }
     requires shards { HaveShards config.now.shards session.old.queries }
     requires samples { AreSamples config.now.bits session.old.samples }
@@ -105,7 +102,6 @@ fn answer_line<const W: usize, D: Desk<W>, K: Sink, R: Threads + Sync, G: Gate, 
     ensures flow { FlowsBetween result.1 config.now (take result.0 bytes.now)
         (point_of (D.desk desk.old) session.old meters.old upkeep.old (K.held sink.old))
         (point_of (D.desk desk.new) session.new meters.new upkeep.new (K.held sink.new)) }
-    ensures alone { (D.desk desk.new).alone ≡ true }
     ensures config { (D.desk desk.new).config ≡ config.now }
     ensures shards { HaveShards config.now.shards session.new.queries }
     ensures samples { AreSamples config.now.bits session.new.samples }
@@ -146,7 +142,6 @@ pub(crate) fn answer_end<
 ) -> Result<Turn, Failed>
     requires sync { IsSync R.row }
     requires ready { IsReady W config.now }
-    requires alone { (D.desk desk.old).alone ≡ true }
     requires config { (D.desk desk.old).config ≡ config.now }
     requires shards { HaveShards config.now.shards session.old.queries }
     requires samples { AreSamples config.now.bits session.old.samples }

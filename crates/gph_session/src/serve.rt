@@ -1,6 +1,6 @@
 //! A session from its first read to its end.
 
-ghost use Rattle.std.specs.Prelude.{◌≡◌, ◌≤◌, [], length, true};
+ghost use Rattle.std.specs.Prelude.{◌≡◌, ◌≤◌, [], length};
 ghost use Rattle.std.specs.Thread.{IsSync};
 ghost use Rattle.session_model.specs.declared.limits.TheConstants.{BLOCK_MOST};
 ghost use Rattle.session_model.specs.Outside.{call};
@@ -49,7 +49,6 @@ pub(crate) fn serve<
 ) -> Status
     requires sync { IsSync R.row }
     requires ready { IsReady W config.now }
-    requires alone { (D.desk desk.old).alone ≡ true }
     requires config { (D.desk desk.old).config ≡ config.now }
     requires shards { HaveShards config.now.shards session.old.queries }
     requires samples { AreSamples config.now.bits session.old.samples }

@@ -2,6 +2,7 @@
 
 ghost use Rattle.std.specs.Prelude.{◌≡◌, ◌≤◌, true};
 ghost use Rattle.std.specs.Thread.{IsSync};
+ghost use Rattle.session_desk.specs.Calls.{OnlyLearns};
 ghost use Rattle.session_model.specs.Outside.{Untouched};
 ghost use Rattle.session_model.specs.Outcomes.{IsDone, IsReadFault, IsWriteFault};
 ghost use Rattle.session_model.specs.Outside.{call};
@@ -20,7 +21,7 @@ use session_model::BLOCK_MOST;
 use std::alloc::Global;
 use std::thread::Threads;
 
-/// Serves one session over a desk that is alone, until the input ends or a line ends it. The ledgers count as in `run`.
+/// Serves one session over a desk, which others may share, until the input ends or a line ends it. The ledgers count as in `run`.
 pub fn session<
     const W: usize,
     D: Desk<W>,
@@ -42,12 +43,13 @@ pub fn session<
     meters: &mut Meters<L>,
 ) -> Report
     requires sync { IsSync R.row }
-    requires alone { (D.desk desk.old).alone ≡ true }
     requires config { (D.desk desk.old).config ≡ config.now }
     // Where there was no memory to begin with nothing was done.
-    ensures unread { result.status ≡ Status.NoMemory → (D.desk desk.new ≡ D.desk desk.old)
+    ensures unread { result.status ≡ Status.NoMemory → OnlyLearns (D.desk desk.old) (D.desk desk.new)
         × Untouched (call S.left S.faults K.held K.faults source.old source.new sink.old sink.new
         meters.old meters.new upkeep.old upkeep.new) }
+    ensures unchanged { result.status ≡ Status.NoMemory → (D.desk desk.old).alone ≡ true →
+        D.desk desk.new ≡ D.desk desk.old }
     // What was read, written and counted, and what the desk has seen, by each other status, with its cause.
     ensures done { result.status ≡ Status.Done → EndsBy IsDone config.now result
         (D.desk desk.old) (D.desk desk.new) (call S.left S.faults K.held K.faults source.old
@@ -63,8 +65,8 @@ pub fn session<
         source.new sink.old sink.new meters.old meters.new upkeep.old upkeep.new) }
 {
     // The desk's own calls say what is true of it.
-    let _who = desk.who();
     let position = desk.length();
+    let _who = desk.who();
     let begun = new_session::<W>(alloc, position);
     let block = Vec::from_elem(alloc, 0u8, BLOCK_MOST);
     let (Ok(mut session), Ok(mut block)) = (begun, block) else {

@@ -7,7 +7,6 @@ use Rattle.gph_session.proofs.block.answer_block.Goals as goal
 pub loop-done-init : goal.loop-done-init
 loop-done-init g c = record {
   within = omega arith;
-  alone = c.requires.alone;
   config = c.requires.config;
   shards = c.requires.shards;
   samples = c.requires.samples;
@@ -30,7 +29,6 @@ loop-done-preserved g c =
         length-take (length block - c.loop-done.done) (drop c.loop-done.done block),
         length-drop c.loop-done.done block,
       );
-      alone = line.ensures.alone;
       config = line.ensures.config;
       shards = line.ensures.shards;
       samples = line.ensures.samples;

@@ -11,7 +11,6 @@ use Rattle.gph_session.proofs.block.answer_block.Given as goal
 abbrev pub invariant-loop-done : goal.invariant-loop-done
 invariant-loop-done g l = record {
   within : l.done ≤ length l.block;
-  alone : (g.D.Desk.desk l.desk).alone ≡ true;
   config : (g.D.Desk.desk l.desk).config ≡ l.config;
   shards : HaveShards l.config.shards l.session.queries;
   samples : AreSamples l.config.bits l.session.samples;

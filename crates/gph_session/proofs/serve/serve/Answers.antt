@@ -38,7 +38,6 @@ loop-session-preserved g c =
     let read = has_read c.in-Ok.count c.clamp-room.result c.read.new.room rest (search rules) c.in-Ok.ensures.bound.0
     (omega (arith, c.clamp-room.ensures)) (omega (arith, c.clamp-room.ensures, serves.few)) c.in-Ok.ensures.bytes.0 in
     record {
-      alone = c.answer_block.ensures.alone;
       config = c.answer_block.ensures.config;
       shards = c.answer_block.ensures.shards;
       samples = c.answer_block.ensures.samples;

@@ -11,7 +11,6 @@ use Rattle.gph_session.proofs.serve.serve.Given as goal
 -- the session goes on after the bytes that were read, and no fault rose
 abbrev pub invariant-loop-session : goal.invariant-loop-session
 invariant-loop-session g l = record {
-  alone : (g.D.Desk.desk l.desk).alone ≡ true;
   config : (g.D.Desk.desk l.desk).config ≡ l.config;
   shards : HaveShards l.config.shards l.session.queries;
   samples : AreSamples l.config.bits l.session.samples;

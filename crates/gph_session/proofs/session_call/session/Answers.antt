@@ -8,19 +8,17 @@ use Rattle.open_session.specs.Meaning.{HaveShards}
 use Rattle.open_session.specs.Moments.{moment_of}
 use Rattle.open_session.specs.Pinned.{told_layout}
 use Rattle.open_session.proofs.MomentLemmas.{learns_nothing}
-use Rattle.gph_session.proofs.BegunLemmas.{begun_session, ended_over, is_ready, new_of, no_samples}
+use Rattle.gph_session.proofs.BegunLemmas.{begun_session, ended_as, is_ready, new_of, no_samples}
 use Rattle.gph_session.proofs.session_call.session.Goals as goal
 
 pub serve-status-requires-after_bounds : goal.serve-status-requires-after_bounds
 serve-status-requires-after_bounds g c κs within =
     let desk = g.D.Desk.desk in
-    let before = desk c.args.desk.now in
     let now = desk c.length-position.new.self in
     let session = c.in-Ok-Ok.session in
-    let same : now ≡ before = learns_nothing before now c.requires.alone c.length-position.ensures.learns in
-    let is : IsDesk g.row.W now = subst (IsDesk g.row.W) (sym same) c.who-who.ensures.desk in
-    let alone : now.alone ≡ true = ap (λ (d : DeskState). d.alone) same ∙ c.requires.alone in
-    let config : now.config ≡ c.args.config.now = ap (λ (d : DeskState). d.config) same ∙ c.requires.config in
+    let is : IsDesk g.row.W now = c.who-who.ensures.desk in
+    let config : now.config ≡ c.args.config.now =
+    ap (λ (d : DeskState). d.config) c.length-position.ensures.learns.after ∙ c.requires.config in
     let made = c.new_session-begun.ensures in
     let new = new_of c.length-position.result c.in-Ok-Ok.is-0 made.queries made.opened made.told made.samples made.build
     made.cutter made.requests made.position in (
@@ -30,21 +28,18 @@ serve-status-requires-after_bounds g c κs within =
         (
           is_ready g.row.W c.args.config.now now is config,
           (
-            alone,
+            config,
             (
-              config,
+              subst (HaveShards {W = g.row.W} c.args.config.now.shards) (sym new.queries) tt,
               (
-                subst (HaveShards {W = g.row.W} c.args.config.now.shards) (sym new.queries) tt,
+                subst (AreSamples c.args.config.now.bits) (sym new.samples) (no_samples g.row.W c.args.config.now.bits),
                 (
-                  subst (AreSamples c.args.config.now.bits) (sym new.samples) (no_samples g.row.W c.args.config.now.bits),
+                  subst (IsBuildOfDesk now) (sym new.build) tt,
                   (
-                    subst (IsBuildOfDesk now) (sym new.build) tt,
-                    (
-                      search rules,
-                      begun_session g.row.W c.args.config.now (moment_of now session c.args.meters.now c.args.upkeep.now) session.cutter.held is
-                          alone config new.queries new.opened (ap (map told_layout) new.told) new.samples new.build new.requests
-                          (new.position ∙ c.length-position.ensures.length) new.cutter,
-                    ),
+                    search rules,
+                    begun_session g.row.W c.args.config.now (moment_of now session c.args.meters.now c.args.upkeep.now) session.cutter.held is
+                        config new.queries new.opened (ap (map told_layout) new.told) new.samples new.build new.requests
+                        (new.position ∙ c.length-position.ensures.length) new.cutter,
                   ),
                 ),
               ),
@@ -56,20 +51,20 @@ serve-status-requires-after_bounds g c κs within =
 
 pub returns-clause-done : goal.returns-clause-done
 returns-clause-done g c = λ is.
-    ended_over c.serve-status.result status.Done is c.args.config.now (g.D.Desk.desk c.args.desk.now) _ _ _ _ c.requires.alone
-    c.length-position.ensures.learns c.serve-status.ensures
+    ended_as c.args.config.now (g.D.Desk.desk c.args.desk.now) _ _ _ c.length-position.ensures.learns c.serve-status.result
+    status.Done is _ c.serve-status.ensures
 
 pub returns-clause-read_fault : goal.returns-clause-read_fault
 returns-clause-read_fault g c = λ is.
-    ended_over c.serve-status.result status.ReadFault is c.args.config.now (g.D.Desk.desk c.args.desk.now) _ _ _ _ c.requires.alone
-    c.length-position.ensures.learns c.serve-status.ensures
+    ended_as c.args.config.now (g.D.Desk.desk c.args.desk.now) _ _ _ c.length-position.ensures.learns c.serve-status.result
+    status.ReadFault is _ c.serve-status.ensures
 
 pub returns-clause-write_fault : goal.returns-clause-write_fault
 returns-clause-write_fault g c = λ is.
-    ended_over c.serve-status.result status.WriteFault is c.args.config.now (g.D.Desk.desk c.args.desk.now) _ _ _ _ c.requires.alone
-    c.length-position.ensures.learns c.serve-status.ensures
+    ended_as c.args.config.now (g.D.Desk.desk c.args.desk.now) _ _ _ c.length-position.ensures.learns c.serve-status.result
+    status.WriteFault is _ c.serve-status.ensures
 
 pub returns-clause-input_limit : goal.returns-clause-input_limit
 returns-clause-input_limit g c = λ is.
-    ended_over c.serve-status.result status.InputLimit is c.args.config.now (g.D.Desk.desk c.args.desk.now) _ _ _ _ c.requires.alone
-    c.length-position.ensures.learns c.serve-status.ensures
+    ended_as c.args.config.now (g.D.Desk.desk c.args.desk.now) _ _ _ c.length-position.ensures.learns c.serve-status.result
+    status.InputLimit is _ c.serve-status.ensures
