@@ -1,5 +1,5 @@
 -- Lemmas on what a world has answered: one line more.
-use Rattle.std.proofs.Common.{◌≡◌, ℕ, ◌+◌, ◌≤◌, false, List, [], ◌∷◌, ◌++◌, Option, None, Some, Ok, Err, slice_index, refl, sym, ap, ◌∙◌, subst, arith}
+use Rattle.std.proofs.Common.{◌≡◌, ℕ, ◌+◌, ◌≤◌, List, [], ◌∷◌, ◌++◌, Option, None, Some, Ok, Err, slice_index, sym, ap, ◌∙◌, subst, arith}
 use Rattle.line_answers.specs.Answered.{AnswersNext}
 use Rattle.part_layout.specs.declared.config.Config.{Config}
 use Rattle.session_model.specs.Ledger.{Ledgers}

@@ -1,4 +1,5 @@
-ghost use Rattle.std.specs.Prelude.{◌≡◌};
+ghost use Rattle.std.specs.Prelude.{◌≡◌, ◌≤◌};
+ghost use Rattle.hamming_model.specs.declared.limits.TheConstants.{WORDS_MOST};
 ghost use Rattle.trace_lines.specs.EventRequests.{IsFit, event_of};
 ghost use Rattle.world_model.specs.Events.{Setting};
 ghost use Rattle.world_model.specs.WorldState.{WorldState};
@@ -24,6 +25,7 @@ pub trait MeetsEvents<const W: usize> {
         upkeep: &mut Steps<M>,
         meters: &mut Meters<L>,
     ) -> Result<Told, Refused>
+        requires few_words { W ≤ WORDS_MOST }
         requires fit { IsFit W (setting self.old).bits request }
         ensures setting { setting self.new ≡ setting self.old }
         ensures step { WorldStep (setting self.old) (state self.old)
