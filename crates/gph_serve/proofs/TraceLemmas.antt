@@ -26,7 +26,7 @@ the_config asked config other words asks =
 -- ---- how it ended
 
 -- the ending of which an outcome comes
-ended_of : Outcome → Option Ending
+abbrev ended_of : Outcome → Option Ending
 ended_of outcome.Done = Some ending.Done
 ended_of outcome.ReadFault = Some ending.ReadFault
 ended_of outcome.WriteFault = Some ending.WriteFault
@@ -76,11 +76,11 @@ no_usage (Ok ending.WriteFault) word same = cc
 no_usage (Ok ending.InputLimit) word same = cc
 no_usage (Err fault) word same = cc
 
-pub usage_never : (outcome : Outcome) (ending : Result Ending NoMemory) (asked : Result Config ℕ) (config : Config) (word : ℕ)
-    → outcome ≡ trace_outcome ending → Ok config ≡ asked → (asked ≡ Err word) ↔ (outcome ≡ outcome.Usage word)
-usage_never outcome ending asked config word of words = (
+pub usage_never : (told : Outcome) (ending : Result Ending NoMemory) (asked : Result Config ℕ) (config : Config) (word : ℕ)
+    → told ≡ trace_outcome ending → Ok config ≡ asked → (asked ≡ Err word) ↔ (told ≡ outcome.Usage word)
+usage_never told ending asked config word of words = (
   λ faulty. let never : Ok config ≡ Err word = words ∙ faulty in cc,
-  λ told. absurd (no_usage ending word (sym of ∙ told)),
+  λ faulty. absurd (no_usage ending word (sym of ∙ faulty)),
 )
 
 -- ---- no input within the limit is turned away
