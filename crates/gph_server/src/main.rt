@@ -75,7 +75,7 @@ fn outcome_of<R: Env + Alloc<A = Global> + Threads + Sync>(
 }
 
 // Runs the top call of the command that the words name.
-fn command_outcome<R: Alloc<A = Global> + Threads + Sync, S: Source, K: Sink>(
+fn command_outcome<R: Env + Alloc<A = Global> + Threads + Sync, S: Source, K: Sink>(
     rt: &R,
     words: &[String],
     source: &mut S,
