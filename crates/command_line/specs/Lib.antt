@@ -3,3 +3,4 @@ pub mod WrittenOptions
 pub mod CommandWords
 pub mod Commands
 pub mod Kept
+pub mod TraceWords

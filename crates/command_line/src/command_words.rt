@@ -3,12 +3,15 @@
 ghost use Rattle.std.specs.Prelude.{◌≡◌, ◌==◌, ◌<◌, ◌-◌, [], length, map, position, string_bytes, option_copied, IfSome, IfOk};
 ghost use Rattle.std.specs.Option.{option_map};
 ghost use Rattle.command_line.specs.CommandWords.{asked, options_asked};
+ghost use Rattle.command_line.specs.TraceWords.{trace_asked};
+ghost use Rattle.part_layout.specs.Ranges.{IsConfig};
 ghost use Rattle.command_line.specs.Commands.{IsCommand};
 ghost use Rattle.command_line.specs.WrittenOptions.{parted};
 ghost use Rattle.command_line.specs.Kept.{next_in, after_next};
 
 use crate::command::{Command, CommandWord};
 use crate::given::Given;
+use part_layout::Config;
 
 /// What the words after the program's name ask for, or the place of the first word at fault, counted from 1.
 ///
@@ -37,6 +40,25 @@ pub fn read_words(words: &[String]) -> Result<Command, usize>
             None => Err(1),
             Some(command) => read_options(command, options),
         },
+    }
+}
+
+/// What the words of a trace ask for, or the place of the first word at fault, counted from 1: the command is `trace`, and its options are
+/// those of `run`, judged as there.
+pub fn read_trace_words(words: &[String]) -> Result<Config, usize>
+    ensures value { result ≡ trace_asked (map string_bytes words.now) }
+    ensures within { IfOk result IsConfig }
+{
+    match words {
+        [] => Err(1),
+        [word, options @ ..] => {
+            if word.as_bytes() != b"trace".as_slice() {
+                return Err(1);
+            }
+            match read_options(CommandWord::Run, options)? {
+                Command::Run { config } | Command::Load { config, .. } => Ok(config),
+            }
+        }
     }
 }
 

@@ -10,5 +10,5 @@ mod laws;
 
 pub use command::{Command, CommandWord};
 pub use command_option::CommandOption;
-pub use command_words::read_words;
+pub use command_words::{read_trace_words, read_words};
 pub use laws::{options_in_any_order, options_in_either_form, the_first_fault_is_told};

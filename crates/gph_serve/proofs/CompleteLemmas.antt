@@ -61,7 +61,7 @@ unread_as outcome asked (Load config number codes) it words served session unrea
 -- ---- no input within the limit is turned away
 
 -- bytes that were taken from a known input are its front
-front_taken : (input : List ℕ) (left' : Option (List ℕ)) (bytes : List ℕ) (past : ℕ)
+pub front_taken : (input : List ℕ) (left' : Option (List ℕ)) (bytes : List ℕ) (past : ℕ)
     → Consumes (Some input) left' (bytes ++ past ∷ [])
     → (length bytes < length input) × (take (length bytes) input ≡ bytes)
 front_taken input None bytes past taken = absurd taken

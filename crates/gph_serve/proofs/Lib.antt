@@ -1,3 +1,4 @@
 pub mod RunLemmas
 pub mod CompleteLemmas
 pub mod LoadLemmas
+pub mod TraceLemmas

@@ -1,2 +1,3 @@
 pub mod TopCall
 pub mod Loads
+pub mod TraceCall

@@ -1,9 +1,11 @@
-//! `gph`: main. It hands the words after the program's name, standard input and output and ledgers to the top call, and tells by
-//! the status and one line on standard error how that ended.
+//! `gph`: main. It hands the words after the program's name, standard input and output and ledgers to the top call of the command, and
+//! tells by the status and one line on standard error how that ended.
 #![tactic(auto)]
 
-use gph_serve::{Outcome, run};
-use line_io::{Gathered, GatheredReader, GatheredWriter};
+ghost use Rattle.std.specs.Thread.{IsSync};
+
+use gph_serve::{Outcome, run, trace};
+use line_io::{Gathered, GatheredReader, GatheredWriter, Sink, Source};
 use read_meter::{Meters, upkeep};
 use scatter_gather::NoGate;
 use std::alloc::{Alloc, Global};
@@ -56,7 +58,7 @@ fn outcome_of<R: Env + Alloc<A = Global> + Threads + Sync>(
         return Outcome::NoMemory;
     };
     let words: Vec<String> = words;
-    let Ok(mut meters) = Meters::<Postings>::new(rt, rt.alloc()) else {
+    let Ok(meters) = Meters::<Postings>::new(rt, rt.alloc()) else {
         return Outcome::NoMemory;
     };
     let Ok(gathered) = Gathered::new(rt.alloc(), output) else {
@@ -64,21 +66,52 @@ fn outcome_of<R: Env + Alloc<A = Global> + Threads + Sync>(
     };
     let mut source = GatheredReader::new(input, &gathered);
     let mut sink = GatheredWriter::new(&gathered);
-    let mut steps = upkeep::<Upkeep, _>(rt);
-    let outcome = run(
-        rt,
-        rt.alloc(),
-        words.as_slice(),
-        &mut source,
-        &mut sink,
-        &NoGate,
-        &mut steps,
-        &mut meters,
-    );
+    let outcome = command_outcome(rt, &words, &mut source, &mut sink, meters);
     if gathered.give_out().is_ok() {
         outcome
     } else {
         Outcome::WriteFault
+    }
+}
+
+// Runs the top call of the command that the words name.
+fn command_outcome<R: Env + Alloc<A = Global> + Threads + Sync, S: Source, K: Sink>(
+    rt: &R,
+    words: &[String],
+    source: &mut S,
+    sink: &mut K,
+    mut meters: Meters<Postings>,
+) -> Outcome
+    requires sync { IsSync R.row }
+{
+    let mut steps = upkeep::<Upkeep, _>(rt);
+    if is_trace(words) {
+        return trace(
+            rt.alloc(),
+            words,
+            source,
+            sink,
+            &mut steps,
+            &mut meters,
+        );
+    }
+    run(
+        rt,
+        rt.alloc(),
+        words,
+        source,
+        sink,
+        &NoGate,
+        &mut steps,
+        &mut meters,
+    )
+}
+
+// Whether the command is `trace`.
+fn is_trace(words: &[String]) -> bool {
+    match words {
+        [word, ..] => word.as_bytes() == b"trace".as_slice(),
+        [] => false,
     }
 }
 

@@ -17,3 +17,4 @@ pub mod RunLemmas
 pub mod SourceLemmas
 pub mod StartLemmas
 pub mod SwapLemmas
+pub mod SameHeld

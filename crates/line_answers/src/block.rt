@@ -21,6 +21,7 @@ pub(crate) fn answer_block<A: LineAnswers, K: Sink, L, M>(
     upkeep: &mut Steps<M>,
     meters: &mut Meters<L>,
 ) -> Result<(), Failed>
+    ensures config { A.config answers.new ≡ A.config answers.old }
     ensures flow { FlowsOn result
         (A.answered answers.old)
         (moment (ledgers meters.old upkeep.old) cutter.old.held (K.held sink.old))
@@ -60,6 +61,7 @@ fn answer_piece<A: LineAnswers, K: Sink, L, M>(
 ) -> (usize, Result<(), Failed>)
     requires some { 0 < length bytes.now }
     ensures progress { (0 < result.0) × (result.0 ≤ length bytes.now) }
+    ensures config { A.config answers.new ≡ A.config answers.old }
     ensures flow { FlowsOn result.1
         (A.answered answers.old)
         (moment (ledgers meters.old upkeep.old) cutter.old.held (K.held sink.old))
@@ -87,6 +89,7 @@ pub(crate) fn answer_end<A: LineAnswers, K: Sink, L, M>(
     upkeep: &mut Steps<M>,
     meters: &mut Meters<L>,
 ) -> Result<(), Failed>
+    ensures config { A.config answers.new ≡ A.config answers.old }
     ensures flow { EndsOn result
         (A.answered answers.old)
         (moment (ledgers meters.old upkeep.old) cutter.old.held (K.held sink.old))
@@ -110,6 +113,7 @@ fn answer_cut<A: LineAnswers, K: Sink, L, M>(
     upkeep: &mut Steps<M>,
     meters: &mut Meters<L>,
 ) -> Result<(), Failed>
+    ensures config { A.config answers.new ≡ A.config answers.old }
     ensures answers { (begun begun' : Option (List ℕ)) → AnswersCut cut cutter.now.line result
         (A.answered answers.old)
         (moment (ledgers meters.old upkeep.old) begun (K.held sink.old))

@@ -32,7 +32,8 @@ pub fn answer_lines<A: LineAnswers, S: Source, K: Sink, L, M>(
     requires none { (A.answered answers.old) (ledgers meters.old upkeep.old)
         (ledgers meters.old upkeep.old) [] [] }
     requires room { length block.old ≡ BLOCK_MOST }
-    ensures { EndsAnswered result (A.answered answers.new) limit
+    ensures config { A.config answers.new ≡ A.config answers.old }
+    ensures ending { EndsAnswered result (A.answered answers.new) limit
         (call S.left S.faults K.held K.faults source.old source.new sink.old sink.new
         meters.old meters.new upkeep.old upkeep.new) }
 {

@@ -1,5 +1,5 @@
 -- Lemmas on what a world has answered: one line more.
-use Rattle.std.proofs.Common.{◌≡◌, ℕ, ◌+◌, ◌≤◌, false, List, [], ◌∷◌, ◌++◌, Option, None, Some, Ok, Err, slice_index, refl, sym, ap, ◌∙◌, subst, arith}
+use Rattle.std.proofs.Common.{◌≡◌, ℕ, ◌+◌, ◌≤◌, List, [], ◌∷◌, ◌++◌, Option, None, Some, Ok, Err, slice_index, sym, ap, ◌∙◌, subst, arith}
 use Rattle.line_answers.specs.Answered.{AnswersNext}
 use Rattle.part_layout.specs.declared.config.Config.{Config}
 use Rattle.session_model.specs.Ledger.{Ledgers}
@@ -10,13 +10,13 @@ use Rattle.trace_lines.specs.EventLines.{EventReading}
 use Rattle.trace_lines.specs.EventRequests.{IsFit, ReadsEvent, event_of}
 use Rattle.trace_lines.specs.declared.event_request.EventRequest.{EventRequest}
 use Rattle.trace_lines.specs.Traces.{Becomes, IsNoEvent, IsTrace, LineMet, Met, ReadsLayout, met_text}
-use Rattle.world_model.specs.Events.{Setting, Event, IsFormed, Commit, Open, Advance, Pin, Poll, Give, Cancel, BuildStart, BuildStep, Follow, Swap}
-use Rattle.world_model.specs.Ledgers.{IsSumOfBounds, reads_on, reads_there}
+use Rattle.world_model.specs.Events.{Setting, Event, IsFormed}
+use Rattle.world_model.specs.Ledgers.{IsSumOfBounds, reads_on}
 use Rattle.world_model.specs.Runs.{Answer}
 use Rattle.world_model.specs.Sound.{IsSound}
 use Rattle.world_model.specs.WorldState.{WorldState}
 use Rattle.world_model.specs.WorldStep.{WorldStep}
-use Rattle.world_traces.specs.Meeting.{CountsPolls}
+use Rattle.world_traces.specs.Meeting.{CountsBetween}
 use Rattle.world_traces.specs.Traced.{IsTraced, first_world, setting_for}
 
 -- ---- what the laws say
@@ -37,53 +37,17 @@ abbrev pub StaysSound : Type 0
 StaysSound = (z : Setting) (s : WorldState) (lines texts : List (List ℕ)) (t : WorldState)
     → IsSound z s → IsTrace z s lines texts t → IsSound z t
 
-abbrev pub OthersReadNothing : Type 0
-OthersReadNothing = (z : Setting) (s : WorldState) (shard : ℕ) (event : Event) (answer : Answer) (t : WorldState)
-    → IsSound z s → reads_there shard event ≡ false → WorldStep z s event answer t
-    → reads_on shard t.queries ≡ reads_on shard s.queries
-
 abbrev pub ReadWithin : Type 0
 ReadWithin = (z : Setting) (s : WorldState) (shard : ℕ) → IsSound z s
     → (sum : ℕ) × IsSumOfBounds z s.history shard s.queries sum × (reads_on shard s.queries ≤ sum)
 
 -- ---- ledgers
 
--- an event that reads nothing raises no ledger
-none_read : (z : Setting) (s : WorldState) (shard start : ℕ) (event : Event) (answer : Answer) (t : WorldState)
-    (from to : List ℕ) → OthersReadNothing → IsSound z s → reads_there shard event ≡ false
-    → WorldStep z s event answer t → to ≡ from → slice_index from shard ≡ start + reads_on shard s.queries
-    → slice_index to shard ≡ start + reads_on shard t.queries
-none_read z s shard start event answer t from to others sound none step same so_far =
-    let kept = others z s shard event answer t sound none step in
-    ap (λ (l : List ℕ). slice_index l shard) same ∙ so_far ∙ ap (λ (n : ℕ). start + n) (sym kept)
-
 -- each event counts what the queries read
-counts_on : (z : Setting) (s : WorldState) (shard start : ℕ) (event : Event) (answer : Answer) (t : WorldState)
-    (from to : List ℕ) → OthersReadNothing → IsSound z s → WorldStep z s event answer t
-    → CountsPolls s t event from to → slice_index from shard ≡ start + reads_on shard s.queries
+counts_on : (s t : WorldState) (shard start : ℕ) (from to : List ℕ) → CountsBetween s t from to
+    → slice_index from shard ≡ start + reads_on shard s.queries
     → slice_index to shard ≡ start + reads_on shard t.queries
-counts_on z s shard start (Poll query polled budget) answer t from to others sound step counts so_far =
-    omega (arith, counts shard, so_far)
-counts_on z s shard start (Commit who op) answer t from to others sound step counts so_far =
-    none_read z s shard start (Commit who op) answer t from to others sound refl step counts so_far
-counts_on z s shard start (Open who ask) answer t from to others sound step counts so_far =
-    none_read z s shard start (Open who ask) answer t from to others sound refl step counts so_far
-counts_on z s shard start (Advance q k) answer t from to others sound step counts so_far =
-    none_read z s shard start (Advance q k) answer t from to others sound refl step counts so_far
-counts_on z s shard start (Pin q k) answer t from to others sound step counts so_far =
-    none_read z s shard start (Pin q k) answer t from to others sound refl step counts so_far
-counts_on z s shard start (Give q) answer t from to others sound step counts so_far =
-    none_read z s shard start (Give q) answer t from to others sound refl step counts so_far
-counts_on z s shard start (Cancel q) answer t from to others sound step counts so_far =
-    none_read z s shard start (Cancel q) answer t from to others sound refl step counts so_far
-counts_on z s shard start (BuildStart k layout) answer t from to others sound step counts so_far =
-    none_read z s shard start (BuildStart k layout) answer t from to others sound refl step counts so_far
-counts_on z s shard start (BuildStep k rows) answer t from to others sound step counts so_far =
-    none_read z s shard start (BuildStep k rows) answer t from to others sound refl step counts so_far
-counts_on z s shard start (Follow k) answer t from to others sound step counts so_far =
-    none_read z s shard start (Follow k) answer t from to others sound refl step counts so_far
-counts_on z s shard start (Swap k) answer t from to others sound step counts so_far =
-    none_read z s shard start (Swap k) answer t from to others sound refl step counts so_far
+counts_on s t shard start from to counts so_far = omega (arith, counts.each shard, so_far)
 
 -- ---- lines
 
@@ -131,23 +95,21 @@ told_line told config s now now' line text met become is written same = λ start
     })
 
 -- a line more that is an event
-pub met_line : MetGoesOn → StaysSound → OthersReadNothing → ReadWithin → (config : Config)
+pub met_line : MetGoesOn → StaysSound → ReadWithin → (config : Config)
     → IsSound (setting_for config) (first_world config) → (s t : WorldState) (now now' : Ledgers)
     (line text : List ℕ) (event : Event) (answer : Answer) → Becomes config.bits line (Met event answer)
     → IsFormed (setting_for config) event → WorldStep (setting_for config) s event answer t
-    → CountsPolls s t event now.reads now'.reads → text ≡ met_text (Met event answer)
+    → CountsBetween s t now.reads now'.reads → text ≡ met_text (Met event answer)
     → AnswersNext (IsTraced config s) (IsTraced config t) now now' line text
-met_line met stays others within config first s t now now' line text event answer become formed step counts written =
+met_line met stays within config first s t now now' line text event answer become formed step counts written =
     λ start lines texts traced.
     let z = setting_for config in
     let trace = met z (first_world config) lines texts s line event answer t first traced.trace become formed step in
-    let sound = stays z (first_world config) lines texts s first traced.trace in
     let sound' = stays z (first_world config) (lines ++ line ∷ []) (texts ++ met_text (Met event answer) ∷ []) t first trace in
     subst (λ (w : List ℕ). IsTraced config t start now' (lines ++ line ∷ []) (texts ++ w ∷ [])) (sym written) (record {
       trace = trace;
       reads = record {
-        each = λ shard. counts_on z s shard (slice_index start.reads shard) event answer t now.reads now'.reads others sound step
-            counts (traced.reads.each shard);
+        each = λ shard. counts_on s t shard (slice_index start.reads shard) now.reads now'.reads counts (traced.reads.each shard);
         within = λ shard. within z t shard sound';
       };
     })

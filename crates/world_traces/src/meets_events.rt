@@ -1,9 +1,10 @@
-ghost use Rattle.std.specs.Prelude.{◌≡◌};
+ghost use Rattle.std.specs.Prelude.{◌≡◌, ◌≤◌};
+ghost use Rattle.hamming_model.specs.declared.limits.TheConstants.{WORDS_MOST};
 ghost use Rattle.trace_lines.specs.EventRequests.{IsFit, event_of};
 ghost use Rattle.world_model.specs.Events.{Setting};
 ghost use Rattle.world_model.specs.WorldState.{WorldState};
 ghost use Rattle.world_model.specs.WorldStep.{WorldStep};
-ghost use Rattle.world_traces.specs.Meeting.{CountsPolls};
+ghost use Rattle.world_traces.specs.Meeting.{CountsBetween};
 
 use read_meter::{Meters, Steps};
 use trace_lines::EventRequest;
@@ -17,17 +18,17 @@ pub trait MeetsEvents<const W: usize> {
     /// The state that the events so far have left.
     ghost state: { Self → WorldState };
 
-    /// Meets an event: what it is told, or why it is refused. Only a poll counts on the ledgers of queries.
+    /// Meets an event: what it is told, or why it is refused. The ledgers rise by what the queries read.
     fn meet<L, M>(
         &mut self,
         request: EventRequest<W>,
         upkeep: &mut Steps<M>,
         meters: &mut Meters<L>,
     ) -> Result<Told, Refused>
+        requires few_words { W ≤ WORDS_MOST }
         requires fit { IsFit W (setting self.old).bits request }
         ensures setting { setting self.new ≡ setting self.old }
         ensures step { WorldStep (setting self.old) (state self.old)
             (event_of (setting self.old).bits request.entry) result (state self.new) }
-        ensures ledgers { CountsPolls (state self.old) (state self.new)
-            (event_of (setting self.old).bits request.entry) meters.old meters.new };
+        ensures ledgers { CountsBetween (state self.old) (state self.new) meters.old meters.new };
 }

@@ -62,6 +62,8 @@ impl<const W: usize, C: MeetsEvents<W>> Tracing<W, C> {
 }
 
 impl<const W: usize, C: MeetsEvents<W>> LineAnswers for Tracing<W, C> {
+    ghost config = { λ t. t.config };
+
     ghost answered = { λ t. IsTraced t.config (C.state t.world) };
 
     fn answer<L, M>(

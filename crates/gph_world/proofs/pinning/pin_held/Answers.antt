@@ -9,6 +9,7 @@ use Rattle.gph_world.specs.Kept.{without_held}
 use Rattle.gph_world.specs.Pinned.{Begins, MayOpenEach, missing, pinned_with, rows_pinned}
 use Rattle.gph_world.specs.Pinned as pinned
 use Rattle.gph_world.specs.declared.held.Held.{Held}
+use Rattle.gph_world.proofs.SameHeld.{held_is}
 use Rattle.gph_world.proofs.SourceLemmas.{one_less}
 use Rattle.gph_world.proofs.pinning.pin_held.Goals as goal
 
@@ -46,7 +47,7 @@ returns-then-left-gt0-clause-pins g c = inl (record {
     one_less c.args.held.now.pins.items c.args.shard c.args.version c.requires.not_pinned,
   );
   pins = refl;
-  rest = refl;
+  rest = held_is _ _ refl refl refl refl refl refl refl;
   journal = refl;
 })
 
@@ -118,12 +119,7 @@ returns-in-Some-clause-pins g c =
       begins = subst (λ (pins : pinned.Pins). Begins {W = g.row.W} c.args.room c.args.held.now.ask (pinned_with pins c.args.shard c.args.version)
           (sum_by rows_pinned (pinned_with pins c.args.shard c.args.version)) begun.gather begun.limit) c.deref-2.ensures.value
           c.in_ok-begun.ensures;
-      rest = ap (λ (front : Option FrontState). let held : Held g.row.W = record c.args.held.now {
-        front = front;
-        pins = with_item c.args.held.now.pins c.args.shard (Some c.args.version);
-        gather = Some begun.gather;
-        limit = begun.limit;
-      } in held) c.take.ensures.after;
+      rest = held_is _ _ refl refl c.take.ensures.after refl refl refl refl;
       journal = c.close_front.ensures.closed ∙ sym (ap (without_held c.args.journal.now) fronted);
       fronts = c.close_front.ensures.fronts;
     })
@@ -153,12 +149,7 @@ returns-in_default-clause-pins g c =
       begins = subst (λ (pins : pinned.Pins). Begins {W = g.row.W} c.args.room c.args.held.now.ask (pinned_with pins c.args.shard c.args.version)
           (sum_by rows_pinned (pinned_with pins c.args.shard c.args.version)) begun.gather begun.limit) c.deref-2.ensures.value
           c.in_ok-begun.ensures;
-      rest = ap (λ (front : Option FrontState). let held : Held g.row.W = record c.args.held.now {
-        front = front;
-        pins = with_item c.args.held.now.pins c.args.shard (Some c.args.version);
-        gather = Some begun.gather;
-        limit = begun.limit;
-      } in held) c.take.ensures.after;
+      rest = held_is _ _ refl refl c.take.ensures.after refl refl refl refl;
       journal = sym (ap (without_held c.args.journal.now) closed);
       fronts = λ front known. known;
     })

@@ -8,6 +8,7 @@ use Rattle.line_answers.proofs.block.answer_block.Goals as goal
 
 pub loop-done-init : goal.loop-done-init
 loop-done-init g c = record {
+  config = refl;
   within = omega arith;
   goes = λ start bytes output going. still_goes _ _ start bytes output going;
   steady = refl;
@@ -22,6 +23,7 @@ loop-done-preserved g c =
     let before = moment (ledgers at.meters at.upkeep) at.cutter.held (g.K.Sink.held at.sink) in
     let after = moment (ledgers line.new.meters line.new.upkeep) line.new.cutter.held (g.K.Sink.held line.new.sink) in
     record {
+      config = search rules;
       within = omega (
         arith,
         line.ensures.progress.1,

@@ -7,6 +7,7 @@ use Rattle.line_answers.proofs.block.answer_block.Given as goal
 -- the call goes on after the front of the block, and no write has failed
 abbrev pub invariant-loop-done : goal.invariant-loop-done
 invariant-loop-done g l = record {
+  config : g.A.LineAnswers.config l.answers ≡ g.A.LineAnswers.config l.fn.answers;
   within : l.done ≤ length l.block;
   goes : (start : Ledgers) (bytes output : List ℕ) → HasAnswered (g.A.LineAnswers.answered l.fn.answers)
       (moment (ledgers l.fn.meters l.fn.upkeep) l.fn.cutter.held (g.K.Sink.held l.fn.sink)) start bytes output

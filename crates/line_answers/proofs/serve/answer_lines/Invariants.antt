@@ -1,4 +1,4 @@
-use Rattle.std.proofs.Common.{◌-◌}
+use Rattle.std.proofs.Common.{◌≡◌, ◌-◌}
 use Rattle.session_model.specs.Ledger.{ledgers}
 use Rattle.session_model.specs.Outside.{ends}
 use Rattle.line_answers.specs.Flow.{Serves, moment}
@@ -6,7 +6,8 @@ use Rattle.line_answers.proofs.serve.answer_lines.Given as goal
 
 -- the call goes on after the bytes that were read, and no fault rose
 abbrev pub invariant-loop-answers : goal.invariant-loop-answers
-invariant-loop-answers g l = Serves (g.A.LineAnswers.answered l.answers) l.limit l.taken
+invariant-loop-answers g l = (g.A.LineAnswers.config l.answers ≡ g.A.LineAnswers.config l.fn.answers)
+    × Serves (g.A.LineAnswers.answered l.answers) l.limit l.taken
     (ledgers l.fn.meters l.fn.upkeep)
     (moment (ledgers l.meters l.upkeep) l.cutter.held (g.K.Sink.held l.sink))
     (ends (g.S.Source.left l.fn.source) (g.S.Source.faults l.fn.source))

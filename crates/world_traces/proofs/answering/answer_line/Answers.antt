@@ -7,7 +7,6 @@ use Rattle.trace_lines.specs.EventRequests.{event_of}
 use Rattle.trace_lines.specs.Traces.{Skipped, Faulty, Unread}
 use Rattle.world_model.specs.Events.{Setting}
 use Rattle.world_model.specs.WorldStep.{WorldStep}
-use Rattle.world_traces.specs.Meeting.{CountsPolls}
 use Rattle.world_traces.specs.Traced.{first_layout, setting_for}
 use Rattle.world_traces.proofs.TracedLemmas.{met_line, told_line}
 use Rattle.world_traces.proofs.TracedLemmas.{reads_event, reads_fault, reads_no_layout, reads_nothing}
@@ -34,15 +33,12 @@ returns-in-Ok-Some-clause-answers g c =
     let first = c.each_event_keeps_the_rules.ensures.begins z (first_layout config) c.requires.first in
     let step = subst (λ (s : Setting). WorldStep s before (event_of s.bits request) answer after) c.requires.setting
     c.meet-answer.ensures.step in
-    let counts = subst
-    (λ (s : Setting). CountsPolls before after (event_of s.bits request) c.args.meters.now c.meet-answer.new.meters)
-    c.requires.setting c.meet-answer.ensures.ledgers in
     let written = c.write_answer.ensures ∙ ap (λ (n : ℕ). answer_line n answer) (c.subject-subject.ensures config.bits) in
-    met_line c.a_trace_goes_on.ensures.met c.a_trace_goes_on.ensures.sound c.reads_are_bounded.ensures.others
+    met_line c.a_trace_goes_on.ensures.met c.a_trace_goes_on.ensures.sound
     c.reads_are_bounded.ensures.within config first before after (ledgers c.args.meters.now c.args.upkeep.now)
     (ledgers c.meet-answer.new.meters c.meet-answer.new.upkeep) c.args.line.now c.write_answer.new.out
     (event_of config.bits request) answer reads.0
-    (c.what_is_read_is_formed.ensures _ z request reads.1) step counts written
+    (c.what_is_read_is_formed.ensures _ z request reads.1) step c.meet-answer.ensures.ledgers written
 
 pub returns-in-Err-Bad-clause-answers : goal.returns-in-Err-Bad-clause-answers
 returns-in-Err-Bad-clause-answers g c =

@@ -7,8 +7,8 @@ use Rattle.world_model.specs.WorldState.{WorldState}
 use Rattle.world_traces.specs.Traced.{IsTraced}
 use Rattle.world_traces.proofs.tracing.TracingLineAnswers.answer.Goals as goal
 
-pub returns : goal.returns
-returns g c =
+pub returns-clause-answers : goal.returns-clause-answers
+returns-clause-answers g c =
     let inside = c.self.inside in
     let after = IsTraced inside.config (g.C.MeetsEvents.state c.answer_line.new.world) in
     let old = ledgers c.args.meters.now c.args.upkeep.now in
