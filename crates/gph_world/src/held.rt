@@ -1,5 +1,8 @@
 //! A query in a world.
 
+ghost use Rattle.std.specs.Prelude.{◌≤◌};
+ghost use Rattle.hamming_model.specs.declared.limits.TheConstants.{WORDS_MOST};
+
 use crate::ask::Ask;
 use commit_journal::Front;
 use knn_task::NearTask;
@@ -22,4 +25,5 @@ pub struct Held<const W: usize> {
     pub gather: Option<Gather<Source<W>>>,
     pub limit: u64,
     pub cancelled: bool,
+    ghost few_words: { W ≤ WORDS_MOST },
 }

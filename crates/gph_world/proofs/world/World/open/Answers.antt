@@ -23,6 +23,7 @@ module _ (g : _) (c : goal.In-Ok-push g) where
     gather = None;
     limit = 0;
     cancelled = false;
+    few_words = c.self.invariant.few_words;
   }
 
   items : c.push.new.self.items ≡ c.self.inside.queries.items ++ held ∷ []
