@@ -14,6 +14,5 @@ pub mod PlaceLemmas
 pub mod PollLemmas
 pub mod RefusalLemmas
 pub mod RunLemmas
-pub mod SourceLemmas
 pub mod StartLemmas
 pub mod SwapLemmas

@@ -30,20 +30,22 @@ use Rattle.world_model.proofs.Lookups.{get_same, get_set, some_missing}
 use Rattle.world_model.proofs.PinLemmas.{front_has_version, pin_not_refused, version_has_rows}
 use Rattle.world_model.proofs.PlaceLemmas.{one_is_laid}
 use Rattle.world_model.proofs.StepLemmas.{step_sound}
-use Rattle.gph_world.specs.Asks.{IsStoredAsk, ask_seen}
-use Rattle.gph_world.specs.Calls.{come_to}
+use Rattle.world_parts.specs.Asks.{IsStoredAsk, ask_seen}
+use Rattle.world_parts.specs.Calls.{come_to}
 use Rattle.gph_world.specs.Kept.{IsQueryHeld, KeepsWorld}
-use Rattle.gph_world.specs.Pinned.{MayOpen, MayOpenEach, missing, pinned_with, rows_pinned}
-use Rattle.gph_world.specs.Pinned as pinned
-use Rattle.gph_world.specs.Seen.{layout_pinned, place_seen, query_seen, setting_seen, state_seen}
-use Rattle.gph_world.specs.declared.held.Held.{Held}
-use Rattle.gph_world.specs.declared.place.Place.{Place}
+use Rattle.world_parts.specs.Pinned.{MayOpen, MayOpenEach, missing, pinned_with, rows_pinned}
+use Rattle.world_parts.specs.Pinned as pinned
+use Rattle.world_parts.specs.Seen.{layout_pinned, place_seen, query_seen}
+use Rattle.gph_world.specs.Seen.{setting_seen, state_seen}
+use Rattle.world_parts.specs.declared.held.Held.{Held}
+use Rattle.world_parts.specs.declared.place.Place.{Place}
 use Rattle.gph_world.proofs.AdvanceLemmas.{advance_ok, came, comes, may_come}
 use Rattle.gph_world.proofs.GatherLemmas.{query_is}
-use Rattle.gph_world.proofs.HeldLemmas.{found_there, seen_there}
+use Rattle.world_parts.proofs.ListLemmas.{found_there}
+use Rattle.gph_world.proofs.HeldLemmas.{seen_there}
 use Rattle.gph_world.proofs.PlaceLemmas.{place_there, same_state, stepped_keeps}
 use Rattle.gph_world.proofs.RefusalLemmas.{cause_at, cause_if, is_shard, is_query, no_query, refusal_by}
-use Rattle.gph_world.proofs.SourceLemmas.{pin_there}
+use Rattle.world_parts.proofs.SourceLemmas.{pin_there}
 
 -- ---- why it may be refused
 module _ (z : Setting) (s : WorldState) (number shard : ℕ) where
@@ -213,7 +215,7 @@ module _ {W : ℕ} (bits room : ℕ) (journal : JournalState) (places : List (Pl
         abbrev layout : Laid
         layout = (contents_at version).layout
 
-        abbrev pins : pinned.Pins
+        abbrev pins : pinned.VersionPins
         pins = pinned_with held.pins.items shard version
 
         own_rows : contents_at version ≡ pinned_version z s.history query shard layout

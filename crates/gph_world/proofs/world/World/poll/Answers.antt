@@ -4,14 +4,16 @@ use Rattle.std.specs.Prelude.{Err, Ok, slice_set}
 use Rattle.world_model.specs.declared.refused.Refused.TheVariants.{NotPinned}
 use Rattle.world_model.specs.Events.{Poll}
 use Rattle.world_model.specs.WorldStep.{WorldStep}
-use Rattle.gph_world.specs.Gathers.{HasSources}
+use Rattle.world_parts.specs.Gathers.{HasSources}
 use Rattle.gph_world.specs.Rising.{RiseByReads}
-use Rattle.gph_world.specs.Seen.{query_seen, setting_seen, state_seen}
+use Rattle.world_parts.specs.Seen.{query_seen}
+use Rattle.gph_world.specs.Seen.{setting_seen, state_seen}
 use Rattle.gph_world.specs.Worlds.{WorldView}
-use Rattle.gph_world.specs.declared.held.Held.{Held}
+use Rattle.world_parts.specs.declared.held.Held.{Held}
 use Rattle.gph_world.proofs.GatherLemmas.{has_sources, none_gathered}
 use Rattle.gph_world.proofs.PollLemmas.{poll_keeps, poll_not_pinned, poll_rises, poll_step}
-use Rattle.gph_world.proofs.HeldLemmas.{found_there, seen_there, two_found}
+use Rattle.world_parts.proofs.ListLemmas.{found_there, two_found}
+use Rattle.gph_world.proofs.HeldLemmas.{seen_there}
 use Rattle.gph_world.proofs.world.World.poll.Goals as goal
 
 pub returns-in_default-clause-step : goal.returns-in_default-clause-step

@@ -1,0 +1,6 @@
+pub mod FloorLemmas
+pub mod FrontLemmas
+pub mod HeldLemmas
+pub mod ListLemmas
+pub mod SourceLemmas
+pub mod StartLemmas
