@@ -7,8 +7,7 @@ use Rattle.hamming_model.specs.Recoded.{AreStoredEntries, cut_entry, cut_history
 use Rattle.shard_version.specs.Contents.{Contents}
 use Rattle.shard_version.specs.Prefixes.{prefix_of}
 use Rattle.version_draft.specs.Unfinished.{Unfinished}
-use Rattle.commit_journal.specs.Fronts.{FrontState, Live}
-use Rattle.commit_journal.specs.Journals.{JournalState, Opens, without_front}
+use Rattle.commit_journal.specs.Journals.{JournalState}
 use Rattle.versioned_shard.specs.Along.{version_at}
 use Rattle.repartitioner.specs.Builds.{placed_all}
 use Rattle.world_model.specs.declared.refused.Refused.{Refused}
@@ -22,7 +21,6 @@ use Rattle.world_model.specs.Sound.{IsBuild}
 use Rattle.world_model.specs.WorldState.{Rebuild, ShardWithBuild, WorldState, with_place}
 use Rattle.world_model.specs.WorldStep.{WorldStep}
 use Rattle.world_bridge.proofs.CutLemmas.{cut_twice, follows_cut}
-use Rattle.world_bridge.proofs.HeldLemmas.{live_closed_again}
 use Rattle.world_parts.specs.Builds.{ComesToEnd, FollowsAs, MayFollow, StaysBehind, with_draft}
 use Rattle.gph_world.specs.Kept.{KeepsWorld}
 use Rattle.world_parts.specs.Seen.{build_seen, place_seen}

@@ -24,6 +24,7 @@ use Rattle.world_model.proofs.GatherLemmas.{sources_answer}
 use Rattle.world_model.proofs.Lookups.{get_set}
 use Rattle.world_bridge.proofs.HeldLemmas.{held_same}
 use Rattle.world_parts.specs.Gathers.{HasSources, with_gather}
+use Rattle.world_parts.proofs.ListLemmas.{put_again}
 use Rattle.gph_world.specs.Kept.{IsGatheringHeld, IsQueryHeld, KeepsWorld, front_at}
 use Rattle.world_parts.specs.Seen.{given_by, query_seen, standings_held}
 use Rattle.gph_world.specs.Seen.{setting_seen, state_seen}

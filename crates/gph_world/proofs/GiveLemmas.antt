@@ -1,15 +1,13 @@
 -- The next hit of a query is given.
-use Rattle.std.proofs.Common.{◌≡◌, ◌⊎◌, ℕ, ◌+◌, ◌<◌, ◌≤◌, Bool, true, false, List, [], ◌∷◌, length, Option, Some, None, refl, sym, ap, subst, ◌∙◌, arith, inl, inr}
-use Rattle.std.specs.Prelude.{Ok, is_none, is_some, nat_lt, ◌&&◌, ◌||◌, slice_get, slice_index_or, slice_set}
+use Rattle.std.proofs.Common.{◌≡◌, ◌⊎◌, ℕ, ◌+◌, ◌<◌, ◌≤◌, true, false, List, length, Some, None, refl, sym, ap, subst, ◌∙◌, arith, inl, inr}
+use Rattle.std.specs.Prelude.{Ok, is_none, slice_get, slice_index_or, slice_set}
 use Rattle.std.specs.List.{list_any}
-use Rattle.std.proofs.lemmas.Bool.{both_ways, le-ltb, or_parts}
 use Rattle.std.proofs.lemmas.Option.{get_or_from_slice_get}
 use Rattle.hamming_model.specs.declared.hit.Hit.{Hit}
 use Rattle.hit_source.specs.Moves.{Pops}
-use Rattle.hit_source.specs.Sources.{Asked, IsLawful, Standing}
+use Rattle.hit_source.specs.Sources.{Asked, IsLawful}
 use Rattle.commit_journal.specs.Journals.{IsJournal, JournalState}
-use Rattle.scatter_gather.specs.Due.{any_may_have_next, is_empty, is_least, least_floor, may_have_next, some_due}
-use Rattle.scatter_gather.specs.Gathering.{Gathered, answer_of, gathered, seen, source_of, sources_of}
+use Rattle.scatter_gather.specs.Gathering.{Gathered, answer_of, gathered, source_of}
 use Rattle.scatter_gather.specs.Kept.{IsGathering}
 use Rattle.world_model.specs.declared.refused.Refused.TheVariants.{Closed, NoQuery, NotPinned}
 use Rattle.world_model.specs.declared.told.Told.{Told}

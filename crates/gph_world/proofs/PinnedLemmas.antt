@@ -1,5 +1,5 @@
 -- A version was pinned, and with the last one the sources begin.
-use Rattle.std.proofs.Common.{◌≡◌, ◌⊎◌, ℕ, ◌+◌, ◌<◌, ◌≤◌, true, false, List, [], ◌∷◌, length, filter, map, take, Option, Some, None, refl, sym, ap, subst, ◌∙◌, arith, inl, inr}
+use Rattle.std.proofs.Common.{◌≡◌, ◌⊎◌, ℕ, List, [], length, filter, map, take, Option, Some, None, refl, sym, ap, subst, ◌∙◌, arith, inl, inr}
 use Rattle.std.specs.Prelude.{Err, Ok, is_none, nat_lt, option_map, slice_get, slice_set}
 use Rattle.std.specs.List.{sum_by}
 use Rattle.std.specs.declared.alloc.Global.{Global}
@@ -17,7 +17,7 @@ use Rattle.shard_version.specs.Contents.{Contents}
 use Rattle.shard_version.specs.Tables.{Tabled}
 use Rattle.hit_source.specs.Sources.{Asked, Standing}
 use Rattle.commit_journal.specs.Fronts.{FrontState}
-use Rattle.commit_journal.specs.Journals.{JournalState, KeepsFronts, without_front}
+use Rattle.commit_journal.specs.Journals.{JournalState, KeepsFronts}
 use Rattle.versioned_shard.specs.Shards.{contents_at}
 use Rattle.scatter_gather.specs.Gathering.{Gathered, Source, source_of, sources_of}
 use Rattle.scatter_gather.proofs.KeepLemmas.{map_seen}
@@ -25,11 +25,11 @@ use Rattle.world_model.specs.declared.refused.Refused.TheVariants.{NoMemory}
 use Rattle.world_model.specs.declared.told.Told.TheVariants as told
 use Rattle.world_model.specs.Asking.{AsksOf, BeginsSource, IsGatheringOf, SourceAsks, most_given}
 use Rattle.world_model.specs.Events.{Pin, Setting}
-use Rattle.world_model.specs.QuerySteps.{AreSourcesBegun, Completes, Pins, PinsAtFront, with_pin}
+use Rattle.world_model.specs.QuerySteps.{AreSourcesBegun, Completes, with_pin}
 use Rattle.world_model.specs.Sound.{IsQuery, IsSound}
 use Rattle.world_model.specs.WorldState.{WorldQuery, WorldState, pinned_version, unpinned, with_query}
 use Rattle.world_model.specs.WorldStep.{WorldStep}
-use Rattle.world_model.proofs.Lookups.{get_set, some_missing}
+use Rattle.world_model.proofs.Lookups.{get_set}
 use Rattle.world_model.proofs.StepLemmas.{step_sound}
 use Rattle.world_bridge.specs.Held.{HoldsLive}
 use Rattle.world_bridge.proofs.HeldLemmas.{held_closed}

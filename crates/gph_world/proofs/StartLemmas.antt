@@ -1,14 +1,12 @@
 -- A world begins.
-use Rattle.std.proofs.Common.{◌≡◌, ℕ, zero, suc, ◌+◌, ◌*◌, ◌≤◌, List, [], ◌∷◌, ◌++◌, length, None, refl, sym, ap, subst, ◌∙◌, arith}
+use Rattle.std.proofs.Common.{◌≡◌, ℕ, zero, suc, ◌+◌, ◌*◌, ◌≤◌, List, [], length, refl, sym, ap, subst, ◌∙◌, arith}
 use Rattle.std.specs.FinMap.{get-empty}
 use Rattle.std.specs.Ordering.{nat_cmp}
-use Rattle.std.proofs.lemmas.List.{length-map, map-append}
+use Rattle.std.proofs.lemmas.List.{length-map}
 use Rattle.std.proofs.lemmas.Option.{none-some}
 use Rattle.hamming_model.specs.declared.limits.TheConstants.{ROOM_MOST, SHARDS_MOST, WORDS_MOST}
 use Rattle.part_layout.specs.Laid.{Laid}
-use Rattle.shard_version.specs.Contents.{empty_of}
 use Rattle.commit_journal.specs.Journals.{empty_journal}
-use Rattle.versioned_shard.specs.Shards.{shard_with}
 use Rattle.world_model.specs.Events.{IsLayoutFor, Setting}
 use Rattle.world_model.specs.Sound.{IsSound}
 use Rattle.world_model.specs.WorldState.{ShardWithBuild, WorldState, empty_places, new_world}

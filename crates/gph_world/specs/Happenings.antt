@@ -1,5 +1,5 @@
 -- The program's events in the definitions' words.
-use Rattle.std.specs.Prelude.{◌≡◌, ℕ, ◌≤◌, List, map}
+use Rattle.std.specs.Prelude.{ℕ, List, map}
 use Rattle.std.specs.Arc.{arc_value}
 use Rattle.entry_log.specs.Entries.{kept_operation, operation_of}
 use Rattle.hamming_model.specs.Recoded.{IsStoredOperation}

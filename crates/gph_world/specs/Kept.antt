@@ -17,7 +17,7 @@ use Rattle.world_model.specs.Sound.{IsSound}
 use Rattle.world_model.specs.WorldState.{pinned_version}
 use Rattle.world_bridge.specs.Held.{HoldsLive}
 use Rattle.world_parts.specs.Asks.{IsStoredAsk}
-use Rattle.world_parts.specs.Seen.{query_seen, place_seen}
+use Rattle.world_parts.specs.Seen.{query_seen}
 use Rattle.gph_world.specs.Seen.{setting_seen, state_seen}
 use Rattle.world_parts.specs.Sources.{QuerySource, gathering_seen}
 use Rattle.world_parts.specs.declared.held.Held.{Held}

@@ -1,5 +1,5 @@
 -- How many steps of upkeep an event may take.
-use Rattle.std.specs.Prelude.{ℕ, ◌-◌, length, min, Option, Some, None, slice_get}
+use Rattle.std.specs.Prelude.{ℕ, length, min, Option, Some, None, slice_get}
 use Rattle.world_model.specs.Events.{Event, Advance, Pin, BuildStart, BuildStep, Follow}
 use Rattle.world_model.specs.WorldState.{Rebuild, ShardWithBuild, WorldState}
 use Rattle.world_parts.specs.Builds.{entries_of_build, rows_of_build}
