@@ -2,10 +2,10 @@
 
 use crate::worlds::{Reads, Upkeep, add, open_near, open_range, refuses, small_world, tells};
 use entry_log::Decision;
+use gph_world::World;
 use hamming_model::Hit;
 use hit_source::Polled;
 use read_meter::{Meters, Steps, upkeep};
-use std::mem::forget;
 use std::test::Fail;
 use world_model::{Refused, Told};
 
@@ -44,7 +44,6 @@ fn each_query_answers_the_rows_at_its_opening(rt: HostRuntime) -> Result<(), Fai
     refuses(&rt, world.give(1), Refused::Closed);
     refuses(&rt, world.give(2), Refused::NoQuery);
     refuses(&rt, world.swap(0), Refused::NoBuild);
-    forget(world);
     Ok(())
 }
 
@@ -68,25 +67,20 @@ fn two_shards_give_the_nearest_by_distance_and_key(rt: HostRuntime) -> Result<()
     );
     tells(&rt, world.pin(0, 0, &mut steps), Told::Pinned { left: 0 });
     tells(&rt, world.pin(0, 0, &mut steps), Told::Pinned { left: 0 });
-    let mut polls = 0;
-    while polls < 200 {
-        for shard in 0..2 {
-            let _answer = world.poll(0, shard, 9, &mut meters);
-        }
-        polls += 1;
-    }
+    poll_both(&mut world, &mut meters);
     tells(&rt, world.give(0), Told::Gave(Hit { dist: 1, key: 1 }));
-    let mut more = 0;
-    while more < 200 {
-        for shard in 0..2 {
-            let _answer = world.poll(0, shard, 9, &mut meters);
-        }
-        more += 1;
-    }
+    poll_both(&mut world, &mut meters);
     tells(&rt, world.give(0), Told::Gave(Hit { dist: 1, key: 2 }));
     tells(&rt, world.give(0), Told::Ended { count: 2 });
     refuses(&rt, world.pin(0, 2, &mut steps), Refused::NoShard);
     refuses(&rt, world.pin(1, 0, &mut steps), Refused::NoQuery);
-    forget(world);
     Ok(())
+}
+
+// Polls the first query on each of two shards, for 9 units at a time, until no source of so few rows has any more to do.
+fn poll_both(world: &mut World<1>, meters: &mut Meters<Reads>) {
+    for _round in 0..200 {
+        let _first = world.poll(0, 0, 9, meters);
+        let _second = world.poll(0, 1, 9, meters);
+    }
 }

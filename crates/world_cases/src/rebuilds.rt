@@ -7,7 +7,6 @@ use entry_log::Decision;
 use hamming_model::Hit;
 use hit_source::Polled;
 use read_meter::{Meters, Steps, upkeep};
-use std::mem::forget;
 use std::test::Fail;
 use world_model::{Refused, Told};
 
@@ -50,7 +49,6 @@ fn a_build_is_overtaken_and_waits_for_its_shard(rt: HostRuntime) -> Result<(), F
     tells(&rt, world.give(0), Told::Gave(Hit { dist: 0, key: 1 }));
     tells(&rt, world.give(0), Told::Ended { count: 1 });
     refuses(&rt, world.swap(0), Refused::NoBuild);
-    forget(world);
     Ok(())
 }
 
@@ -94,7 +92,6 @@ fn a_build_waits_for_its_shard(rt: HostRuntime) -> Result<(), Fail> {
     tells(&rt, world.cancel(0), Told::Cancelled { count: 0 });
     refuses(&rt, world.advance(0, 0, &mut steps), Refused::Closed);
     refuses(&rt, world.give(2), Refused::NoQuery);
-    forget(world);
     Ok(())
 }
 
@@ -124,6 +121,5 @@ fn a_shard_has_one_build_at_a_time(rt: HostRuntime) -> Result<(), Fail> {
         Told::Built { left: 0 },
     );
     refuses(&rt, world.follow(0, &mut steps), Refused::NoBuild);
-    forget(world);
     Ok(())
 }

@@ -45,4 +45,3 @@ module _ {S : Type 0} (asks : S → Asked) (stands : S → Standing) (g : Gather
   pub idle_without_floors : HaveNoFloors stands g.sources → some_due (seen asks stands g) ≡ false
   idle_without_floors none = ap (λ (b : Bool). nat_lt g.given g.limit && b)
       (none_next asks stands (least_floor (sources_of asks stands g.sources)) g.sources none) ∙ no_next (nat_lt g.given g.limit)
-
