@@ -3,6 +3,7 @@ pub mod BuildLemmas
 pub mod CancelLemmas
 pub mod CommitLemmas
 pub mod FollowLemmas
+pub mod FoundLemmas
 pub mod GatherLemmas
 pub mod GiveLemmas
 pub mod GrownLemmas

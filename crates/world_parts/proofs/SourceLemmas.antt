@@ -43,6 +43,11 @@ one_less (Some other ∷ pins) zero version none = absurd (none-some other (sym 
 one_less (None ∷ pins) (suc shard) version none = omega (arith, one_less pins shard version none)
 one_less (Some other ∷ pins) (suc shard) version none = one_less pins shard version none
 
+-- so many as were counted without it
+pub left_after : (pins own : VersionPins) (shard : ℕ) (version : Arc Tabled Global) (counted : ℕ) → counted ≡ missing own → own ≡ pins
+    → slice_get pins shard ≡ Some None → missing (pinned_with pins shard version) + 1 ≡ counted
+left_after pins own shard version counted count same none = omega (arith, count, ap missing same, one_less pins shard version none)
+
 -- and its rows
 pub rows_more : (pins : VersionPins) (shard : ℕ) (version : Arc Tabled Global) → slice_get pins shard ≡ Some None
     → sum_by rows_pinned (pinned_with pins shard version) ≡ sum_by rows_pinned pins + length (contents_at version).rows

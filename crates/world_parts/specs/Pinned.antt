@@ -1,5 +1,6 @@
 -- What calls do with the versions that a query pinned.
-use Rattle.std.specs.Prelude.{◌≡◌, ◌⊎◌, ℕ, ◌<◌, ◌≤◌, List, length, filter, Option, Some, None, is_none, slice_get, slice_set, sum_by}
+use Rattle.std.specs.Prelude.{◌≡◌, ◌⊎◌, ℕ, ◌<◌, ◌≤◌, List, length, filter, sum_by}
+use Rattle.std.specs.Prelude.{Option, Some, None, is_none, slice_get, slice_set}
 use Rattle.std.specs.declared.alloc.Global.{Global}
 use Rattle.std.specs.declared.sync.Arc.{Arc}
 use Rattle.threshold_model.specs.Bounds.{IsUnitsOf}
@@ -60,8 +61,8 @@ pub record IsOpened {W : ℕ} (room : ℕ) (ask : Ask W) (version : Contents) (s
   pub units : (standing_told source).units ≤ most
 
 -- so many sources, each of which asks the question of the version that is pinned on its shard
-pub record AreOpened {W : ℕ} (room : ℕ) (ask : Ask W) (pins : VersionPins) (sources : List (QuerySource W))
-    (number : ℕ) : Type 0 where
+pub record AreOpened {W : ℕ} (room : ℕ) (ask : Ask W) (pins : VersionPins)
+    (sources : List (QuerySource W)) (number : ℕ) : Type 0 where
   pub number_is : length sources ≡ number
   pub each : (shard : ℕ) (source : QuerySource W) (version : Arc Tabled Global)
       → slice_get sources shard ≡ Some source → slice_get pins shard ≡ Some (Some version)
@@ -102,7 +103,8 @@ pub record PinsLast {W : ℕ} (room : ℕ) (from to : JournalState) (old new : H
   pub all : missing new.pins.items ≡ 0
   pub pins : new.pins.items ≡ pinned_with old.pins.items shard version
   pub gather : Gathered (QuerySource W)
-  pub begins : BeginsGather room old.ask (pinned_with old.pins.items shard version) rows gather new.limit
+  pub begins : BeginsGather room old.ask (pinned_with old.pins.items shard version) rows gather
+      new.limit
   pub rest : new ≡ record old {
     pins = new.pins;
     front = None;

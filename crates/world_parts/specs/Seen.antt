@@ -1,5 +1,5 @@
 -- What a query, a shard and its build are seen as, in the definitions' words.
-use Rattle.std.specs.Prelude.{ℕ, List, [], length, map, Option, Some, None, option_map}
+use Rattle.std.specs.Prelude.{ℕ, List, [], map, Option, Some, None, option_map}
 use Rattle.std.specs.declared.alloc.Global.{Global}
 use Rattle.std.specs.declared.sync.Arc.{Arc}
 use Rattle.part_layout.specs.Laid.{Laid}

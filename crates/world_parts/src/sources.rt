@@ -47,9 +47,9 @@ pub(crate) fn begin<const W: usize>(
     requires few { length pins.now ≤ SHARDS_MOST }
     requires free { slice_get pins.now place ≡ Some None }
     requires may { MayOpenEach ask.now (pinned_with pins.now place version.now) }
-    ensures { IfOk result (λ begun. BeginsGather room ask.now (pinned_with pins.now place version.now)
-        (sum_by rows_pinned (pinned_with pins.now place version.now))
-        begun.gather begun.limit) }
+    ensures { IfOk result (λ begun. BeginsGather room ask.now
+        (pinned_with pins.now place version.now)
+        (sum_by rows_pinned (pinned_with pins.now place version.now)) begun.gather begun.limit) }
 {
     let rows = row_count(pins) + version.rows();
     let limit = limit_of(ask, rows);

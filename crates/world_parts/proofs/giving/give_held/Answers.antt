@@ -1,5 +1,5 @@
 -- What the gathering tells, the query tells.
-use Rattle.std.proofs.Common.{refl, sym, ◌∙◌}
+use Rattle.std.proofs.Common.{refl}
 use Rattle.world_parts.proofs.HeldLemmas.{held_is}
 use Rattle.world_parts.proofs.giving.give_held.Goals as goal
 

@@ -1,5 +1,5 @@
 -- What the poll of the gathering does, it does to the query's.
-use Rattle.std.proofs.Common.{refl, sym, ◌∙◌}
+use Rattle.std.proofs.Common.{refl}
 use Rattle.world_parts.proofs.HeldLemmas.{held_is}
 use Rattle.world_parts.proofs.polling.poll_held.Goals as goal
 

@@ -44,7 +44,8 @@ invariant_of-self-2 g c =
     (open_keeps i.bits i.room i.journal c.open_front.new.self i.places.items i.queries.items c.self.invariant c.args.who c.in-Ok-open_front.front
     c.in-Ok-open_front.ensures.opened c.in-Ok-open_front.ensures.live c.in-Ok-open_front.ensures.known c.in-Ok-open_front.ensures.fronts
     c.args.ask (formed g c) (stored g c) (held g c) c.new_held-held.ensures.ask_is c.new_held-held.ensures.position_is c.new_held-held.ensures.front_is
-    (c.new_held-held.ensures.pins_are ∙ pins g c) c.new_held-held.ensures.no_sources c.new_held-held.ensures.goes_on (ap (nat_le 65536) (sym (long g c)) ∙ few g c))
+    (c.new_held-held.ensures.pins_are ∙ pins g c) c.new_held-held.ensures.no_sources c.new_held-held.ensures.goes_on
+    (ap (nat_le 65536) (sym (long g c)) ∙ few g c))
 
 pub returns-clause-step : goal.returns-clause-step
 returns-clause-step g c =
@@ -59,4 +60,5 @@ returns-clause-step g c =
     (open_step i.bits i.room i.journal c.open_front.new.self i.places.items i.queries.items c.self.invariant c.args.who c.in-Ok-open_front.front
     c.in-Ok-open_front.ensures.opened c.in-Ok-open_front.ensures.live c.in-Ok-open_front.ensures.known c.in-Ok-open_front.ensures.fronts
     c.args.ask (formed g c) (stored g c) (held g c) c.new_held-held.ensures.ask_is c.new_held-held.ensures.position_is c.new_held-held.ensures.front_is
-    (c.new_held-held.ensures.pins_are ∙ pins g c) c.new_held-held.ensures.no_sources c.new_held-held.ensures.goes_on c.len-number.result c.position-position.result (long g c) c.position-position.ensures.position (few g c)))
+    (c.new_held-held.ensures.pins_are ∙ pins g c) c.new_held-held.ensures.no_sources c.new_held-held.ensures.goes_on
+    c.len-number.result c.position-position.result (long g c) c.position-position.ensures.position (few g c)))
