@@ -20,11 +20,12 @@ use Rattle.world_model.specs.WorldStep.{WorldStep}
 use Rattle.world_bridge.specs.Cuts.{cut_front}
 use Rattle.world_bridge.proofs.CutLemmas.{comes_cut, follows_cut}
 use Rattle.gph_world.specs.Behind.{behind_of, entries_behind}
-use Rattle.gph_world.specs.Calls.{come_to}
+use Rattle.world_parts.specs.Calls.{come_to}
 use Rattle.gph_world.specs.Kept.{KeepsWorld}
-use Rattle.gph_world.specs.Seen.{place_seen, query_seen, setting_seen, state_seen}
-use Rattle.gph_world.specs.declared.held.Held.{Held}
-use Rattle.gph_world.specs.declared.place.Place.{Place}
+use Rattle.world_parts.specs.Seen.{place_seen, query_seen}
+use Rattle.gph_world.specs.Seen.{setting_seen, state_seen}
+use Rattle.world_parts.specs.declared.held.Held.{Held}
+use Rattle.world_parts.specs.declared.place.Place.{Place}
 use Rattle.gph_world.proofs.HeldLemmas.{front_there, seen_there}
 use Rattle.gph_world.proofs.PlaceLemmas.{place_there, placed_is, same_state}
 use Rattle.gph_world.proofs.RefusalLemmas.{cause_at, cause_if, cause_not, is_query, is_shard, no_query, refusal_by}

@@ -13,12 +13,14 @@ use Rattle.world_model.specs.Refusals.{cause, cause_of, has_left, lacks_build, r
 use Rattle.world_model.specs.Sound.{KeepsShard}
 use Rattle.world_model.specs.WorldState.{Rebuild, ShardWithBuild, WorldState, with_place}
 use Rattle.world_model.specs.WorldStep.{WorldStep}
-use Rattle.gph_world.specs.Builds.{BeginsAs, PlacesRowsAs, with_draft}
+use Rattle.world_parts.specs.Builds.{BeginsAs, PlacesRowsAs, with_draft}
 use Rattle.gph_world.specs.Kept.{KeepsWorld}
-use Rattle.gph_world.specs.Seen.{build_seen, place_seen, setting_seen, state_seen}
-use Rattle.gph_world.specs.Upkeep.{build_of_place, rows_of_build, rows_of_place, rows_there, rows_unplaced}
-use Rattle.gph_world.specs.declared.held.Held.{Held}
-use Rattle.gph_world.specs.declared.place.Place.{Place}
+use Rattle.world_parts.specs.Seen.{build_seen, place_seen}
+use Rattle.gph_world.specs.Seen.{setting_seen, state_seen}
+use Rattle.world_parts.specs.Builds.{rows_of_build}
+use Rattle.gph_world.specs.Upkeep.{build_of_place, rows_of_place, rows_there, rows_unplaced}
+use Rattle.world_parts.specs.declared.held.Held.{Held}
+use Rattle.world_parts.specs.declared.place.Place.{Place}
 use Rattle.gph_world.proofs.PlaceLemmas.{place_there, placed_is, same_state}
 use Rattle.gph_world.proofs.RefusalLemmas.{cause_at, cause_if, cause_not, is_shard, refusal_by}
 

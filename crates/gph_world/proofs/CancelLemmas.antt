@@ -18,11 +18,13 @@ use Rattle.world_model.proofs.Lookups.{get_set}
 use Rattle.world_model.proofs.StepLemmas.{step_sound}
 use Rattle.world_bridge.specs.Held.{HoldsLive}
 use Rattle.world_bridge.proofs.HeldLemmas.{held_closed, held_same}
-use Rattle.gph_world.specs.Kept.{IsQueryHeld, KeepsWorld, cancelled, front_at, without_held}
-use Rattle.gph_world.specs.Seen.{given_by, query_seen, setting_seen, state_seen}
+use Rattle.world_parts.specs.Cancels.{cancelled, without_held}
+use Rattle.gph_world.specs.Kept.{IsQueryHeld, KeepsWorld, front_at}
+use Rattle.world_parts.specs.Seen.{given_by, query_seen}
+use Rattle.gph_world.specs.Seen.{setting_seen, state_seen}
 use Rattle.gph_world.specs.Worlds.{setting_of}
-use Rattle.gph_world.specs.declared.held.Held.{Held}
-use Rattle.gph_world.specs.declared.place.Place.{Place}
+use Rattle.world_parts.specs.declared.held.Held.{Held}
+use Rattle.world_parts.specs.declared.place.Place.{Place}
 use Rattle.gph_world.proofs.HeldLemmas.{front_other, front_set, front_there, seen_there}
 use Rattle.gph_world.proofs.RefusalLemmas.{cause_at, cause_if, cause_not, is_query, no_query, refusal_by}
 

@@ -17,10 +17,11 @@ use Rattle.world_model.proofs.StepLemmas.{step_sound}
 use Rattle.world_bridge.proofs.CutLemmas.{cut_appended, stored_adds}
 use Rattle.world_bridge.proofs.HeldLemmas.{held_grown}
 use Rattle.gph_world.specs.Kept.{IsQueryHeld, KeepsWorld, front_at}
-use Rattle.gph_world.specs.Seen.{query_seen, setting_seen, state_seen}
+use Rattle.world_parts.specs.Seen.{query_seen}
+use Rattle.gph_world.specs.Seen.{setting_seen, state_seen}
 use Rattle.gph_world.specs.Worlds.{setting_of}
-use Rattle.gph_world.specs.declared.held.Held.{Held}
-use Rattle.gph_world.specs.declared.place.Place.{Place}
+use Rattle.world_parts.specs.declared.held.Held.{Held}
+use Rattle.world_parts.specs.declared.place.Place.{Place}
 use Rattle.gph_world.proofs.GrownLemmas.{first_stay, held_same_prefix}
 use Rattle.gph_world.proofs.HeldLemmas.{seen_there}
 

@@ -7,8 +7,7 @@ use Rattle.hamming_model.specs.Recoded.{AreStoredEntries, cut_entry, cut_history
 use Rattle.shard_version.specs.Contents.{Contents}
 use Rattle.shard_version.specs.Prefixes.{prefix_of}
 use Rattle.version_draft.specs.Unfinished.{Unfinished}
-use Rattle.commit_journal.specs.Fronts.{FrontState, Live}
-use Rattle.commit_journal.specs.Journals.{JournalState, Opens, without_front}
+use Rattle.commit_journal.specs.Journals.{JournalState}
 use Rattle.versioned_shard.specs.Along.{version_at}
 use Rattle.repartitioner.specs.Builds.{placed_all}
 use Rattle.world_model.specs.declared.refused.Refused.{Refused}
@@ -22,23 +21,17 @@ use Rattle.world_model.specs.Sound.{IsBuild}
 use Rattle.world_model.specs.WorldState.{Rebuild, ShardWithBuild, WorldState, with_place}
 use Rattle.world_model.specs.WorldStep.{WorldStep}
 use Rattle.world_bridge.proofs.CutLemmas.{cut_twice, follows_cut}
-use Rattle.world_bridge.proofs.HeldLemmas.{live_closed_again}
-use Rattle.gph_world.specs.Builds.{ComesToEnd, FollowsAs, MayFollow, StaysBehind, with_draft}
+use Rattle.world_parts.specs.Builds.{ComesToEnd, FollowsAs, MayFollow, StaysBehind, with_draft}
 use Rattle.gph_world.specs.Kept.{KeepsWorld}
-use Rattle.gph_world.specs.Seen.{build_seen, place_seen, setting_seen, state_seen}
-use Rattle.gph_world.specs.Upkeep.{build_of_place, entries_of_build, entries_unfollowed}
-use Rattle.gph_world.specs.declared.held.Held.{Held}
-use Rattle.gph_world.specs.declared.place.Place.{Place}
+use Rattle.world_parts.specs.Seen.{build_seen, place_seen}
+use Rattle.gph_world.specs.Seen.{setting_seen, state_seen}
+use Rattle.world_parts.specs.Builds.{entries_of_build}
+use Rattle.gph_world.specs.Upkeep.{build_of_place, entries_unfollowed}
+use Rattle.world_parts.specs.declared.held.Held.{Held}
+use Rattle.world_parts.specs.declared.place.Place.{Place}
 use Rattle.gph_world.proofs.BuildLemmas.{becomes, build_is_at, found, kept_there, left_at, no_build_at, none_left_at}
 use Rattle.gph_world.proofs.PlaceLemmas.{same_state, stepped_keeps}
 use Rattle.gph_world.proofs.RefusalLemmas.{is_shard, refusal_by}
-
--- a front that was opened and closed again leaves the journal as it was
-pub closed_again : (old mid : JournalState) (session : ℕ) (front : FrontState) → Opens old mid session front → without_front mid front.id ≡ old
-closed_again old mid session front opens =
-    ap (λ (state : JournalState). without_front state front.id) opens.after
-    ∙ ap (λ (live : Live). let state : JournalState = record old { live = live } in state)
-    (live_closed_again old.live front.id (session, length old.history) opens.fresh)
 
 -- the version at a position of the history that words keep is that of the history in its codes alone
 at_cut : (bits : ℕ) (history : List JournalEntry) (from : Contents) (position : ℕ) → from.layout.bits ≡ bits

@@ -23,27 +23,17 @@ use Rattle.world_model.specs.WorldState.{WorldQuery, WorldState, answer_on, unpi
 use Rattle.world_model.proofs.GatherLemmas.{sources_answer}
 use Rattle.world_model.proofs.Lookups.{get_set}
 use Rattle.world_bridge.proofs.HeldLemmas.{held_same}
-use Rattle.gph_world.specs.Gathers.{HasSources, with_gather}
+use Rattle.world_parts.specs.Gathers.{HasSources, with_gather}
+use Rattle.world_parts.proofs.ListLemmas.{put_again}
 use Rattle.gph_world.specs.Kept.{IsGatheringHeld, IsQueryHeld, KeepsWorld, front_at}
-use Rattle.gph_world.specs.Seen.{given_by, query_seen, setting_seen, standings_held, state_seen}
-use Rattle.gph_world.specs.Sources.{QuerySource, gathering_seen, question_asked, standing_told}
-use Rattle.gph_world.specs.declared.held.Held.{Held}
-use Rattle.gph_world.specs.declared.place.Place.{Place}
+use Rattle.world_parts.specs.Seen.{given_by, query_seen, standings_held}
+use Rattle.gph_world.specs.Seen.{setting_seen, state_seen}
+use Rattle.world_parts.specs.Sources.{QuerySource, gathering_seen, question_asked, standing_told}
+use Rattle.world_parts.specs.declared.held.Held.{Held}
+use Rattle.world_parts.specs.declared.place.Place.{Place}
 use Rattle.gph_world.proofs.HeldLemmas.{front_other, front_set, front_there, seen_there}
 
 -- ---- lists
-
--- an element stands at each place within a list
-pub at_within : {A : Type 0} (xs : List A) (i : ℕ) → i < length xs → (x : A) × (slice_get xs i ≡ Some x)
-at_within [] i below = absurd (omega (arith, below))
-at_within (x ∷ xs) zero below = (x, refl)
-at_within (x ∷ xs) (suc i) below = at_within xs i (omega (arith, below))
-
--- what stands at a place put there again changes nothing
-pub put_again : {A : Type 0} (xs : List A) (i : ℕ) (x : A) → slice_get xs i ≡ Some x → slice_set xs i x ≡ xs
-put_again [] i x there = refl
-put_again {A} (y ∷ xs) zero x there = ap (λ (one : A). one ∷ xs) (sym (same_Some y x there))
-put_again {A} (y ∷ xs) (suc i) x there = ap (λ (rest : List A). y ∷ rest) (put_again xs i x there)
 
 -- the first behind so many stands at that place
 pub first_dropped : (n : ℕ) (hits : List Hit) → first_of (drop n hits) ≡ slice_get hits n

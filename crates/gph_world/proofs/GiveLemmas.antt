@@ -1,15 +1,13 @@
 -- The next hit of a query is given.
-use Rattle.std.proofs.Common.{◌≡◌, ◌⊎◌, ℕ, ◌+◌, ◌<◌, ◌≤◌, Bool, true, false, List, [], ◌∷◌, length, Option, Some, None, refl, sym, ap, subst, ◌∙◌, arith, inl, inr}
-use Rattle.std.specs.Prelude.{Ok, is_none, is_some, nat_lt, ◌&&◌, ◌||◌, slice_get, slice_index_or, slice_set}
+use Rattle.std.proofs.Common.{◌≡◌, ◌⊎◌, ℕ, ◌+◌, ◌<◌, ◌≤◌, true, false, List, length, Some, None, refl, sym, ap, subst, ◌∙◌, arith, inl, inr}
+use Rattle.std.specs.Prelude.{Ok, is_none, slice_get, slice_index_or, slice_set}
 use Rattle.std.specs.List.{list_any}
-use Rattle.std.proofs.lemmas.Bool.{both_ways, le-ltb, or_parts}
 use Rattle.std.proofs.lemmas.Option.{get_or_from_slice_get}
 use Rattle.hamming_model.specs.declared.hit.Hit.{Hit}
 use Rattle.hit_source.specs.Moves.{Pops}
-use Rattle.hit_source.specs.Sources.{Asked, IsLawful, Standing}
+use Rattle.hit_source.specs.Sources.{Asked, IsLawful}
 use Rattle.commit_journal.specs.Journals.{IsJournal, JournalState}
-use Rattle.scatter_gather.specs.Due.{any_may_have_next, is_empty, is_least, least_floor, may_have_next, some_due}
-use Rattle.scatter_gather.specs.Gathering.{Gathered, answer_of, gathered, seen, source_of, sources_of}
+use Rattle.scatter_gather.specs.Gathering.{Gathered, answer_of, gathered, source_of}
 use Rattle.scatter_gather.specs.Kept.{IsGathering}
 use Rattle.world_model.specs.declared.refused.Refused.TheVariants.{Closed, NoQuery, NotPinned}
 use Rattle.world_model.specs.declared.told.Told.{Told}
@@ -20,55 +18,18 @@ use Rattle.world_model.specs.Refusals.{refusal}
 use Rattle.world_model.specs.WorldState.{WorldQuery, WorldState, answer_on, unpinned, with_query}
 use Rattle.world_model.specs.WorldStep.{WorldStep}
 use Rattle.world_model.proofs.StepLemmas.{step_sound}
-use Rattle.gph_world.specs.Gathers.{GivesFirst, GivesHeld, HaveNoFloors, HoldsBack, TellsEnd, TellsLater, with_gather}
+use Rattle.world_parts.specs.Gathers.{GivesReadyHit, GivesHeld, HaveNoFloors, HoldsBack, TellsEnd, TellsLater, with_gather}
 use Rattle.gph_world.specs.Kept.{IsQueryHeld, KeepsWorld}
-use Rattle.gph_world.specs.Seen.{query_seen, setting_seen, standings_held, state_seen}
-use Rattle.gph_world.specs.Sources.{QuerySource, gathering_seen, question_asked, standing_told}
-use Rattle.gph_world.specs.declared.held.Held.{Held}
-use Rattle.gph_world.specs.declared.place.Place.{Place}
-use Rattle.gph_world.proofs.GatherLemmas.{HaveFewRows, all_pinned, answered, any_missing, at_within, changed_is_held, first_dropped, given_is, has_gathering}
+use Rattle.world_parts.specs.Seen.{query_seen, standings_held}
+use Rattle.gph_world.specs.Seen.{setting_seen, state_seen}
+use Rattle.world_parts.specs.Sources.{QuerySource, gathering_seen, question_asked, standing_told}
+use Rattle.world_parts.specs.declared.held.Held.{Held}
+use Rattle.world_parts.specs.declared.place.Place.{Place}
+use Rattle.world_parts.proofs.ListLemmas.{at_within}
+use Rattle.gph_world.proofs.GatherLemmas.{HaveFewRows, all_pinned, answered, any_missing, changed_is_held, first_dropped, given_is, has_gathering}
 use Rattle.gph_world.proofs.GatherLemmas.{keeps_again, none_dropped, none_missing, query_is, query_keeps, seen_at, state_again, state_changed}
 use Rattle.gph_world.proofs.HeldLemmas.{seen_there}
 use Rattle.gph_world.proofs.RefusalLemmas.{cause_at, cause_if, cause_not, is_query, no_query, refusal_by}
-
--- ---- floors
-not_some : (floor : Option ℕ) → is_some floor ≡ false → floor ≡ None
-not_some None none = refl
-not_some (Some far) none = absurd (both_ways true none refl)
-
-pub no_floors : {S : Type 0} (stands : S → Standing) (sources : List S) → list_any (λ source. is_some (stands source).floor) sources ≡ false
-    → HaveNoFloors stands sources
-no_floors stands [] none = tt
-no_floors stands (source ∷ sources) none =
-    let both = or_parts (is_some (stands source).floor) (list_any (λ one. is_some (stands one).floor) sources) none in
-    (not_some (stands source).floor both.0, no_floors stands sources both.1)
-
-pub floors_left : {S : Type 0} (stands : S → Standing) (sources : List S) → list_any (λ source. is_some (stands source).floor) sources ≡ true
-    → HaveNoFloors stands sources → ⊥
-floors_left stands [] some none = both_ways false refl some
-floors_left stands (source ∷ sources) some none = floors_left stands sources
-    (sym (ap (λ (f : Option ℕ). is_some f || list_any (λ one. is_some (stands one).floor) sources) none.0) ∙ some) none.1
-
-no_next : (waits : Bool) → (waits && false) ≡ false
-no_next true = refl
-no_next false = refl
-
-none_next : {S : Type 0} (asks : S → Asked) (stands : S → Standing) (least : Option ℕ) (sources : List S) → HaveNoFloors stands sources
-    → list_any (may_have_next least) (sources_of asks stands sources) ≡ false
-none_next asks stands least [] none = refl
-none_next asks stands least (source ∷ sources) none =
-    ap (λ (f : Option ℕ). (is_empty (stands source).waiting && is_least f least) || list_any (may_have_next least) (sources_of asks stands sources)) none.0
-    ∙ ap (λ (b : Bool). b || list_any (may_have_next least) (sources_of asks stands sources)) (no_next (is_empty (stands source).waiting))
-    ∙ none_next asks stands least sources none.1
-
-module _ {S : Type 0} (asks : S → Asked) (stands : S → Standing) (g : Gathered S) where
-  -- nothing is due where the limit is reached, and where no source has a floor
-  pub idle_at_limit : g.limit ≤ g.given → some_due (seen asks stands g) ≡ false
-  idle_at_limit past = ap (λ (b : Bool). b && any_may_have_next (sources_of asks stands g.sources)) (le-ltb g.given g.limit past)
-
-  pub idle_without_floors : HaveNoFloors stands g.sources → some_due (seen asks stands g) ≡ false
-  idle_without_floors none = ap (λ (b : Bool). nat_lt g.given g.limit && b)
-      (none_next asks stands (least_floor (sources_of asks stands g.sources)) g.sources none) ∙ no_next (nat_lt g.given g.limit)
 
 -- ---- why it may be refused
 module _ (z : Setting) (s : WorldState) (number : ℕ) where
@@ -119,7 +80,7 @@ module _ {W : ℕ} (bits room : ℕ) (journal : JournalState) (places : List (Pl
   same_answer = answered bits room journal places queries keeps number held there g gives.was whole few
 
   -- a hit was given
-  module _ (first : GivesFirst question_asked standing_told g gives.after said) where
+  module _ (first : GivesReadyHit question_asked standing_told g gives.after said) where
     found : (source : QuerySource W) × (slice_get g.sources first.shard ≡ Some source)
     found = at_within g.sources first.shard first.gives.within
 

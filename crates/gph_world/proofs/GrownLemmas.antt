@@ -9,8 +9,8 @@ use Rattle.world_model.specs.Asking.{AsksOf, IsGatheringOf, SourceAsks, most_giv
 use Rattle.world_model.specs.Events.{Setting}
 use Rattle.world_model.specs.WorldState.{WorldQuery}
 use Rattle.gph_world.specs.Kept.{IsGatheringHeld, IsQueryHeld}
-use Rattle.gph_world.specs.Seen.{query_seen}
-use Rattle.gph_world.specs.declared.held.Held.{Held}
+use Rattle.world_parts.specs.Seen.{query_seen}
+use Rattle.world_parts.specs.declared.held.Held.{Held}
 
 -- the first so many entries stay where those of a decision come behind
 pub first_stay : (history : List JournalEntry) (entry : JournalEntry) (decision : Decision) (position : ℕ) → position ≤ length history

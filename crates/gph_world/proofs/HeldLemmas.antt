@@ -1,7 +1,7 @@
 -- Queries that are kept, and the fronts that they hold.
-use Rattle.std.proofs.Common.{◌≡◌, ◌≢◌, ℕ, zero, suc, ◌<◌, ◌≤◌, List, [], ◌∷◌, ◌++◌, length, get_or, map, Option, Some, None, refl, sym, ap, ◌∙◌}
+use Rattle.std.proofs.Common.{◌≡◌, ◌≢◌, ℕ, zero, suc, ◌≤◌, List, [], ◌∷◌, ◌++◌, length, map, Option, Some, None, refl, sym, ap, ◌∙◌}
 use Rattle.std.specs.Prelude.{IfSome, option_map, slice_get, slice_set}
-use Rattle.std.proofs.lemmas.Option.{same_Some, slice_get_past, slice_get_read, slice_get-map}
+use Rattle.std.proofs.lemmas.Option.{slice_get_past, slice_get-map}
 use Rattle.commit_journal.specs.Fronts.{FrontState, StandsAt, position_of, positions_of}
 use Rattle.commit_journal.specs.Journals.{IsLive, JournalState}
 use Rattle.hamming_model.specs.Recoded.{cut_history}
@@ -10,9 +10,10 @@ use Rattle.world_model.proofs.Lookups.{get_other, get_same}
 use Rattle.world_bridge.specs.Held.{positions_held}
 use Rattle.world_bridge.proofs.HeldLemmas.{positions_same}
 use Rattle.gph_world.specs.Kept.{IsQueryHeld, KeepsWorld, front_at}
-use Rattle.gph_world.specs.Seen.{query_seen, setting_seen}
-use Rattle.gph_world.specs.declared.held.Held.{Held}
-use Rattle.gph_world.specs.declared.place.Place.{Place}
+use Rattle.world_parts.specs.Seen.{query_seen}
+use Rattle.gph_world.specs.Seen.{setting_seen}
+use Rattle.world_parts.specs.declared.held.Held.{Held}
+use Rattle.world_parts.specs.declared.place.Place.{Place}
 
 -- the front of a query, if there is the query
 abbrev pub front_in : {W : ℕ} → Option (Held W) → Option FrontState
@@ -32,14 +33,6 @@ get_apart (x ∷ xs) y (suc i) apart = get_apart xs y i (λ e. apart (ap suc e))
 pub get_last : {A : Type 0} (xs : List A) (y : A) → slice_get (xs ++ y ∷ []) (length xs) ≡ Some y
 get_last [] y = refl
 get_last (x ∷ xs) y = get_last xs y
-
--- what an index finds stands there
-pub found_there : {A : Type 0} (xs : List A) (i : ℕ) (x : A) → i < length xs → x ≡ get_or xs i x → slice_get xs i ≡ Some x
-found_there xs i x below at = slice_get_read xs (length xs) i x refl below at
-
--- two look-ups at one place find the same
-pub two_found : {A : Type 0} (xs : List A) (i : ℕ) (x y : A) → i < length xs → x ≡ get_or xs i x → y ≡ get_or xs i y → x ≡ y
-two_found xs i x y below first second = same_Some x y (sym (found_there xs i x below first) ∙ found_there xs i y below second)
 
 -- ---- fronts that queries hold
 module _ {W : ℕ} (queries : List (Held W)) where

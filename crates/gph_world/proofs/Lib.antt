@@ -3,6 +3,7 @@ pub mod BuildLemmas
 pub mod CancelLemmas
 pub mod CommitLemmas
 pub mod FollowLemmas
+pub mod FoundLemmas
 pub mod GatherLemmas
 pub mod GiveLemmas
 pub mod GrownLemmas
@@ -14,7 +15,5 @@ pub mod PlaceLemmas
 pub mod PollLemmas
 pub mod RefusalLemmas
 pub mod RunLemmas
-pub mod SourceLemmas
 pub mod StartLemmas
 pub mod SwapLemmas
-pub mod SameHeld

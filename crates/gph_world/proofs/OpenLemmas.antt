@@ -24,13 +24,14 @@ use Rattle.world_model.specs.WorldStep.{WorldStep}
 use Rattle.world_model.proofs.Lookups.{get_snoc, none_there}
 use Rattle.world_model.proofs.StepLemmas.{step_sound}
 use Rattle.world_bridge.proofs.HeldLemmas.{held_opened}
-use Rattle.gph_world.specs.Asks.{IsStoredAsk, ask_seen}
+use Rattle.world_parts.specs.Asks.{IsStoredAsk, ask_seen}
 use Rattle.gph_world.specs.Kept.{IsQueryHeld, KeepsWorld, front_at}
-use Rattle.gph_world.specs.Seen.{layout_pinned, query_seen, setting_seen, state_seen}
+use Rattle.world_parts.specs.Seen.{layout_pinned, query_seen}
+use Rattle.gph_world.specs.Seen.{setting_seen, state_seen}
 use Rattle.gph_world.specs.Worlds.{setting_of}
-use Rattle.gph_world.specs.declared.ask.Ask.{Ask}
-use Rattle.gph_world.specs.declared.held.Held.{Held}
-use Rattle.gph_world.specs.declared.place.Place.{Place}
+use Rattle.world_parts.specs.declared.ask.Ask.{Ask}
+use Rattle.world_parts.specs.declared.held.Held.{Held}
+use Rattle.world_parts.specs.declared.place.Place.{Place}
 use Rattle.gph_world.proofs.HeldLemmas.{front_apart, front_last, front_past, stands_live, stands_open}
 use Rattle.gph_world.proofs.RefusalLemmas.{cause_if, cause_not}
 
@@ -100,8 +101,8 @@ module _ {W : ℕ} (bits room : ℕ) (old new : JournalState) (places : List (Pl
         pinned = pinned;
       } in q) (ap (map layout_pinned) pins_are ∙ none_pinned (length places))
       ∙ ap (λ (g : Option _). let q : WorldQuery = record (fresh_query z (ask_seen bits ask) (length s.history) front.older) {
-        sources = Rattle.gph_world.specs.Seen.standings_held g;
-        given = Rattle.gph_world.specs.Seen.given_by g;
+        sources = Rattle.world_parts.specs.Seen.standings_held g;
+        given = Rattle.world_parts.specs.Seen.given_by g;
         cancelled = held.cancelled;
       } in q) gather_is
       ∙ ap (λ (b : Bool). let q : WorldQuery = record (fresh_query z (ask_seen bits ask) (length s.history) front.older) { cancelled = b } in q) goes_on

@@ -1,49 +1,45 @@
 -- A shard is pinned.
-use Rattle.std.proofs.Common.{◌≡◌, ◌≢◌, ◌⊎◌, ℕ, zero, suc, ◌+◌, ◌-◌, ◌<◌, ◌≤◌, true, false, List, [], ◌∷◌, length, filter, get_or, map, Option, Some, None, refl, sym, ap, subst, ◌∙◌, arith, inl, inr}
-use Rattle.std.specs.Prelude.{Err, Ok, IfSome, is_none, is_some, nat_le, nat_lt, option_map, slice_get, slice_index_or, slice_set}
+use Rattle.std.proofs.Common.{◌≡◌, ◌⊎◌, ℕ, suc, ◌<◌, ◌≤◌, true, false, List, [], ◌∷◌, length, filter, get_or, map, Option, Some, None, refl, sym, ap, subst, ◌∙◌, arith, inl, inr}
+use Rattle.std.specs.Prelude.{Err, Ok, is_none, is_some, nat_le, option_map, slice_get, slice_set}
 use Rattle.std.specs.declared.alloc.Global.{Global}
 use Rattle.std.specs.declared.sync.Arc.{Arc}
 use Rattle.std.proofs.lemmas.Bool.{both_ways}
-use Rattle.std.proofs.lemmas.List.{length-map, length-set, map-set}
-use Rattle.std.proofs.lemmas.Option.{get_or_from_slice_get, none-some, same_Some, slice_get-map, slice_get_within}
-use Rattle.hamming_model.specs.History.{JournalEntry, rows_of, shard_rows}
+use Rattle.std.proofs.lemmas.List.{length-map}
+use Rattle.std.proofs.lemmas.Option.{same_Some, slice_get-map}
 use Rattle.hamming_model.specs.Recoded.{cut_history}
-use Rattle.hamming_model.specs.Shards.{AreShardNumbers}
 use Rattle.hamming_model.specs.declared.limits.TheConstants.{SHARDS_MOST}
-use Rattle.hamming_model.proofs.ShardLemmas.{numbers_add_up}
 use Rattle.part_layout.specs.Laid.{Laid}
-use Rattle.shard_version.specs.Contents.{Contents}
 use Rattle.shard_version.specs.Tables.{Tabled}
 use Rattle.commit_journal.specs.Fronts.{FrontState, position_of}
 use Rattle.commit_journal.specs.Journals.{JournalState}
 use Rattle.versioned_shard.specs.Shards.{HasVersion, IsOneOf, advanced, contents_at}
 use Rattle.world_model.specs.declared.refused.Refused.TheVariants.{Closed, NoMemory, NoQuery, NoShard}
 use Rattle.world_model.specs.declared.told.Told.TheVariants as told
-use Rattle.world_model.specs.Events.{Advance, IsLayoutFor, IsQuestion, Pin, Setting}
-use Rattle.world_model.specs.QuerySteps.{Pins, with_pin}
+use Rattle.world_model.specs.Events.{IsLayoutFor, IsQuestion, Pin, Setting}
 use Rattle.world_model.specs.Refusals.{cause, refusal}
 use Rattle.world_model.specs.ShardSteps.{Advances}
 use Rattle.world_model.specs.Sound.{IsQuery, IsSound}
-use Rattle.world_model.specs.WorldState.{WorldQuery, WorldState, front_on, pinned_version, unpinned, with_query}
-use Rattle.world_model.specs.WorldStep.{OnlyAdvances, WorldStep}
+use Rattle.world_model.specs.WorldState.{WorldQuery, WorldState, pinned_version, unpinned}
+use Rattle.world_model.specs.WorldStep.{WorldStep}
 use Rattle.world_model.proofs.Lookups.{get_same, get_set, some_missing}
 use Rattle.world_model.proofs.PinLemmas.{front_has_version, pin_not_refused, version_has_rows}
 use Rattle.world_model.proofs.PlaceLemmas.{one_is_laid}
 use Rattle.world_model.proofs.StepLemmas.{step_sound}
-use Rattle.gph_world.specs.Asks.{IsStoredAsk, ask_seen}
-use Rattle.gph_world.specs.Calls.{come_to}
-use Rattle.gph_world.specs.Kept.{IsQueryHeld, KeepsWorld}
-use Rattle.gph_world.specs.Pinned.{MayOpen, MayOpenEach, missing, pinned_with, rows_pinned}
-use Rattle.gph_world.specs.Pinned as pinned
-use Rattle.gph_world.specs.Seen.{layout_pinned, place_seen, query_seen, setting_seen, state_seen}
-use Rattle.gph_world.specs.declared.held.Held.{Held}
-use Rattle.gph_world.specs.declared.place.Place.{Place}
-use Rattle.gph_world.proofs.AdvanceLemmas.{advance_ok, came, comes, may_come}
+use Rattle.world_parts.specs.Asks.{IsStoredAsk, ask_seen}
+use Rattle.world_parts.specs.Calls.{come_to}
+use Rattle.gph_world.specs.Kept.{KeepsWorld}
+use Rattle.world_parts.specs.Pinned.{MayOpen, MayOpenEach, missing, pinned_with, rows_pinned}
+use Rattle.world_parts.specs.Pinned as pinned
+use Rattle.world_parts.specs.Seen.{layout_pinned, place_seen, query_seen}
+use Rattle.gph_world.specs.Seen.{setting_seen, state_seen}
+use Rattle.world_parts.specs.declared.held.Held.{Held}
+use Rattle.world_parts.specs.declared.place.Place.{Place}
+use Rattle.gph_world.proofs.AdvanceLemmas.{came, comes}
 use Rattle.gph_world.proofs.GatherLemmas.{query_is}
-use Rattle.gph_world.proofs.HeldLemmas.{found_there, seen_there}
+use Rattle.world_parts.proofs.ListLemmas.{found_there}
+use Rattle.gph_world.proofs.HeldLemmas.{seen_there}
 use Rattle.gph_world.proofs.PlaceLemmas.{place_there, same_state, stepped_keeps}
 use Rattle.gph_world.proofs.RefusalLemmas.{cause_at, cause_if, is_shard, is_query, no_query, refusal_by}
-use Rattle.gph_world.proofs.SourceLemmas.{pin_there}
 
 -- ---- why it may be refused
 module _ (z : Setting) (s : WorldState) (number shard : ℕ) where
@@ -213,7 +209,7 @@ module _ {W : ℕ} (bits room : ℕ) (journal : JournalState) (places : List (Pl
         abbrev layout : Laid
         layout = (contents_at version).layout
 
-        abbrev pins : pinned.Pins
+        abbrev pins : pinned.VersionPins
         pins = pinned_with held.pins.items shard version
 
         own_rows : contents_at version ≡ pinned_version z s.history query shard layout

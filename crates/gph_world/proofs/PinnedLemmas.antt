@@ -1,5 +1,5 @@
 -- A version was pinned, and with the last one the sources begin.
-use Rattle.std.proofs.Common.{◌≡◌, ◌⊎◌, ℕ, ◌+◌, ◌<◌, ◌≤◌, true, false, List, [], ◌∷◌, length, filter, map, take, Option, Some, None, refl, sym, ap, subst, ◌∙◌, arith, inl, inr}
+use Rattle.std.proofs.Common.{◌≡◌, ◌⊎◌, ℕ, List, [], length, filter, map, take, Option, Some, None, refl, sym, ap, subst, ◌∙◌, arith, inl, inr}
 use Rattle.std.specs.Prelude.{Err, Ok, is_none, nat_lt, option_map, slice_get, slice_set}
 use Rattle.std.specs.List.{sum_by}
 use Rattle.std.specs.declared.alloc.Global.{Global}
@@ -17,7 +17,7 @@ use Rattle.shard_version.specs.Contents.{Contents}
 use Rattle.shard_version.specs.Tables.{Tabled}
 use Rattle.hit_source.specs.Sources.{Asked, Standing}
 use Rattle.commit_journal.specs.Fronts.{FrontState}
-use Rattle.commit_journal.specs.Journals.{JournalState, KeepsFronts, without_front}
+use Rattle.commit_journal.specs.Journals.{JournalState, KeepsFronts}
 use Rattle.versioned_shard.specs.Shards.{contents_at}
 use Rattle.scatter_gather.specs.Gathering.{Gathered, Source, source_of, sources_of}
 use Rattle.scatter_gather.proofs.KeepLemmas.{map_seen}
@@ -25,29 +25,32 @@ use Rattle.world_model.specs.declared.refused.Refused.TheVariants.{NoMemory}
 use Rattle.world_model.specs.declared.told.Told.TheVariants as told
 use Rattle.world_model.specs.Asking.{AsksOf, BeginsSource, IsGatheringOf, SourceAsks, most_given}
 use Rattle.world_model.specs.Events.{Pin, Setting}
-use Rattle.world_model.specs.QuerySteps.{AreSourcesBegun, Completes, Pins, PinsAtFront, with_pin}
+use Rattle.world_model.specs.QuerySteps.{AreSourcesBegun, Completes, with_pin}
 use Rattle.world_model.specs.Sound.{IsQuery, IsSound}
 use Rattle.world_model.specs.WorldState.{WorldQuery, WorldState, pinned_version, unpinned, with_query}
 use Rattle.world_model.specs.WorldStep.{WorldStep}
-use Rattle.world_model.proofs.Lookups.{get_set, some_missing}
+use Rattle.world_model.proofs.Lookups.{get_set}
 use Rattle.world_model.proofs.StepLemmas.{step_sound}
 use Rattle.world_bridge.specs.Held.{HoldsLive}
 use Rattle.world_bridge.proofs.HeldLemmas.{held_closed}
-use Rattle.gph_world.specs.Asks.{ask_seen}
-use Rattle.gph_world.specs.Kept.{IsGatheringHeld, IsQueryHeld, KeepsWorld, front_at, without_held}
-use Rattle.gph_world.specs.Pinned.{IsOpened, PinsLast, PinsMore, missing, pinned_with, rows_pinned}
-use Rattle.gph_world.specs.Pinned as pinned
-use Rattle.gph_world.specs.Seen.{given_by, layout_pinned, place_seen, query_seen, setting_seen, state_seen}
-use Rattle.gph_world.specs.Sources.{QuerySource, gathering_seen, question_asked, standing_told}
+use Rattle.world_parts.specs.Asks.{ask_seen}
+use Rattle.world_parts.specs.Cancels.{without_held}
+use Rattle.gph_world.specs.Kept.{IsGatheringHeld, IsQueryHeld, KeepsWorld, front_at}
+use Rattle.world_parts.specs.Pinned.{IsOpened, PinsLast, PinsOneMore, missing, pinned_with, rows_pinned}
+use Rattle.world_parts.specs.Pinned as pinned
+use Rattle.world_parts.specs.Seen.{given_by, layout_pinned, place_seen, query_seen}
+use Rattle.gph_world.specs.Seen.{setting_seen, state_seen}
+use Rattle.world_parts.specs.Sources.{QuerySource, gathering_seen, question_asked, standing_told}
 use Rattle.gph_world.specs.Worlds.{setting_of}
-use Rattle.gph_world.specs.declared.held.Held.{Held}
-use Rattle.gph_world.specs.declared.place.Place.{Place}
+use Rattle.world_parts.specs.declared.held.Held.{Held}
+use Rattle.world_parts.specs.declared.place.Place.{Place}
 use Rattle.gph_world.proofs.CancelLemmas.{same_history, same_limit}
-use Rattle.gph_world.proofs.GatherLemmas.{all_pinned, put_again, query_is, query_keeps}
+use Rattle.world_parts.proofs.ListLemmas.{put_again}
+use Rattle.gph_world.proofs.GatherLemmas.{all_pinned, query_is, query_keeps}
 use Rattle.gph_world.proofs.HeldLemmas.{front_other, front_set, front_there, seen_there}
 use Rattle.gph_world.proofs.PinLemmas.{HasCome, may_pin, missing_seen, not_pinned, pins_are, some_left}
 use Rattle.gph_world.proofs.PlaceLemmas.{setting_stays}
-use Rattle.gph_world.proofs.SourceLemmas.{pin_there}
+use Rattle.world_parts.proofs.SourceLemmas.{pin_there}
 
 module _ {W : ℕ} (bits room : ℕ) (journal : JournalState) (places : List (Place W)) (queries : List (Held W))
     (keeps : KeepsWorld bits room journal places queries) (number : ℕ) (held : Held W) (there : slice_get queries number ≡ Some held)
@@ -71,7 +74,7 @@ module _ {W : ℕ} (bits room : ℕ) (journal : JournalState) (places : List (Pl
   abbrev layout : Laid
   layout = (contents_at version).layout
 
-  abbrev pins : pinned.Pins
+  abbrev pins : pinned.VersionPins
   pins = pinned_with held.pins.items shard version
 
   abbrev pinned_query : WorldQuery
@@ -104,7 +107,7 @@ module _ {W : ℕ} (bits room : ℕ) (journal : JournalState) (places : List (Pl
 
     pins_held : (k : ℕ) (pin : Arc Tabled Global) → slice_get after.pins.items k ≡ Some (Some pin)
         → contents_at pin ≡ pinned_version z s.history query k (contents_at pin).layout
-    pins_held k pin at = come.each_pinned k pin (subst (λ (all : pinned.Pins). slice_get all k ≡ Some (Some pin)) pinned_is at)
+    pins_held k pin at = come.each_pinned k pin (subst (λ (all : pinned.VersionPins). slice_get all k ≡ Some (Some pin)) pinned_is at)
 
     -- what the pin does, where the query after it is known
     pinned_step : Completes z s.history pinned_query (query_seen bits after) → t ≡ with_query mid number (query_seen bits after)
@@ -130,7 +133,7 @@ module _ {W : ℕ} (bits room : ℕ) (journal : JournalState) (places : List (Pl
     )
 
   -- ---- some shard isn't pinned
-  module _ (more : PinsMore journal to held after shard version) where
+  module _ (more : PinsOneMore journal to held after shard version) where
     query_more : query_seen bits after ≡ pinned_query
     query_more = ap (query_seen bits) more.rest
         ∙ ap (λ (all : List (Option Laid)). let q : WorldQuery = record query { pinned = all } in q) (layouts_are more.pins)
@@ -384,7 +387,7 @@ module _ {W : ℕ} (bits room : ℕ) (journal : JournalState) (places : List (Pl
 
   -- ---- either way
   abbrev Pinned : Type 0
-  Pinned = PinsMore journal to held after shard version ⊎ PinsLast room journal to held after shard (sum_by rows_pinned pins) version
+  Pinned = PinsOneMore journal to held after shard version ⊎ PinsLast room journal to held after shard (sum_by rows_pinned pins) version
 
   pub pin_setting : Pinned → setting_seen bits room to (slice_set places shard new) ≡ z
   pin_setting how = elim how [ inl more ↦ more_setting more | inr last ↦ setting_last last ]

@@ -13,10 +13,11 @@ use Rattle.world_model.specs.WorldState.{ShardWithBuild, WorldState, with_place}
 use Rattle.world_model.specs.WorldStep.{WorldStep}
 use Rattle.world_model.proofs.StepLemmas.{step_sound}
 use Rattle.gph_world.specs.Kept.{IsQueryHeld, KeepsWorld}
-use Rattle.gph_world.specs.Seen.{place_seen, setting_seen, state_seen}
+use Rattle.world_parts.specs.Seen.{place_seen}
+use Rattle.gph_world.specs.Seen.{setting_seen, state_seen}
 use Rattle.gph_world.specs.Worlds.{setting_of}
-use Rattle.gph_world.specs.declared.held.Held.{Held}
-use Rattle.gph_world.specs.declared.place.Place.{Place}
+use Rattle.world_parts.specs.declared.held.Held.{Held}
+use Rattle.world_parts.specs.declared.place.Place.{Place}
 
 -- a shard as it is seen
 pub place_there : {W : ℕ} (places : List (Place W)) (shard : ℕ) (place : Place W) → slice_get places shard ≡ Some place

@@ -33,14 +33,16 @@ use Rattle.world_model.specs.WorldStep.{WorldStep}
 use Rattle.world_model.proofs.LedgerLemmas.{step_reads}
 use Rattle.world_model.proofs.Lookups.{get_same}
 use Rattle.world_model.proofs.StepLemmas.{stands_there, step_sound}
-use Rattle.gph_world.specs.Gathers.{PollsDue, PollsHeld, PollsNone, with_gather}
+use Rattle.world_parts.specs.Gathers.{PollsDue, PollsHeld, PollsNone, with_gather}
 use Rattle.gph_world.specs.Kept.{IsQueryHeld, KeepsWorld}
 use Rattle.gph_world.specs.Rising.{RiseByReads}
-use Rattle.gph_world.specs.Seen.{query_seen, setting_seen, state_seen}
-use Rattle.gph_world.specs.Sources.{QuerySource, gathering_seen, question_asked, standing_told}
-use Rattle.gph_world.specs.declared.held.Held.{Held}
-use Rattle.gph_world.specs.declared.place.Place.{Place}
-use Rattle.gph_world.proofs.GatherLemmas.{HaveFewRows, all_pinned, answered, any_missing, at_within, changed_is_held, first_dropped, given_is, has_gathering}
+use Rattle.world_parts.specs.Seen.{query_seen}
+use Rattle.gph_world.specs.Seen.{setting_seen, state_seen}
+use Rattle.world_parts.specs.Sources.{QuerySource, gathering_seen, question_asked, standing_told}
+use Rattle.world_parts.specs.declared.held.Held.{Held}
+use Rattle.world_parts.specs.declared.place.Place.{Place}
+use Rattle.world_parts.proofs.ListLemmas.{at_within}
+use Rattle.gph_world.proofs.GatherLemmas.{HaveFewRows, all_pinned, answered, any_missing, changed_is_held, first_dropped, given_is, has_gathering}
 use Rattle.gph_world.proofs.GatherLemmas.{keeps_again, none_dropped, none_missing, number_is, query_keeps, seen_at, state_again, state_changed}
 use Rattle.gph_world.proofs.HeldLemmas.{seen_there}
 use Rattle.gph_world.proofs.RefusalLemmas.{cause_at, cause_if, cause_not, is_query, is_shard, no_query, refusal_by}

@@ -15,10 +15,11 @@ use Rattle.world_model.specs.Sound.{IsBuild, KeepsShard}
 use Rattle.world_model.specs.WorldState.{Rebuild, ShardWithBuild, WorldState, live_fronts}
 use Rattle.world_model.specs.WorldStep.{WorldStep}
 use Rattle.gph_world.specs.Kept.{KeepsWorld}
-use Rattle.gph_world.specs.Seen.{build_seen, place_seen, setting_seen, state_seen}
-use Rattle.gph_world.specs.Swaps.{KeepsLayout, MayBeSwapped, TakesLayoutAs, swapped_in}
-use Rattle.gph_world.specs.declared.held.Held.{Held}
-use Rattle.gph_world.specs.declared.place.Place.{Place}
+use Rattle.world_parts.specs.Seen.{build_seen, place_seen}
+use Rattle.gph_world.specs.Seen.{setting_seen, state_seen}
+use Rattle.world_parts.specs.Swaps.{KeepsLayout, MayBeSwapped, TakesLayoutAs, swapped_in}
+use Rattle.world_parts.specs.declared.held.Held.{Held}
+use Rattle.world_parts.specs.declared.place.Place.{Place}
 use Rattle.gph_world.proofs.BuildLemmas.{becomes, build_is_at, found, kept_there, left_at, no_build_at, none_left_at}
 use Rattle.gph_world.proofs.PlaceLemmas.{same_state}
 use Rattle.gph_world.proofs.RefusalLemmas.{cause_at, cause_if, cause_not, is_shard, refusal_by}

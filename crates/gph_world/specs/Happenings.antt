@@ -1,11 +1,11 @@
 -- The program's events in the definitions' words.
-use Rattle.std.specs.Prelude.{◌≡◌, ℕ, ◌≤◌, List, map}
+use Rattle.std.specs.Prelude.{ℕ, List, map}
 use Rattle.std.specs.Arc.{arc_value}
 use Rattle.entry_log.specs.Entries.{kept_operation, operation_of}
 use Rattle.hamming_model.specs.Recoded.{IsStoredOperation}
 use Rattle.world_model.specs.Events as world
 use Rattle.world_model.specs.Events.{IsFormed, Setting}
-use Rattle.gph_world.specs.Asks.{IsStoredAsk, ask_seen}
+use Rattle.world_parts.specs.Asks.{IsStoredAsk, ask_seen}
 use Rattle.gph_world.specs.declared.event.Event.{Event}
 use Rattle.gph_world.specs.declared.event.Event.TheVariants as event
 

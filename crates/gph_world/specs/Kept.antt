@@ -1,27 +1,27 @@
 -- How a world is kept. No public clause cites this module.
-use Rattle.std.specs.Prelude.{◌≡◌, ℕ, ◌*◌, ◌≤◌, true, List, length, map, Option, Some, None, slice_get}
+use Rattle.std.specs.Prelude.{◌≡◌, ℕ, ◌*◌, ◌≤◌, List, length, Option, Some, None, slice_get}
 use Rattle.std.specs.declared.alloc.Global.{Global}
 use Rattle.std.specs.declared.sync.Arc.{Arc}
 use Rattle.hamming_model.specs.History.{JournalEntry}
 use Rattle.hamming_model.specs.Recoded.{AreStoredEntries, cut_history}
 use Rattle.hamming_model.specs.declared.limits.TheConstants.{ROOM_MOST, SHARDS_MOST, WORDS_MOST}
-use Rattle.part_layout.specs.Laid.{Laid}
 use Rattle.shard_version.specs.Tables.{Tabled}
 use Rattle.commit_journal.specs.Fronts.{FrontState, position_of}
-use Rattle.commit_journal.specs.Journals.{JournalState, without_front}
+use Rattle.commit_journal.specs.Journals.{JournalState}
 use Rattle.versioned_shard.specs.Shards.{contents_at}
 use Rattle.scatter_gather.specs.Gathering.{Gathered}
 use Rattle.scatter_gather.specs.Kept.{IsGathering}
 use Rattle.world_model.specs.Asking.{IsGatheringOf}
 use Rattle.world_model.specs.Events.{Setting}
 use Rattle.world_model.specs.Sound.{IsSound}
-use Rattle.world_model.specs.WorldState.{empty_places, pinned_version}
+use Rattle.world_model.specs.WorldState.{pinned_version}
 use Rattle.world_bridge.specs.Held.{HoldsLive}
-use Rattle.gph_world.specs.Asks.{IsStoredAsk}
-use Rattle.gph_world.specs.Seen.{query_seen, place_seen, setting_seen, state_seen}
-use Rattle.gph_world.specs.Sources.{QuerySource, gathering_seen}
-use Rattle.gph_world.specs.declared.held.Held.{Held}
-use Rattle.gph_world.specs.declared.place.Place.{Place}
+use Rattle.world_parts.specs.Asks.{IsStoredAsk}
+use Rattle.world_parts.specs.Seen.{query_seen}
+use Rattle.gph_world.specs.Seen.{setting_seen, state_seen}
+use Rattle.world_parts.specs.Sources.{QuerySource, gathering_seen}
+use Rattle.world_parts.specs.declared.held.Held.{Held}
+use Rattle.world_parts.specs.declared.place.Place.{Place}
 
 -- the front of the query of a number, while it is open
 abbrev pub front_at : {W : ℕ} → List (Held W) → ℕ → Option FrontState
@@ -64,20 +64,3 @@ pub record KeepsWorld {W : ℕ} (bits room : ℕ) (journal : JournalState) (plac
   pub live : HoldsLive journal (front_at queries)
   pub held : (number : ℕ) (held : Held W) → slice_get queries number ≡ Some held
       → IsQueryHeld (setting_seen bits room journal places) (cut_history bits journal.history) held
-
--- ---- what private calls do
-
--- a query whose front is closed and that is cancelled
-abbrev pub cancelled : {W : ℕ} → Held W → Held W
-cancelled held = record held { front = None; cancelled = true }
-
--- the journal without a query's front, if that was open
-abbrev pub without_held : JournalState → Option FrontState → JournalState
-without_held journal None = journal
-without_held journal (Some front) = without_front journal front.id
-
--- the first so many shards are seen as those before the first entry
-pub record ArePlacesBegun {W : ℕ} (shards : ℕ) (layout : Laid) (places : List (Place W))
-    (number : ℕ) : Type 0 where
-  pub are : (z : Setting) → z.shards ≡ shards
-      → map place_seen places ≡ empty_places z layout 0 number

@@ -1,15 +1,9 @@
-pub mod Asks
 pub mod Behind
-pub mod Builds
-pub mod Calls
 pub mod Codes
-pub mod Gathers
 pub mod Happenings
 pub mod Kept
-pub mod Pinned
 pub mod Rising
 pub mod Seen
-pub mod Sources
-pub mod Swaps
 pub mod Upkeep
 pub mod Worlds
+pub use Rattle.world_parts.specs.Asks

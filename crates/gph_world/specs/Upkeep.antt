@@ -1,7 +1,8 @@
 -- How many steps of upkeep an event may take.
-use Rattle.std.specs.Prelude.{ℕ, ◌-◌, length, min, Option, Some, None, slice_get}
+use Rattle.std.specs.Prelude.{ℕ, length, min, Option, Some, None, slice_get}
 use Rattle.world_model.specs.Events.{Event, Advance, Pin, BuildStart, BuildStep, Follow}
 use Rattle.world_model.specs.WorldState.{Rebuild, ShardWithBuild, WorldState}
+use Rattle.world_parts.specs.Builds.{entries_of_build, rows_of_build}
 use Rattle.gph_world.specs.Behind.{entries_behind}
 
 -- how many rows there are on a shard
@@ -18,19 +19,9 @@ abbrev pub build_of_place : Option ShardWithBuild → Option Rebuild
 build_of_place None = None
 build_of_place (Some place) = place.build
 
--- how many rows of a build aren't placed
-abbrev pub rows_of_build : Option Rebuild → ℕ
-rows_of_build None = 0
-rows_of_build (Some build) = build.left
-
 -- how many rows of the build of a shard aren't placed
 abbrev pub rows_unplaced : WorldState → ℕ → ℕ
 rows_unplaced state shard = rows_of_build (build_of_place (slice_get state.places shard))
-
--- how many of so many entries a build hasn't taken in
-abbrev pub entries_of_build : ℕ → Option Rebuild → ℕ
-entries_of_build entries None = 0
-entries_of_build entries (Some build) = entries - build.version.at
 
 -- how many entries the build of a shard is behind the end of the history
 abbrev pub entries_unfollowed : WorldState → ℕ → ℕ

@@ -1,23 +1,17 @@
 //! Builds of shards in another layout.
 
-ghost use Rattle.std.specs.Prelude.{◌≡◌, ◌+◌, ◌≤◌, length, min, option_map};
+ghost use Rattle.std.specs.Prelude.{◌≡◌, ◌+◌, ◌≤◌, min};
 ghost use Rattle.std.specs.Arc.{arc_value};
-ghost use Rattle.hamming_model.specs.declared.limits.TheConstants.{WORDS_MOST};
-ghost use Rattle.part_layout.specs.Laid.{IsLaid};
 ghost use Rattle.world_model.specs.Events.{BuildStart, BuildStep, IsLayoutFor};
 ghost use Rattle.world_model.specs.WorldStep.{WorldStep};
-ghost use Rattle.gph_world.specs.Builds.{BeginsAs, PlacesRowsAs};
-ghost use Rattle.gph_world.specs.Seen.{build_seen};
-ghost use Rattle.gph_world.specs.Upkeep.{rows_of_build, rows_there, rows_unplaced};
+ghost use Rattle.gph_world.specs.Upkeep.{rows_there, rows_unplaced};
 
-use crate::place::Place;
 use crate::world::World;
 use part_layout::Layout;
 use read_meter::Steps;
-use repartitioner::Build;
-use std::alloc::Global;
 use std::sync::Arc;
 use world_model::{Refused, Told};
+use world_parts::{begin_build, place_rows};
 
 impl<const W: usize> World<W> {
     /// Begins a build of a shard in another layout: reads each of its rows, for one step, and tells how many are to be placed.
@@ -66,46 +60,4 @@ impl<const W: usize> World<W> {
         }
         place_rows(&mut self.places[number], rows, steps)
     }
-}
-
-// Begins a build of a shard in a layout, where none goes on.
-fn begin_build<const W: usize, M>(
-    alloc: Global,
-    place: &mut Place<W>,
-    layout: Arc<Layout>,
-    steps: &mut Steps<M>,
-) -> Result<Told, Refused>
-    requires few_words { W ≤ WORDS_MOST }
-    requires laid { IsLaid (arc_value layout) }
-    requires bits { (arc_value layout).bits ≡ place.old.shard.current.layout.bits }
-    ensures begins { BeginsAs (arc_value layout) place.old place.new result }
-    ensures bound { steps.new ≤ steps.old + length place.old.shard.current.rows }
-{
-    if place.build.is_some() {
-        return Err(Refused::Building);
-    }
-    let Ok(build) = Build::start(alloc, place.shard.current(), layout, steps) else {
-        return Err(Refused::NoMemory);
-    };
-    let left = build.left();
-    place.build = Some(build);
-    Ok(Told::Built { left })
-}
-
-// Places rows of the build, if one goes on.
-fn place_rows<const W: usize, M>(
-    place: &mut Place<W>,
-    rows: u32,
-    steps: &mut Steps<M>,
-) -> Result<Told, Refused>
-    ensures places { PlacesRowsAs rows place.old place.new result }
-    ensures steps { steps.new ≡ steps.old
-        + min rows (rows_of_build (option_map build_seen place.old.build)) }
-{
-    let Some(build) = &mut place.build else {
-        return Err(Refused::NoBuild);
-    };
-    let _state = build.step(rows, steps);
-    let left = build.left();
-    Ok(Told::Built { left })
 }

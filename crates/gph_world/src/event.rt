@@ -1,9 +1,9 @@
 //! What may happen to a world.
 
-use crate::ask::Ask;
 use entry_log::Op;
 use part_layout::Layout;
 use std::sync::Arc;
+use world_parts::Ask;
 
 /// An event: one atomic step of a world. Queries are numbered from 0 in order of opening, shards from 0; of both any number may be
 /// named.

@@ -3,25 +3,20 @@
 #![tactic(auto)]
 
 mod advancing;
-mod ask;
 mod building;
 mod cancelling;
 mod commits;
 mod event;
 mod following;
 mod giving;
-mod held;
 mod opening;
 mod pinning;
-mod place;
 mod polling;
-mod sources;
 mod starting;
 mod stepping;
 mod swapping;
 mod world;
 
-pub use ask::Ask;
 pub use event::Event;
-pub use held::Source;
 pub use world::World;
+pub use world_parts::{Ask, Source};

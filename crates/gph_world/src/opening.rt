@@ -1,18 +1,13 @@
 //! Openings of queries.
 
-ghost use Rattle.std.specs.Prelude.{◌≡◌, replicate, IfOk, None};
+ghost use Rattle.std.specs.Prelude.{◌≡◌};
 ghost use Rattle.world_model.specs.Events.{IsQuestion, Open};
 ghost use Rattle.world_model.specs.WorldStep.{WorldStep};
-ghost use Rattle.gph_world.specs.Asks.{IsStoredAsk, ask_seen};
+ghost use Rattle.world_parts.specs.Asks.{IsStoredAsk, ask_seen};
 
-use crate::ask::Ask;
-use crate::held::Held;
 use crate::world::World;
-use read_meter::NoMemory;
-use shard_version::Version;
-use std::alloc::Global;
-use std::sync::Arc;
 use world_model::{Refused, Told};
+use world_parts::{Ask, new_held, no_pins};
 
 /// The most queries of a world.
 pub const OPENED_MOST: usize = 65536;
@@ -44,16 +39,8 @@ impl<const W: usize> World<W> {
             return Err(Refused::NoMemory);
         };
         let position = front.position();
-        let Ok(()) = self.queries.push(Held {
-            ask,
-            position,
-            front: Some(front),
-            pins,
-            gather: None,
-            limit: 0,
-            cancelled: false,
-        })
-        else {
+        let held = new_held(ask, front, pins);
+        let Ok(()) = self.queries.push(held) else {
             unreachable!()
         };
         Ok(Told::Opened {
@@ -61,18 +48,4 @@ impl<const W: usize> World<W> {
             position,
         })
     }
-}
-
-// No version for each of so many shards.
-fn no_pins<const W: usize>(
-    alloc: Global,
-    shards: usize,
-) -> Result<Vec<Option<Arc<Version<W>>>>, NoMemory>
-    ensures { IfOk result (λ pins. pins.items ≡ replicate shards None) }
-{
-    let mut pins = Vec::new(alloc);
-    for _shard in 0..shards {
-        pins.push(None)?;
-    }
-    Ok(pins)
 }

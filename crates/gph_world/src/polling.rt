@@ -1,19 +1,15 @@
 //! Polls of sources.
 
-ghost use Rattle.std.specs.Prelude.{◌≡◌, ◌⊎◌, ◌<◌, ◌≤◌, length};
-ghost use Rattle.hamming_model.specs.declared.limits.TheConstants.{WORDS_MOST};
+ghost use Rattle.std.specs.Prelude.{◌≡◌, ◌≤◌};
 ghost use Rattle.world_model.specs.Events.{Poll};
 ghost use Rattle.world_model.specs.WorldStep.{WorldStep};
-ghost use Rattle.gph_world.specs.Gathers.{AreAllLawful, HasSources, PollsDue, PollsHeld, PollsNone};
 ghost use Rattle.gph_world.specs.Rising.{RiseByReads};
 
-use crate::held::Held;
 use crate::world::World;
-use hit_source::HitSource;
 use read_meter::Meters;
-use scatter_gather::Gather;
 use shard_version::versions_follow_the_history;
 use world_model::{Refused, Told};
+use world_parts::poll_held;
 
 impl<const W: usize> World<W> {
     /// Polls the source of a query on a shard, where it may have the next hit, for at most so many units of work.
@@ -55,45 +51,4 @@ impl<const W: usize> World<W> {
         let shards = self.places.len();
         Ok(poll_held(&mut self.queries[number], shards, place, budget, meters))
     }
-}
-
-// Polls a source of a query that has one on each of so many shards.
-fn poll_held<const W: usize, L>(
-    held: &mut Held<W>,
-    shards: usize,
-    shard: usize,
-    budget: u32,
-    meters: &mut Meters<L>,
-) -> Told
-    requires few_words { W ≤ WORDS_MOST }
-    requires sources { HasSources held.old shards }
-    requires shard { shard < shards }
-    requires budget { 1 ≤ budget }
-    ensures { PollsHeld budget shard held.old held.new meters.old meters.new result }
-{
-    let Some(gather) = &mut held.gather else {
-        unreachable!()
-    };
-    poll_told(gather, shard, budget, meters)
-}
-
-// Polls a source of a gathering, if it is due.
-fn poll_told<H: HitSource, L>(
-    gather: &mut Gather<H>,
-    shard: usize,
-    budget: u32,
-    meters: &mut Meters<L>,
-) -> Told
-    requires shard { shard < length gather.old.sources }
-    requires budget { 1 ≤ budget }
-    ensures polls { PollsDue H.asked H.standing budget shard
-        gather.old gather.new meters.old meters.new result
-        ⊎ PollsNone H.asked H.standing shard
-        gather.old gather.new meters.old meters.new result }
-    ensures lawful { AreAllLawful H.asked H.standing }
-{
-    let Some(answer) = gather.poll_one(shard, budget, meters) else {
-        return Told::Held;
-    };
-    Told::Polled(answer)
 }

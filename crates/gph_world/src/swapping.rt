@@ -3,12 +3,10 @@
 ghost use Rattle.std.specs.Prelude.{◌≡◌};
 ghost use Rattle.world_model.specs.Events.{Swap};
 ghost use Rattle.world_model.specs.WorldStep.{WorldStep};
-ghost use Rattle.gph_world.specs.Swaps.{MayBeSwapped, TakesLayoutAs};
 
-use crate::place::Place;
 use crate::world::World;
-use repartitioner::Unready;
 use world_model::{Refused, Told};
+use world_parts::swap_in;
 
 impl<const W: usize> World<W> {
     /// Gives a shard the layout of its build, where both stand at one position, and tells which. The build is gone then.
@@ -26,38 +24,5 @@ impl<const W: usize> World<W> {
             return Err(Refused::NoShard);
         }
         swap_in(&mut self.places[number])
-    }
-}
-
-// Gives the shard the layout of its build, where all rows are placed and both stand at one position. That they do is judged before any
-// memory is taken.
-fn swap_in<const W: usize>(place: &mut Place<W>) -> Result<Told, Refused>
-    requires { MayBeSwapped place.old }
-    ensures { TakesLayoutAs place.old place.new result }
-{
-    let shard_at = place.shard.at();
-    let Some(build) = place.build.take() else {
-        return Err(Refused::NoBuild);
-    };
-    let left = build.left();
-    if left > 0 {
-        place.build = Some(build);
-        return Err(Refused::Unready { left });
-    }
-    if build.at() != shard_at {
-        place.build = Some(build);
-        return Err(Refused::Moved { shard_at });
-    }
-    match build.finish() {
-        Ok(prepared) => {
-            let Ok(()) = place.shard.swap(prepared) else {
-                unreachable!()
-            };
-            Ok(Told::Swapped { at: shard_at })
-        }
-        Err(Unready::Left { build, .. } | Unready::NoMemory { build }) => {
-            place.build = Some(build);
-            Err(Refused::NoMemory)
-        }
     }
 }

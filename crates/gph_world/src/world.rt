@@ -1,10 +1,9 @@
 //! The world.
 
-use crate::held::Held;
-use crate::place::Place;
 use commit_journal::Journal;
 use std::alloc::Global;
 use std::marker::Model;
+use world_parts::{Held, Place};
 
 /// A history, the shards' versions of it with their builds, and the queries on its prefixes. Seen as what no call changes, and as the
 /// state of the definitions.

@@ -5,11 +5,13 @@ use Rattle.world_model.specs.declared.refused.Refused.TheVariants.{Closed, NoMem
 use Rattle.world_model.specs.declared.told.Told.TheVariants as told
 use Rattle.world_model.specs.Events.{Advance}
 use Rattle.world_model.specs.WorldStep.{WorldStep}
-use Rattle.gph_world.specs.Seen.{query_seen, setting_seen, state_seen}
+use Rattle.world_parts.specs.Seen.{query_seen}
+use Rattle.gph_world.specs.Seen.{setting_seen, state_seen}
 use Rattle.gph_world.specs.Behind.{entries_behind}
 use Rattle.gph_world.specs.Worlds.{WorldView}
 use Rattle.gph_world.proofs.AdvanceLemmas.{advance_closed, advance_lacks, advance_ok, may_come, steps_behind}
-use Rattle.gph_world.proofs.HeldLemmas.{found_there, seen_there}
+use Rattle.world_parts.proofs.ListLemmas.{found_there}
+use Rattle.gph_world.proofs.HeldLemmas.{seen_there}
 use Rattle.gph_world.proofs.PlaceLemmas.{stepped_keeps}
 use Rattle.gph_world.proofs.world.World.advance.Goals as goal
 

@@ -8,7 +8,7 @@ use Rattle.gph_world.specs.Seen.{setting_seen, state_seen}
 use Rattle.gph_world.specs.Upkeep.{rows_there}
 use Rattle.gph_world.specs.Worlds.{WorldView}
 use Rattle.gph_world.proofs.BuildLemmas.{kept_there, rows_bound, start_step}
-use Rattle.gph_world.proofs.HeldLemmas.{found_there}
+use Rattle.world_parts.proofs.ListLemmas.{found_there}
 use Rattle.gph_world.proofs.PlaceLemmas.{stepped_keeps}
 use Rattle.gph_world.proofs.world.World.build_start.Goals as goal
 

@@ -7,7 +7,7 @@ use Rattle.gph_world.specs.Seen.{setting_seen, state_seen}
 use Rattle.gph_world.specs.Upkeep.{rows_unplaced}
 use Rattle.gph_world.specs.Worlds.{WorldView}
 use Rattle.gph_world.proofs.BuildLemmas.{rows_cost, rows_step}
-use Rattle.gph_world.proofs.HeldLemmas.{found_there}
+use Rattle.world_parts.proofs.ListLemmas.{found_there}
 use Rattle.gph_world.proofs.PlaceLemmas.{stepped_keeps}
 use Rattle.gph_world.proofs.world.World.build_step.Goals as goal
 

@@ -6,11 +6,13 @@ use Rattle.world_model.specs.declared.told.Told.TheVariants as told
 use Rattle.world_model.specs.Events.{Cancel}
 use Rattle.world_model.specs.WorldStep.{WorldStep}
 use Rattle.gph_world.specs.Kept.{KeepsWorld}
-use Rattle.gph_world.specs.Seen.{query_seen, setting_seen, state_seen}
+use Rattle.world_parts.specs.Seen.{query_seen}
+use Rattle.gph_world.specs.Seen.{setting_seen, state_seen}
 use Rattle.gph_world.specs.Worlds.{WorldView}
-use Rattle.gph_world.specs.declared.held.Held.{Held}
+use Rattle.world_parts.specs.declared.held.Held.{Held}
 use Rattle.gph_world.proofs.CancelLemmas.{cancel_keeps, cancel_step, was_closed}
-use Rattle.gph_world.proofs.HeldLemmas.{found_there, front_is_live, seen_there, two_found}
+use Rattle.world_parts.proofs.ListLemmas.{found_there, two_found}
+use Rattle.gph_world.proofs.HeldLemmas.{front_is_live, seen_there}
 use Rattle.gph_world.proofs.world.World.cancel.Goals as goal
 
 pub returns-then-held-clause-step : goal.returns-then-held-clause-step

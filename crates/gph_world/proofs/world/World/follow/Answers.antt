@@ -7,7 +7,7 @@ use Rattle.gph_world.specs.Seen.{state_seen}
 use Rattle.gph_world.specs.Upkeep.{entries_unfollowed}
 use Rattle.gph_world.specs.Worlds.{WorldView}
 use Rattle.gph_world.proofs.FollowLemmas.{follow_bound, follow_leaves, may_follow}
-use Rattle.gph_world.proofs.HeldLemmas.{found_there}
+use Rattle.world_parts.proofs.ListLemmas.{found_there}
 use Rattle.gph_world.proofs.world.World.follow.Goals as goal
 
 pub follow_history-requires : goal.follow_history-requires

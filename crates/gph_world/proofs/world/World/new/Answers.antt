@@ -4,7 +4,7 @@ use Rattle.std.specs.Arc.{arc_value}
 use Rattle.commit_journal.specs.Journals.{JournalState, empty_journal}
 use Rattle.gph_world.specs.Kept.{KeepsWorld}
 use Rattle.gph_world.specs.Seen.{world_seen}
-use Rattle.gph_world.specs.declared.held.Held.{Held}
+use Rattle.world_parts.specs.declared.held.Held.{Held}
 use Rattle.gph_world.proofs.StartLemmas.{start_keeps, starts}
 use Rattle.gph_world.proofs.world.World.new.Goals as goal
 

@@ -1,30 +1,21 @@
 -- The front that the journal opens is the query's.
-use Rattle.std.proofs.Common.{◌≡◌, ℕ, ◌++◌, ◌∷◌, [], false, List, Some, None, length, replicate, refl, sym, ap, subst, ◌∙◌, arith}
+use Rattle.std.proofs.Common.{◌≡◌, ℕ, ◌++◌, ◌∷◌, [], false, List, None, length, replicate, sym, ap, subst, ◌∙◌, arith}
 use Rattle.std.specs.Prelude.{nat_le, Ok}
 use Rattle.std.proofs.lemmas.Bool.{lt-leb}
 use Rattle.world_model.specs.declared.told.Told.TheVariants as told
 use Rattle.world_model.specs.Events.{IsQuestion, Open}
 use Rattle.world_model.specs.WorldStep.{WorldStep}
-use Rattle.gph_world.specs.Asks.{IsStoredAsk, ask_seen}
+use Rattle.world_parts.specs.Asks.{IsStoredAsk, ask_seen}
 use Rattle.gph_world.specs.Kept.{KeepsWorld}
 use Rattle.gph_world.specs.Seen.{setting_seen, state_seen}
 use Rattle.gph_world.specs.Worlds.{WorldView}
-use Rattle.gph_world.specs.declared.held.Held.{Held}
+use Rattle.world_parts.specs.declared.held.Held.{Held}
 use Rattle.gph_world.proofs.OpenLemmas.{open_keeps, open_step}
 use Rattle.gph_world.proofs.world.World.open.Goals as goal
 
 module _ (g : _) (c : goal.In-Ok-push g) where
   abbrev held : Held g.row.W
-  held = record {
-    ask = c.args.ask;
-    position = c.position-position.result;
-    front = Some c.in-Ok-open_front.front;
-    pins = c.in-Ok-no_pins.pins;
-    gather = None;
-    limit = 0;
-    cancelled = false;
-    few_words = c.push-arg-2-1.given.0;
-  }
+  held = c.new_held-held.result
 
   items : c.push.new.self.items ≡ c.self.inside.queries.items ++ held ∷ []
   items = c.in-Ok-push.ensures.items ∙ ap (λ (queries : List (Held g.row.W)). queries ++ held ∷ []) c.reserve.ensures.items
@@ -52,8 +43,9 @@ invariant_of-self-2 g c =
     subst (λ (queries : List (Held g.row.W)). KeepsWorld i.bits i.room c.open_front.new.self i.places.items queries) (sym (items g c))
     (open_keeps i.bits i.room i.journal c.open_front.new.self i.places.items i.queries.items c.self.invariant c.args.who c.in-Ok-open_front.front
     c.in-Ok-open_front.ensures.opened c.in-Ok-open_front.ensures.live c.in-Ok-open_front.ensures.known c.in-Ok-open_front.ensures.fronts
-    c.args.ask (formed g c) (stored g c) (held g c) refl c.position-position.ensures.position refl
-    (pins g c) refl refl (ap (nat_le 65536) (sym (long g c)) ∙ few g c))
+    c.args.ask (formed g c) (stored g c) (held g c) c.new_held-held.ensures.ask_is c.new_held-held.ensures.position_is c.new_held-held.ensures.front_is
+    (c.new_held-held.ensures.pins_are ∙ pins g c) c.new_held-held.ensures.no_sources c.new_held-held.ensures.goes_on
+    (ap (nat_le 65536) (sym (long g c)) ∙ few g c))
 
 pub returns-clause-step : goal.returns-clause-step
 returns-clause-step g c =
@@ -67,5 +59,6 @@ returns-clause-step g c =
     (state_seen i.bits c.open_front.new.self i.places.items queries)) (sym (items g c))
     (open_step i.bits i.room i.journal c.open_front.new.self i.places.items i.queries.items c.self.invariant c.args.who c.in-Ok-open_front.front
     c.in-Ok-open_front.ensures.opened c.in-Ok-open_front.ensures.live c.in-Ok-open_front.ensures.known c.in-Ok-open_front.ensures.fronts
-    c.args.ask (formed g c) (stored g c) (held g c) refl c.position-position.ensures.position refl
-    (pins g c) refl refl c.len-number.result c.position-position.result (long g c) c.position-position.ensures.position (few g c)))
+    c.args.ask (formed g c) (stored g c) (held g c) c.new_held-held.ensures.ask_is c.new_held-held.ensures.position_is c.new_held-held.ensures.front_is
+    (c.new_held-held.ensures.pins_are ∙ pins g c) c.new_held-held.ensures.no_sources c.new_held-held.ensures.goes_on
+    c.len-number.result c.position-position.result (long g c) c.position-position.ensures.position (few g c)))

@@ -1,17 +1,18 @@
 -- A shard is pinned by a query that goes on.
-use Rattle.std.proofs.Common.{◌≡◌, ◌+◌, ◌<◌, ◌≤◌, inl, inr, length, get_or, refl, sym, ap, subst, ◌∙◌, arith, Some}
-use Rattle.std.specs.Prelude.{Err, Ok, slice_get, slice_set}
+use Rattle.std.proofs.Common.{◌≡◌, ◌+◌, ◌<◌, ◌≤◌, inr, length, get_or, sym, ap, subst, ◌∙◌, arith}
+use Rattle.std.specs.Prelude.{Err, Ok, slice_set}
 use Rattle.world_model.specs.declared.refused.Refused.TheVariants.{NoMemory}
 use Rattle.world_model.specs.declared.told.Told.TheVariants as told
 use Rattle.world_model.specs.Events.{Pin}
 use Rattle.world_model.specs.WorldStep.{WorldStep}
 use Rattle.gph_world.specs.Behind.{entries_behind}
-use Rattle.gph_world.specs.Pinned.{missing}
+use Rattle.world_parts.specs.Pinned.{missing}
 use Rattle.gph_world.specs.Seen.{setting_seen, state_seen}
 use Rattle.gph_world.specs.Worlds.{WorldView}
-use Rattle.gph_world.specs.declared.held.Held.{Held}
+use Rattle.world_parts.specs.declared.held.Held.{Held}
 use Rattle.gph_world.proofs.AdvanceLemmas.{may_come, steps_behind}
-use Rattle.gph_world.proofs.HeldLemmas.{found_there, front_is_live, two_found}
+use Rattle.world_parts.proofs.ListLemmas.{found_there, two_found}
+use Rattle.gph_world.proofs.HeldLemmas.{front_is_live}
 use Rattle.gph_world.proofs.PinLemmas.{bring_lacks, front_open, has_come, lacks_keeps, may_open}
 use Rattle.gph_world.proofs.PinLemmas.{pin_found, pin_free, pinned_step, pins_are, pins_few, version_comes}
 use Rattle.gph_world.proofs.PinnedLemmas.{lacks_step, pin_keeps, pin_setting, pin_step, same_keeps}

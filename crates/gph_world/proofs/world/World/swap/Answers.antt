@@ -5,7 +5,7 @@ use Rattle.world_model.specs.Events.{Swap}
 use Rattle.world_model.specs.WorldStep.{WorldStep}
 use Rattle.gph_world.specs.Seen.{setting_seen, state_seen}
 use Rattle.gph_world.specs.Worlds.{WorldView}
-use Rattle.gph_world.proofs.HeldLemmas.{found_there}
+use Rattle.world_parts.proofs.ListLemmas.{found_there}
 use Rattle.gph_world.proofs.PlaceLemmas.{stepped_keeps}
 use Rattle.gph_world.proofs.SwapLemmas.{may_be_swapped, swap_step}
 use Rattle.gph_world.proofs.world.World.swap.Goals as goal

@@ -1,7 +1,0 @@
--- What the loop keeps: those of the first shards that aren't pinned are counted.
-use Rattle.std.proofs.Common.{◌≡◌, ◌≤◌, take}
-use Rattle.gph_world.specs.Pinned.{missing}
-use Rattle.gph_world.proofs.pinning.unpinned.Given as goal
-
-abbrev pub invariant-loop-shard : goal.invariant-loop-shard
-invariant-loop-shard g l = (l.left ≡ missing (take l.shard l.pins)) × (l.left ≤ l.shard)

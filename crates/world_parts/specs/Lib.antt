@@ -1,0 +1,11 @@
+pub mod Asks
+pub mod Builds
+pub mod Calls
+pub mod Cancels
+pub mod Gathers
+pub mod Opened
+pub mod Pinned
+pub mod Seen
+pub mod Sources
+pub mod Starts
+pub mod Swaps
