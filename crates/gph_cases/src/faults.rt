@@ -2,11 +2,9 @@
 
 ghost use Rattle.std.specs.Thread.{IsSync};
 
-use crate::trial::{Ends, Postings, Upkeep, compare, list_of};
-use gph_serve::{Outcome, run};
+use crate::trial::{Ends, compare, list_of, run_over};
+use gph_serve::Outcome;
 use line_io::{SteadySink, SteadySource};
-use read_meter::{Meters, Steps, upkeep};
-use scatter_gather::NoGate;
 use std::alloc::Global;
 use std::env::Env;
 use std::process::Abort;
@@ -43,7 +41,7 @@ static READS: [(usize, u64); 4] = [(100, 2), (9, 8), (7, 10), (1, 60)];
 #[test]
 fn a_failed_read_leaves_the_replies_to_the_lines_before_it(rt: HostRuntime) -> Result<(), Fail> {
     let (input, _) = whole_lines(rt.alloc(), 59)?;
-    assert_eq!(rt; input.len(), 59);
+    assert!(rt; input.len() == 59);
     for &(piece, reads) in &READS {
         let mut given: usize = 0;
         for call in 1..=61u64 {
@@ -67,7 +65,7 @@ fn a_failed_read_leaves_the_replies_to_the_lines_before_it(rt: HostRuntime) -> R
                 ends,
                 output.as_slice(),
                 outcome,
-            )?;
+            );
             given = given.saturating_add(piece);
         }
     }
@@ -95,7 +93,7 @@ fn fail_write<R: Abort + Env + Threads + Sync>(
     write: u64,
     output: &[u8],
     outcome: Outcome,
-) -> Result<(), Fail>
+)
     requires sync { IsSync R.row }
 {
     let ends = Ends {
@@ -112,7 +110,7 @@ fn fail_write<R: Abort + Env + Threads + Sync>(
         ends,
         output,
         outcome,
-    )
+    );
 }
 
 #[test]
@@ -131,12 +129,12 @@ fn a_failed_write_leaves_the_pieces_before_it(rt: HostRuntime) -> Result<(), Fai
                 call,
                 written,
                 Outcome::WriteFault,
-            )?;
+            );
             output.extend_from_slice(reply)?;
             call = call.saturating_add(1);
         }
         let (given, written) = (input.as_slice(), output.as_slice());
-        fail_write(&rt, rt.alloc(), given, piece, call, written, Outcome::Done)?;
+        fail_write(&rt, rt.alloc(), given, piece, call, written, Outcome::Done);
     }
     Ok(())
 }
@@ -218,7 +216,7 @@ static FAULTS: [(&str, &[u8], usize, u64, u64, &[u8], Outcome); 8] = [
 ];
 
 #[test]
-fn a_session_ends_at_its_first_fault(rt: HostRuntime) -> Result<(), Fail> {
+fn a_session_ends_at_its_first_fault(rt: HostRuntime) {
     for &(about, input, piece, read, write, output, outcome) in &FAULTS {
         let ends = Ends { piece, read, write };
         compare(
@@ -230,9 +228,8 @@ fn a_session_ends_at_its_first_fault(rt: HostRuntime) -> Result<(), Fail> {
             ends,
             output,
             outcome,
-        )?;
+        );
     }
-    Ok(())
 }
 
 #[test]
@@ -240,18 +237,8 @@ fn a_session_over_steady_ends_is_done(rt: HostRuntime) -> Result<(), Fail> {
     let words = list_of(rt.alloc(), "run --bits 8")?;
     let (input, _) = whole_lines(rt.alloc(), 59)?;
     let mut source = SteadySource::new(input, 7);
-    let mut meters: Meters<Postings> = Meters::new(&rt, rt.alloc())?;
-    let mut kept: Steps<Upkeep> = upkeep(&rt);
-    let outcome = run(
-        &rt,
-        rt.alloc(),
-        words.as_slice(),
-        &mut source,
-        &mut SteadySink::new(),
-        &NoGate,
-        &mut kept,
-        &mut meters,
-    );
-    assert_eq!(rt; outcome, Outcome::Done);
+    let mut sink = SteadySink::new();
+    let outcome = run_over(&rt, rt.alloc(), words.as_slice(), &mut source, &mut sink);
+    assert!(rt; outcome == Outcome::Done);
     Ok(())
 }

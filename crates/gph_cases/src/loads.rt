@@ -2,7 +2,6 @@
 
 use crate::trial::{Ends, compare};
 use gph_serve::Outcome;
-use std::test::Fail;
 
 // Words, how a call with them ends, and what it writes. The numbers are those of a model in another language that looks at every row.
 static LOADS: [(&str, Outcome, &str); 15] = [
@@ -64,7 +63,7 @@ static LOADS: [(&str, Outcome, &str); 15] = [
 ];
 
 #[test]
-fn a_load_writes_its_line(rt: HostRuntime) -> Result<(), Fail> {
+fn a_load_writes_its_line(rt: HostRuntime) {
     for &(words, outcome, output) in &LOADS {
         let ends = Ends {
             piece: 1,
@@ -80,13 +79,12 @@ fn a_load_writes_its_line(rt: HostRuntime) -> Result<(), Fail> {
             ends,
             output.as_bytes(),
             outcome,
-        )?;
+        );
     }
-    Ok(())
 }
 
 #[test]
-fn a_failed_write_leaves_no_line_of_a_load(rt: HostRuntime) -> Result<(), Fail> {
+fn a_failed_write_leaves_no_line_of_a_load(rt: HostRuntime) {
     let ends = Ends {
         piece: 1,
         read: 1,
@@ -102,5 +100,5 @@ fn a_failed_write_leaves_no_line_of_a_load(rt: HostRuntime) -> Result<(), Fail> 
         ends,
         b"",
         Outcome::WriteFault,
-    )
+    );
 }

@@ -2,7 +2,6 @@
 
 use crate::trial::{Ends, compare, compare_pieces};
 use gph_serve::Outcome;
-use std::test::Fail;
 
 // An input that comes in one piece, and no fault.
 const WHOLE: Ends = Ends {
@@ -82,7 +81,7 @@ static WORDS: [(&str, Outcome); 57] = [
 ];
 
 #[test]
-fn words_are_a_session_or_have_a_first_fault(rt: HostRuntime) -> Result<(), Fail> {
+fn words_are_a_session_or_have_a_first_fault(rt: HostRuntime) {
     for &(words, outcome) in &WORDS {
         let output: &[u8] = match outcome {
             Outcome::Done => b"bad 3\n",
@@ -97,9 +96,8 @@ fn words_are_a_session_or_have_a_first_fault(rt: HostRuntime) -> Result<(), Fail
             WHOLE,
             output,
             outcome,
-        )?;
+        );
     }
-    Ok(())
 }
 
 // Words, and the text of the starting layout.
@@ -118,7 +116,7 @@ static LAYOUTS: [(&str, &[u8]); 5] = [
 ];
 
 #[test]
-fn a_starting_layout_is_told_by_its_text(rt: HostRuntime) -> Result<(), Fail> {
+fn a_starting_layout_is_told_by_its_text(rt: HostRuntime) {
     for &(words, output) in &LAYOUTS {
         compare(
             &rt,
@@ -129,9 +127,8 @@ fn a_starting_layout_is_told_by_its_text(rt: HostRuntime) -> Result<(), Fail> {
             WHOLE,
             output,
             Outcome::Done,
-        )?;
+        );
     }
-    Ok(())
 }
 
 // Words with a limit of the input, an input, the output and the end.
@@ -175,9 +172,8 @@ static LIMITS: [(&str, &[u8], &[u8], Outcome); 6] = [
 ];
 
 #[test]
-fn an_input_ends_at_its_limit(rt: HostRuntime) -> Result<(), Fail> {
+fn an_input_ends_at_its_limit(rt: HostRuntime) {
     for &(words, input, output, outcome) in &LIMITS {
-        compare_pieces(&rt, rt.alloc(), words, words, input, output, outcome)?;
+        compare_pieces(&rt, rt.alloc(), words, words, input, output, outcome);
     }
-    Ok(())
 }

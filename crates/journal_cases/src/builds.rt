@@ -1,6 +1,7 @@
 //! Builds that are placed, follow what is committed, are finished and swapped in.
 
 ghost use Rattle.std.specs.Prelude.{◌≡◌, ◌<◌};
+ghost use Rattle.session_desk.specs.Desks.{DeskState};
 ghost use Rattle.shard_rebuild.specs.ShardBuilds.{IsBuildOf};
 
 use crate::desks::{commit, pin_and_close, small_desk, spelled};
@@ -11,9 +12,9 @@ use repartitioner::{Build, BuildState, Unready};
 use session_desk::Desk;
 use shard_rebuild::{SwapAnswer, builds_stay_with_their_shard, start_build, swap_build};
 use std::alloc::Global;
+use std::env::Env;
 use std::process::Abort;
 use std::sync::Arc;
-use std::test::Fail;
 
 // The ledger that these tests count on.
 #[derive(Drop)]
@@ -61,18 +62,17 @@ fn swap_in<R: Abort, D: Desk<1>>(
     pin_and_close(rt, desk, front, rows, steps);
 }
 
-#[test]
-fn a_build_follows_over_deletes_of_rows_that_it_placed(rt: HostRuntime) -> Result<(), Fail> {
+// A build goes on while rows come and go, and one that it placed is deleted.
+fn follow_over_deletes<R: Abort + Env, D: Desk<1>>(rt: &R, alloc: Global, desk: &mut D)
+    requires bits { (D.desk desk.old).config.bits ≡ 8 }
+    requires shards { 0 < (D.desk desk.old).config.shards }
+{
     builds_stay_with_their_shard();
-    let mut desk = small_desk(&rt, rt.alloc(), 1, 9);
-    let mut steps: Steps<Upkeep> = upkeep(&rt);
-    let code = spelled(&rt, b"0f");
-    let first = Op::Add { key: 1, code };
-    let second = Op::Add { key: 3, code };
-    let third = Op::Add { key: 7, code };
-    commit(&rt, &mut desk, first, Decision::Added, 1);
-    commit(&rt, &mut desk, second, Decision::Added, 2);
-    let mut build = start(&rt, rt.alloc(), &mut desk, &mut steps);
+    let mut steps: Steps<Upkeep> = upkeep(rt);
+    let code = spelled(rt, b"0f");
+    commit(rt, desk, Op::Add { key: 1, code }, Decision::Added, 1);
+    commit(rt, desk, Op::Add { key: 3, code }, Decision::Added, 2);
+    let mut build = start(rt, alloc, desk, &mut steps);
     assert!(rt; build.left() == 2 && build.at() == 2);
     let BuildState::Going { left: 1 } = build.step(1, &mut steps) else {
         panic!(rt; "a row is left");
@@ -80,43 +80,73 @@ fn a_build_follows_over_deletes_of_rows_that_it_placed(rt: HostRuntime) -> Resul
     let BuildState::Ready = build.step(9, &mut steps) else {
         panic!(rt; "no row is left");
     };
-    commit(&rt, &mut desk, Op::Delete { key: 1 }, Decision::Deleted, 3);
-    commit(&rt, &mut desk, third, Decision::Added, 4);
-    swap_in(&rt, rt.alloc(), &mut desk, build, 4, 2, &mut steps);
-    Ok(())
+    commit(rt, desk, Op::Delete { key: 1 }, Decision::Deleted, 3);
+    commit(rt, desk, Op::Add { key: 7, code }, Decision::Added, 4);
+    swap_in(rt, alloc, desk, build, 4, 2, &mut steps);
 }
 
 #[test]
-fn a_build_of_no_rows_is_ready_at_once(rt: HostRuntime) -> Result<(), Fail> {
-    let mut desk = small_desk(&rt, rt.alloc(), 2, 9);
-    let mut steps: Steps<Upkeep> = upkeep(&rt);
-    let build = start(&rt, rt.alloc(), &mut desk, &mut steps);
-    assert!(rt; build.left() == 0 && build.at() == 0);
-    swap_in(&rt, rt.alloc(), &mut desk, build, 0, 0, &mut steps);
-    Ok(())
-}
-
-#[test]
-fn a_build_with_rows_left_is_handed_back_and_goes_on(rt: HostRuntime) -> Result<(), Fail> {
-    builds_stay_with_their_shard();
+fn a_build_follows_over_deletes_of_rows_that_it_placed(rt: HostRuntime) {
     let mut desk = small_desk(&rt, rt.alloc(), 1, 9);
-    let mut steps: Steps<Upkeep> = upkeep(&rt);
-    let code = spelled(&rt, b"00");
-    let add = Op::Add { key: 1, code };
-    commit(&rt, &mut desk, add, Decision::Added, 1);
-    let started = start(&rt, rt.alloc(), &mut desk, &mut steps);
+    follow_over_deletes(&rt, rt.alloc(), &mut desk);
+}
+
+// A build of no rows is ready, and is swapped in.
+fn build_no_rows<R: Abort + Env, D: Desk<1>>(rt: &R, alloc: Global, desk: &mut D)
+    requires bits { (D.desk desk.old).config.bits ≡ 8 }
+    requires shards { 0 < (D.desk desk.old).config.shards }
+{
+    let mut steps: Steps<Upkeep> = upkeep(rt);
+    let build = start(rt, alloc, desk, &mut steps);
+    assert!(rt; build.left() == 0 && build.at() == 0);
+    swap_in(rt, alloc, desk, build, 0, 0, &mut steps);
+}
+
+#[test]
+fn a_build_of_no_rows_is_ready_at_once(rt: HostRuntime) {
+    let mut desk = small_desk(&rt, rt.alloc(), 2, 9);
+    build_no_rows(&rt, rt.alloc(), &mut desk);
+}
+
+// Finishes a build that has one row left: it is handed back, places the row, is finished, and goes on.
+fn finish_twice<R: Abort>(
+    rt: &R,
+    alloc: Global,
+    started: Build<1>,
+    steps: &mut Steps<Upkeep>,
+) -> Build<1>
+    ensures { (desk : DeskState) → IsBuildOf desk 0 started → IsBuildOf desk 0 result }
+{
     let Err(Unready::Left { left, mut build }) = started.finish() else {
         panic!(rt; "a row is left");
     };
     assert!(rt; left == 1 && build.left() == 1 && build.at() == 1);
-    let BuildState::Ready = build.step(1, &mut steps) else {
+    let BuildState::Ready = build.step(1, steps) else {
         panic!(rt; "no row is left");
     };
     let Ok(prepared) = build.finish() else {
         panic!(rt; "no version");
     };
-    let resumed = Build::resume(rt.alloc(), prepared);
+    let resumed = Build::resume(alloc, prepared);
     assert!(rt; resumed.left() == 0 && resumed.at() == 1);
-    swap_in(&rt, rt.alloc(), &mut desk, resumed, 1, 1, &mut steps);
-    Ok(())
+    resumed
+}
+
+// A build is finished before its time, and swapped in after it went on.
+fn build_on<R: Abort + Env, D: Desk<1>>(rt: &R, alloc: Global, desk: &mut D)
+    requires bits { (D.desk desk.old).config.bits ≡ 8 }
+    requires shards { 0 < (D.desk desk.old).config.shards }
+{
+    let mut steps: Steps<Upkeep> = upkeep(rt);
+    let code = spelled(rt, b"00");
+    commit(rt, desk, Op::Add { key: 1, code }, Decision::Added, 1);
+    let started = start(rt, alloc, desk, &mut steps);
+    let resumed = finish_twice(rt, alloc, started, &mut steps);
+    swap_in(rt, alloc, desk, resumed, 1, 1, &mut steps);
+}
+
+#[test]
+fn a_build_with_rows_left_is_handed_back_and_goes_on(rt: HostRuntime) {
+    let mut desk = small_desk(&rt, rt.alloc(), 1, 9);
+    build_on(&rt, rt.alloc(), &mut desk);
 }

@@ -18,8 +18,8 @@ use search_model::stored_rows_search_alike;
 use session_desk::{Desk, SoloDesk};
 use shard_rebuild::builds_stay_with_their_shard;
 use std::alloc::Global;
+use std::env::Env;
 use std::process::Abort;
-use std::test::Fail;
 
 // The ledger that these tests count on.
 #[derive(Drop)]
@@ -77,25 +77,28 @@ pub(crate) fn commit<R: Abort, D: Desk<1>>(
     assert!(rt; is_decided, "{position}");
 }
 
-#[test]
-fn a_solo_desk_decides_and_tells_its_rows(rt: HostRuntime) -> Result<(), Fail> {
-    let mut desk = small_desk(&rt, rt.alloc(), 1, 2);
-    let code = spelled(&rt, b"00");
-    let first = Op::Add { key: 1, code };
-    let second = Op::Add { key: 2, code };
-    let third = Op::Add { key: 3, code };
-    let again = Op::Add { key: 1, code };
-    commit(&rt, &mut desk, first, Decision::Added, 1);
-    commit(&rt, &mut desk, second, Decision::Added, 2);
-    commit(&rt, &mut desk, third, Decision::Full, 2);
-    commit(&rt, &mut desk, again, Decision::Taken, 2);
-    commit(&rt, &mut desk, Op::Delete { key: 9 }, Decision::Absent, 2);
-    commit(&rt, &mut desk, Op::Delete { key: 1 }, Decision::Full, 2);
+// Commits to a desk with room for two entries, and looks at its rows and its layout.
+fn decide<R: Abort, D: Desk<1>>(rt: &R, desk: &mut D)
+    requires bits { (D.desk desk.old).config.bits ≡ 8 }
+    requires shards { 0 < (D.desk desk.old).config.shards }
+{
+    let code = spelled(rt, b"00");
+    commit(rt, desk, Op::Add { key: 1, code }, Decision::Added, 1);
+    commit(rt, desk, Op::Add { key: 2, code }, Decision::Added, 2);
+    commit(rt, desk, Op::Add { key: 3, code }, Decision::Full, 2);
+    commit(rt, desk, Op::Add { key: 1, code }, Decision::Taken, 2);
+    commit(rt, desk, Op::Delete { key: 9 }, Decision::Absent, 2);
+    commit(rt, desk, Op::Delete { key: 1 }, Decision::Full, 2);
     let found = desk.code_of(1);
     assert!(rt; found == (Some(code), 2));
     let told = desk.layout_of(0);
     assert!(rt; told.bytes() == b"0,1,2,3/4,5,6,7".as_slice());
-    Ok(())
+}
+
+#[test]
+fn a_solo_desk_decides_and_tells_its_rows(rt: HostRuntime) {
+    let mut desk = small_desk(&rt, rt.alloc(), 1, 2);
+    decide(&rt, &mut desk);
 }
 
 // Pins the first shard at a front, compares the rows, and closes the front.
@@ -120,60 +123,75 @@ pub(crate) fn pin_and_close<R: Abort, D: Desk<1>, M>(
     assert!(rt; is_pinned, "{rows}");
 }
 
-#[test]
-fn a_front_answers_its_own_prefix(rt: HostRuntime) -> Result<(), Fail> {
-    let mut desk = small_desk(&rt, rt.alloc(), 1, 9);
-    let mut steps: Steps<Reads> = upkeep(&rt);
-    let code = spelled(&rt, b"0f");
-    let add = Op::Add { key: 1, code };
-    let other = Op::Add { key: 4, code };
-    commit(&rt, &mut desk, add, Decision::Added, 1);
-    commit(&rt, &mut desk, other, Decision::Added, 2);
-    let front = desk.open_front().expect(&rt, "memory for a front");
-    commit(&rt, &mut desk, Op::Delete { key: 4 }, Decision::Deleted, 3);
-    pin_and_close(&rt, &mut desk, front, 2, &mut steps);
-    let unused = desk.open_front().expect(&rt, "memory for a front");
+// Pins at a front that was opened before an entry, and at one that was opened after it.
+fn pin_before_and_after<R: Abort + Env, D: Desk<1>>(rt: &R, desk: &mut D)
+    requires bits { (D.desk desk.old).config.bits ≡ 8 }
+    requires shards { 0 < (D.desk desk.old).config.shards }
+{
+    let mut steps: Steps<Reads> = upkeep(rt);
+    let code = spelled(rt, b"0f");
+    commit(rt, desk, Op::Add { key: 1, code }, Decision::Added, 1);
+    commit(rt, desk, Op::Add { key: 4, code }, Decision::Added, 2);
+    let front = desk.open_front().expect(rt, "memory for a front");
+    commit(rt, desk, Op::Delete { key: 4 }, Decision::Deleted, 3);
+    pin_and_close(rt, desk, front, 2, &mut steps);
+    let unused = desk.open_front().expect(rt, "memory for a front");
     desk.close_front(unused);
-    let later = desk.open_front().expect(&rt, "memory for a front");
-    pin_and_close(&rt, &mut desk, later, 1, &mut steps);
-    Ok(())
+    let later = desk.open_front().expect(rt, "memory for a front");
+    pin_and_close(rt, desk, later, 1, &mut steps);
+}
+
+#[test]
+fn a_front_answers_its_own_prefix(rt: HostRuntime) {
+    let mut desk = small_desk(&rt, rt.alloc(), 1, 9);
+    pin_before_and_after(&rt, &mut desk);
+}
+
+// Whether there are two sources, of so many rows each.
+fn has_rows<H: HitSource>(sources: &[H], even: u64, odd: u64) -> bool {
+    sources.len() == 2 && sources[0].rows() == even && sources[1].rows() == odd
 }
 
 // Opens a range query over two shards, and compares its rows.
-fn query<R: Abort, D: Desk<1>>(
+fn query<const W: usize, R: Abort, D: Desk<W>>(
     rt: &R,
     alloc: Global,
     desk: &mut D,
+    code: Code<W>,
     position: u64,
     even: u64,
     odd: u64,
     steps: &mut Steps<Reads>,
 )
     requires bits { (D.desk desk.old).config.bits ≡ 8 }
+    requires code { StandsFor W 8 code (take 8 code) }
     ensures config { (D.desk desk.new).config ≡ (D.desk desk.old).config }
 {
-    let code = spelled(rt, b"00");
     let opened = open_query(alloc, desk, Wanted::Within(1), code, 16, steps).expect(
         rt,
         "memory for a query",
     );
-    assert!(rt; opened.sources.len() == 2 && opened.position == position);
-    let has_rows = opened.sources[0].rows() == even && opened.sources[1].rows() == odd;
-    assert!(rt; has_rows, "{position}");
+    let is_opened = opened.position == position && has_rows(opened.sources.as_slice(), even, odd);
+    assert!(rt; is_opened, "{position}");
+}
+
+// Opens queries on two shards before entries and after them.
+fn query_prefixes<R: Abort + Env, D: Desk<1>>(rt: &R, alloc: Global, desk: &mut D)
+    requires bits { (D.desk desk.old).config.bits ≡ 8 }
+{
+    let mut steps: Steps<Reads> = upkeep(rt);
+    let center = spelled(rt, b"00");
+    let code = spelled(rt, b"01");
+    query(rt, alloc, desk, center, 0, 0, 0, &mut steps);
+    commit(rt, desk, Op::Add { key: 2, code }, Decision::Added, 1);
+    commit(rt, desk, Op::Add { key: 3, code }, Decision::Added, 2);
+    query(rt, alloc, desk, center, 2, 1, 1, &mut steps);
+    commit(rt, desk, Op::Delete { key: 3 }, Decision::Deleted, 3);
+    query(rt, alloc, desk, center, 3, 1, 0, &mut steps);
 }
 
 #[test]
-fn a_query_answers_its_own_prefix_over_two_shards(rt: HostRuntime) -> Result<(), Fail> {
+fn a_query_answers_its_own_prefix_over_two_shards(rt: HostRuntime) {
     let mut desk = small_desk(&rt, rt.alloc(), 2, 9);
-    let mut steps: Steps<Reads> = upkeep(&rt);
-    let code = spelled(&rt, b"01");
-    let add = Op::Add { key: 2, code };
-    let other = Op::Add { key: 3, code };
-    query(&rt, rt.alloc(), &mut desk, 0, 0, 0, &mut steps);
-    commit(&rt, &mut desk, add, Decision::Added, 1);
-    commit(&rt, &mut desk, other, Decision::Added, 2);
-    query(&rt, rt.alloc(), &mut desk, 2, 1, 1, &mut steps);
-    commit(&rt, &mut desk, Op::Delete { key: 3 }, Decision::Deleted, 3);
-    query(&rt, rt.alloc(), &mut desk, 3, 1, 0, &mut steps);
-    Ok(())
+    query_prefixes(&rt, rt.alloc(), &mut desk);
 }

@@ -1,12 +1,17 @@
-ghost use Rattle.std.specs.Prelude.{◌≡◌, ◌≤◌, take};
+ghost use Rattle.std.specs.Prelude.{◌≡◌, ◌≤◌, length, map, take};
+ghost use Rattle.std.specs.List.{AllByRecursion};
 ghost use Rattle.std.specs.Thread.{IsSync};
 ghost use Rattle.hamming_model.specs.Codes.{StandsFor};
+ghost use Rattle.hamming_model.specs.declared.limits.TheConstants.{SHARDS_MOST};
+ghost use Rattle.hit_source.specs.Sources.{IsFresh};
+ghost use Rattle.scatter_gather.specs.Kept.{AreOneLength};
 ghost use Rattle.query_opening.specs.Opening.{wanted_radius};
 
 use crate::rows::{digit, plain_row};
 use entry_log::Op;
 use gph_codes::Code;
 use hamming_model::{Hit, plain_scan};
+use hit_source::HitSource;
 use part_layout::Config;
 use query_opening::{Wanted, open_query};
 use read_meter::{Meters, Steps, upkeep};
@@ -85,45 +90,91 @@ fn limit_of(wanted: Wanted, number: u64, rows: u64) -> u64 {
     }
 }
 
-// Compares the hits of a query with the first so many of a list, where a number of them is asked for.
+// The distance within which codes are asked for, or 0 where all are.
+fn radius_of(wanted: Wanted) -> u32
+    ensures { result ≡ wanted_radius wanted }
+{
+    match wanted {
+        Wanted::Within(radius) => radius,
+        Wanted::Nearest => 0,
+    }
+}
+
+// Whether gathering sources gives the first so many of a list, and has ended then.
+fn gives_first<R: Abort + Env + Threads + Sync, H: HitSource + Drop>(
+    rt: &R,
+    alloc: Global,
+    sources: Vec<H>,
+    limit: u64,
+    budget: u32,
+    want: &[Hit],
+    count: usize,
+) -> bool
+    requires sync { IsSync R.row }
+    requires budget { 1 ≤ budget }
+    requires some { 1 ≤ length sources.items }
+    requires few { length sources.items ≤ SHARDS_MOST }
+    requires one_length { AreOneLength (map H.asked sources.items) }
+    requires fresh { AllByRecursion (λ source. IsFresh (H.standing source)) sources.items }
+{
+    let mut meters: Meters<Reads> = Meters::new(rt, alloc).expect(rt, "memory for ledgers");
+    let mut gather = Gather::new(alloc, sources, limit).expect(rt, "memory to gather");
+    let mut out = Vec::new(alloc);
+    for _turn in 0..100u32 {
+        if let Some(hit) = gather.next(rt, &NoGate, budget, &mut meters) {
+            out.push(hit).expect(rt, "memory for a hit");
+        }
+    }
+    let is_done = !gather.more(rt, &NoGate, budget, &mut meters);
+    is_done && out.len() == count && want.starts_with(out.as_slice())
+}
+
+// What is wanted, a number of hits, how many the room has, a budget, and how many hits come.
+type Asked = (Wanted, u64, usize, u32, usize);
+
+// Whether a query gives the first so many of a list.
+fn answers_first<const W: usize, R: Abort + Env + Threads + Sync, D: Desk<W>>(
+    rt: &R,
+    alloc: Global,
+    desk: &mut D,
+    query: Code<W>,
+    asked: Asked,
+    want: &[Hit],
+    steps: &mut Steps<Upkeep>,
+) -> bool
+    requires sync { IsSync R.row }
+    requires bits { (D.desk desk.old).config.bits ≡ 8 }
+    requires code { StandsFor W 8 query (take 8 query) }
+    ensures config { (D.desk desk.new).config ≡ (D.desk desk.old).config }
+{
+    let (wanted, number, room, budget, count) = asked;
+    assert!(rt; radius_of(wanted) <= 8 && 1 <= room && room <= 256 && 1 <= budget);
+    let opened = open_query(alloc, desk, wanted, query, room, steps).expect(
+        rt,
+        "memory for a query",
+    );
+    let limit = limit_of(wanted, number, opened.rows);
+    gives_first(rt, alloc, opened.sources, limit, budget, want, count)
+}
+
+// Compares what each query gives with a list.
 fn compare<R: Abort + Env + Threads + Sync, D: Desk<1>>(
     rt: &R,
     alloc: Global,
     desk: &mut D,
-    wanted: Wanted,
-    number: u64,
-    room: usize,
-    budget: u32,
+    asked: &[Asked],
     want: &[Hit],
-    count: usize,
-) -> Result<(), Fail>
+)
     requires sync { IsSync R.row }
     requires bits { (D.desk desk.old).config.bits ≡ 8 }
-    requires near { wanted_radius wanted ≤ 8 }
-    requires some_room { 1 ≤ room }
-    requires small_room { room ≤ 256 }
-    requires budget { 1 ≤ budget }
     ensures config { (D.desk desk.new).config ≡ (D.desk desk.old).config }
 {
-    let mut steps: Steps<Upkeep> = upkeep(rt);
-    let mut meters: Meters<Reads> = Meters::new(rt, alloc)?;
     let query = spelled(rt, b"35");
-    let opened = open_query(alloc, desk, wanted, query, room, &mut steps)?;
-    let limit = limit_of(wanted, number, opened.rows);
-    let mut gather = Gather::new(alloc, opened.sources, limit)?;
-    let mut out = Vec::new(alloc);
-    for _turn in 0..100u32 {
-        if let Some(hit) = gather.next(rt, &NoGate, budget, &mut meters) {
-            out.push(hit)?;
-        }
+    let mut steps: Steps<Upkeep> = upkeep(rt);
+    for place in 0..asked.len() {
+        let is_first = answers_first(rt, alloc, desk, query, asked[place], want, &mut steps);
+        assert!(rt; is_first, "query {place}");
     }
-    let is_done = !gather.more(rt, &NoGate, budget, &mut meters);
-    let is_first = out.len() == count && want.starts_with(out.as_slice());
-    assert!(rt;
-        is_first && is_done,
-        "number {number} room {room} budget {budget}"
-    );
-    Ok(())
 }
 
 // All near rows are on the first of the three shards.
@@ -138,55 +189,40 @@ static ON_ONE_SHARD: [(u64, u8); 8] = [
     (5, 0x8a),
 ];
 
+// What is wanted of them.
+static FIRST_OF_ONE_SHARD: [Asked; 9] = [
+    (Wanted::Nearest, 1, 1, 1, 1),
+    (Wanted::Nearest, 3, 1, 9999, 3),
+    (Wanted::Nearest, 4, 256, 1, 4),
+    (Wanted::Nearest, 8, 256, 9999, 8),
+    (Wanted::Nearest, 8, 1, 1, 8),
+    (Wanted::Nearest, 9, 2, 3, 8),
+    (Wanted::Nearest, u64::MAX, 256, 1, 8),
+    (Wanted::Within(1), 0, 1, 1, 4),
+    (Wanted::Within(7), 0, 256, 9999, 6),
+];
+
+// Asks for the nearest of rows on one shard.
+fn ask_one_shard<R: Abort + Env + Threads + Sync, D: Desk<1>>(
+    rt: &R,
+    alloc: Global,
+    desk: &mut D,
+) -> Result<(), Fail>
+    requires sync { IsSync R.row }
+    requires bits { (D.desk desk.old).config.bits ≡ 8 }
+{
+    let want = scanned(alloc, &ON_ONE_SHARD)?;
+    add_all(rt, desk, &ON_ONE_SHARD);
+    compare(rt, alloc, desk, &FIRST_OF_ONE_SHARD, want.as_slice());
+    Ok(())
+}
+
 #[test]
 fn the_nearest_are_the_first_of_the_scan_where_all_are_on_one_shard(
     rt: HostRuntime,
 ) -> Result<(), Fail> {
-    let alloc = rt.alloc();
-    let mut desk = three_shards(&rt, alloc);
-    let want = scanned(alloc, &ON_ONE_SHARD)?;
-    let hits = want.as_slice();
-    add_all(&rt, &mut desk, &ON_ONE_SHARD);
-    compare(&rt, alloc, &mut desk, Wanted::Nearest, 1, 1, 1, hits, 1)?;
-    compare(&rt, alloc, &mut desk, Wanted::Nearest, 3, 1, 9999, hits, 3)?;
-    compare(&rt, alloc, &mut desk, Wanted::Nearest, 4, 256, 1, hits, 4)?;
-    compare(
-        &rt,
-        alloc,
-        &mut desk,
-        Wanted::Nearest,
-        8,
-        256,
-        9999,
-        hits,
-        8,
-    )?;
-    compare(&rt, alloc, &mut desk, Wanted::Nearest, 8, 1, 1, hits, 8)?;
-    compare(&rt, alloc, &mut desk, Wanted::Nearest, 9, 2, 3, hits, 8)?;
-    compare(
-        &rt,
-        alloc,
-        &mut desk,
-        Wanted::Nearest,
-        u64::MAX,
-        256,
-        1,
-        hits,
-        8,
-    )?;
-    compare(&rt, alloc, &mut desk, Wanted::Within(1), 0, 1, 1, hits, 4)?;
-    compare(
-        &rt,
-        alloc,
-        &mut desk,
-        Wanted::Within(7),
-        0,
-        256,
-        9999,
-        hits,
-        6,
-    )?;
-    Ok(())
+    let mut desk = three_shards(&rt, rt.alloc());
+    ask_one_shard(&rt, rt.alloc(), &mut desk)
 }
 
 // A tie over all three shards.
@@ -199,26 +235,34 @@ static TIED: [(u64, u8); 6] = [
     (3, 0x34),
 ];
 
+// What is wanted of no rows.
+static FIRST_OF_NONE: [Asked; 1] = [(Wanted::Nearest, 5, 1, 1, 0)];
+
+// What is wanted of the tie.
+static FIRST_OF_TIE: [Asked; 3] = [
+    (Wanted::Nearest, 2, 1, 1, 2),
+    (Wanted::Nearest, 6, 256, 9999, 6),
+    (Wanted::Nearest, 7, 1, 9999, 6),
+];
+
+// Asks for the nearest of no rows and of a tie.
+fn ask_tie<R: Abort + Env + Threads + Sync, D: Desk<1>>(
+    rt: &R,
+    alloc: Global,
+    desk: &mut D,
+) -> Result<(), Fail>
+    requires sync { IsSync R.row }
+    requires bits { (D.desk desk.old).config.bits ≡ 8 }
+{
+    compare(rt, alloc, desk, &FIRST_OF_NONE, &[]);
+    let want = scanned(alloc, &TIED)?;
+    add_all(rt, desk, &TIED);
+    compare(rt, alloc, desk, &FIRST_OF_TIE, want.as_slice());
+    Ok(())
+}
+
 #[test]
 fn a_tie_across_shards_goes_by_key_and_no_rows_give_none(rt: HostRuntime) -> Result<(), Fail> {
-    let alloc = rt.alloc();
-    let mut desk = three_shards(&rt, alloc);
-    compare(&rt, alloc, &mut desk, Wanted::Nearest, 5, 1, 1, &[], 0)?;
-    let want = scanned(alloc, &TIED)?;
-    let hits = want.as_slice();
-    add_all(&rt, &mut desk, &TIED);
-    compare(&rt, alloc, &mut desk, Wanted::Nearest, 2, 1, 1, hits, 2)?;
-    compare(
-        &rt,
-        alloc,
-        &mut desk,
-        Wanted::Nearest,
-        6,
-        256,
-        9999,
-        hits,
-        6,
-    )?;
-    compare(&rt, alloc, &mut desk, Wanted::Nearest, 7, 1, 9999, hits, 6)?;
-    Ok(())
+    let mut desk = three_shards(&rt, rt.alloc());
+    ask_tie(&rt, rt.alloc(), &mut desk)
 }

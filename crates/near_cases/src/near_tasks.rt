@@ -40,6 +40,23 @@ fn open<R: Abort>(
     NearTask::open(alloc, shared, query, room)
 }
 
+// Whether draining a source gives these hits, and it is a near query that has ended then.
+fn gives<H: HitSource>(
+    task: &mut H,
+    budget: u32,
+    steps: &mut Steps<Reads>,
+    out: &mut Vec<Hit>,
+    want: &[Hit],
+) -> Result<bool, NoMemory>
+    requires budget { 1 ≤ budget }
+    requires some_room { 1 ≤ (H.asked task.old).room }
+{
+    drain(task, budget, steps, out)?;
+    let is_done = task.floor().is_none() && task.head().is_none();
+    let is_near = task.near() && task.rows() == want.len() as u64;
+    Ok(out.as_slice() == want && is_done && is_near)
+}
+
 // Compares the hits of a query, with so many hits in the room and such a budget.
 fn compare<R: Abort>(
     rt: &R,
@@ -57,29 +74,23 @@ fn compare<R: Abort>(
 {
     let mut task = open(rt, alloc, version, byte, room)?;
     let mut out = Vec::new(alloc);
-    drain(&mut task, budget, steps, &mut out)?;
-    let is_done = task.floor().is_none() && task.head().is_none();
-    let is_near = task.near() && task.rows() == want.len() as u64;
-    assert!(rt;
-        out.as_slice() == want && is_done && is_near,
-        "room {room} budget {budget}"
-    );
+    let is_given = gives(&mut task, budget, steps, &mut out, want)?;
+    assert!(rt; is_given, "room {room} budget {budget}");
     Ok(())
 }
 
-// Polls a query to its end, with no hit left waiting before a poll: what it has read is then at most
+// Polls a source of hits within 8 to its end, with no hit left waiting before a poll: what it has read is then at most
 // the bound for the floor before the poll.
-fn bound_reads<R: Abort>(
+fn follow_bound<R: Abort, H: HitSource>(
     rt: &R,
-    alloc: Global,
-    version: &Arc<Version<1>>,
-    byte: u8,
+    task: &mut H,
     steps: &mut Steps<Reads>,
-) -> Result<u64, NoMemory> {
-    let mut task = open(rt, alloc, version, byte, 256)?;
-    let mut out = Vec::new(alloc);
+    out: &mut Vec<Hit>,
+) -> Result<u64, NoMemory>
+    requires { (H.asked task.old).farthest ≡ 8 }
+{
     for _turn in 0..1000u32 {
-        take_waiting(&mut task, &mut out)?;
+        take_waiting(task, out)?;
         let Some(floor) = task.floor() else {
             return Ok(task.reads());
         };
@@ -89,6 +100,19 @@ fn bound_reads<R: Abort>(
         assert!(rt; task.reads() <= bound, "floor {floor}");
     }
     panic!(rt; "a near query ends")
+}
+
+// Polls a near query to its end, and gives what it has read.
+fn bound_reads<R: Abort>(
+    rt: &R,
+    alloc: Global,
+    version: &Arc<Version<1>>,
+    byte: u8,
+    steps: &mut Steps<Reads>,
+) -> Result<u64, NoMemory> {
+    let mut task = open(rt, alloc, version, byte, 256)?;
+    let mut out = Vec::new(alloc);
+    follow_bound(rt, &mut task, steps, &mut out)
 }
 
 #[test]
@@ -128,12 +152,10 @@ fn a_near_query_is_the_plain_scan_whatever_the_parts_and_the_steps(
     Ok(())
 }
 
-#[test]
-fn the_worked_rows_bound_a_near_query(rt: HostRuntime) -> Result<(), Fail> {
-    let mut steps: Steps<Reads> = upkeep(&rt);
-    let alloc = rt.alloc();
-    let version = version_of(&rt, alloc, 2, &[(1, 0x00), (2, 0x0f), (3, 0xff), (4, 0x01)])?;
-    let mut task = open(&rt, alloc, &version, 0, 1)?;
+// Whether a source of hits within 8 has the plans and the bounds of the worked rows.
+fn has_worked_bounds<H: HitSource>(task: &mut H) -> bool
+    requires { (H.asked task.old).farthest ≡ 8 }
+{
     let is_first = task.plan(None) == 1 && task.thresholds() == [-1, 0].as_slice();
     let is_fifth = task.plan(Some(4)) == 4;
     let sums = [
@@ -142,8 +164,26 @@ fn the_worked_rows_bound_a_near_query(rt: HostRuntime) -> Result<(), Fail> {
         task.bound(Some(4)),
         task.bound(Some(8)),
     ];
-    assert!(&rt; is_first && is_fifth && sums == [0, 1, 11, 27]);
-    let reads = bound_reads(&rt, alloc, &version, 0, &mut steps)?;
-    assert!(&rt; reads <= 27);
+    is_first && is_fifth && sums == [0, 1, 11, 27]
+}
+
+// Compares the plans, the bounds and the reads of a near query on the worked rows.
+fn compare_worked<R: Abort>(
+    rt: &R,
+    alloc: Global,
+    steps: &mut Steps<Reads>,
+) -> Result<(), NoMemory> {
+    let version = version_of(rt, alloc, 2, &[(1, 0x00), (2, 0x0f), (3, 0xff), (4, 0x01)])?;
+    let mut task = open(rt, alloc, &version, 0, 1)?;
+    assert!(rt; has_worked_bounds(&mut task));
+    let reads = bound_reads(rt, alloc, &version, 0, steps)?;
+    assert!(rt; reads <= 27);
+    Ok(())
+}
+
+#[test]
+fn the_worked_rows_bound_a_near_query(rt: HostRuntime) -> Result<(), Fail> {
+    let mut steps: Steps<Reads> = upkeep(&rt);
+    compare_worked(&rt, rt.alloc(), &mut steps)?;
     Ok(())
 }

@@ -5,6 +5,7 @@ pub mod GrammarLemmas
 pub mod JudgeLemmas
 pub mod LayoutLemmas
 pub mod ParseLemmas
+pub mod PieceLemmas
 pub mod ReadBackLemmas
 pub mod RunLemmas
 pub mod SyntaxLemmas

@@ -1,58 +1,42 @@
-use Rattle.std.proofs.Common.{◌≡◌, ◌<◌, ◌∙◌, ℕ, List, [], ap, length, take, get_or, arith}
-use Rattle.std.proofs.lemmas.List.{length-map}
-use Rattle.std.proofs.lemmas.List.Folds.{length-flat_map-take}
-use Rattle.std.specs.Global.{Vec}
+use Rattle.std.proofs.Common.{◌≡◌, ◌<◌, [], ap, length, take, get_or, arith}
 use Rattle.part_layout.specs.Kept.{lists_of}
 use Rattle.part_layout.specs.Text.{part_text}
-use Rattle.part_layout.proofs.LayoutLemmas.{own_part}
+use Rattle.part_layout.proofs.PieceLemmas.{inside_lists, mark_room, own_positions, part_room, part_short, part_some}
 use Rattle.part_layout.proofs.TextLemmas.{flat_step, length-mark_before, next_piece}
 use Rattle.part_layout.proofs.pieces.put_parts.Goals as goal
 
 pub put_mark-at-requires : goal.put_mark-at-requires
 put_mark-at-requires c =
-    let sized = length-map c.args.parts.now (λ (part : Vec ℕ). part.items) in
-    let inside : c.loop-place.place < length (lists_of c.args.parts.now) = omega arith in
-    let room = length-flat_map-take (λ (part : List ℕ). part) (lists_of c.args.parts.now) c.loop-place.place [] inside in
-    let some = c.requires.some c.loop-place.place [] inside in
+    let room = mark_room _ c.args.parts.now c.loop-place.place c.loop-place.at c.requires (omega arith) c.loop-place.invariant.1 in
     omega arith
 
 pub put_part-at-requires-clause-room : goal.put_part-at-requires-clause-room
 put_part-at-requires-clause-room c =
-    let sized = length-map c.args.parts.now (λ (part : Vec ℕ). part.items) in
-    let kept : c.loop-place.place < length c.args.parts.now = omega arith in
-    let inside : c.loop-place.place < length (lists_of c.args.parts.now) = omega arith in
-    let room = length-flat_map-take (λ (part : List ℕ). part) (lists_of c.args.parts.now) c.loop-place.place [] inside in
-    let own = own_part c.args.parts.now c.loop-place.place c.index-parts-place.result kept c.index-parts-place.is in
-    let same = ap length (c.as_slice.ensures.value ∙ own) in
-    let mark = length-mark_before c.loop-place.place 47 in
+    let room = part_room _ c.args.parts.now c.loop-place.place c.loop-place.at c.put_mark-at.result c.as_slice.result.now c.requires (omega arith)
+    c.loop-place.invariant.1 c.put_mark-at.ensures.end
+    (own_positions c.args.parts.now c.loop-place.place c.index-parts-place.result c.as_slice.result.now (omega arith) c.index-parts-place.is
+    c.as_slice.ensures.value) in
     omega arith
 
 pub put_part-at-requires-clause-some : goal.put_part-at-requires-clause-some
 put_part-at-requires-clause-some c =
-    let sized = length-map c.args.parts.now (λ (part : Vec ℕ). part.items) in
-    let kept : c.loop-place.place < length c.args.parts.now = omega arith in
-    let inside : c.loop-place.place < length (lists_of c.args.parts.now) = omega arith in
-    let own = own_part c.args.parts.now c.loop-place.place c.index-parts-place.result kept c.index-parts-place.is in
-    let same = ap length (c.as_slice.ensures.value ∙ own) in
-    let some = c.requires.some c.loop-place.place [] inside in
-    omega arith
+    part_some _ c.args.parts.now c.loop-place.place c.as_slice.result.now c.requires (omega arith)
+    (own_positions c.args.parts.now c.loop-place.place c.index-parts-place.result c.as_slice.result.now (omega arith) c.index-parts-place.is
+    c.as_slice.ensures.value)
 
 pub put_part-at-requires-clause-short : goal.put_part-at-requires-clause-short
 put_part-at-requires-clause-short c =
-    let sized = length-map c.args.parts.now (λ (part : Vec ℕ). part.items) in
-    let kept : c.loop-place.place < length c.args.parts.now = omega arith in
-    let inside : c.loop-place.place < length (lists_of c.args.parts.now) = omega arith in
-    let own = own_part c.args.parts.now c.loop-place.place c.index-parts-place.result kept c.index-parts-place.is in
-    let same : c.as_slice.result.now ≡ get_or (lists_of c.args.parts.now) c.loop-place.place [] = c.as_slice.ensures.value ∙ own in
-    rw same (c.requires.short c.loop-place.place [] inside)
+    part_short _ c.args.parts.now c.loop-place.place c.as_slice.result.now c.requires (omega arith)
+    (own_positions c.args.parts.now c.loop-place.place c.index-parts-place.result c.as_slice.result.now (omega arith) c.index-parts-place.is
+    c.as_slice.ensures.value)
 
 pub loop-place-preserved : goal.loop-place-preserved
 loop-place-preserved c =
-    let sized = length-map c.args.parts.now (λ (part : Vec ℕ). part.items) in
     let kept : c.loop-place.place < length c.args.parts.now = omega arith in
-    let inside : c.loop-place.place < length (lists_of c.args.parts.now) = omega arith in
-    let own = own_part c.args.parts.now c.loop-place.place c.index-parts-place.result kept c.index-parts-place.is in
-    let same : c.as_slice.result.now ≡ get_or (lists_of c.args.parts.now) c.loop-place.place [] = c.as_slice.ensures.value ∙ own in
+    let inside = inside_lists c.args.parts.now c.loop-place.place kept in
+    let same : c.as_slice.result.now ≡ get_or (lists_of c.args.parts.now) c.loop-place.place [] =
+    own_positions c.args.parts.now c.loop-place.place c.index-parts-place.result c.as_slice.result.now kept c.index-parts-place.is
+    c.as_slice.ensures.value in
     let long = ap length same in
     let more = flat_step (lists_of c.args.parts.now) c.loop-place.place inside in
     let mark = length-mark_before c.loop-place.place 47 in (

@@ -1,4 +1,4 @@
-use Rattle.std.proofs.Common.{◌≡◌, ◌+◌, ◌<◌, length, take, get_or, arith}
+use Rattle.std.proofs.Common.{◌+◌, ◌<◌, length, take, get_or, arith}
 use Rattle.std.proofs.lemmas.List.{take_more}
 use Rattle.part_layout.proofs.RunLemmas.{range_pushed}
 use Rattle.part_layout.proofs.word_runs.run_of.Goals as goal

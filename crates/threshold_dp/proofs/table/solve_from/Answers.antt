@@ -23,8 +23,7 @@ loop-part-init g c =
 
 pub add_part-requires-clause-bound : goal.add_part-requires-clause-bound
 add_part-requires-clause-bound g c = λ units less.
-    let left = c.args.parts - c.loop-part.part in
-    let number = rows_number (length c.args.asked.now) left (drop (c.loop-part.part * length c.args.asked.now) c.loop-part.picks) in
+    let number = rows_number (length c.args.asked.now) (c.args.parts - c.loop-part.part) (drop (c.loop-part.part * length c.args.asked.now) c.loop-part.picks) in
     let inside = c.read_counts-in-loop-part.auto.asked ∙ c.loop-part.auto.asked in
     omega (arith, c.loop-part.invariant.3.bound units (omega (arith, inside)))
 
@@ -35,7 +34,6 @@ loop-part-preserved g c =
     let span = part * width + width - part * width in
     let wide : span ≡ width = omega arith in
     let row = c.add_part.new.picks in
-    let kept = c.loop-part.invariant.2 in
     let within = c.loop-part.invariant.0 in
     let room = c.requires.room in
     let asked : length c.loop-part.asked ≡ width = c.loop-part.auto.asked ∙ c.read_counts.auto.asked in
@@ -47,7 +45,7 @@ loop-part-preserved g c =
     (c.read_counts-in-loop-part.auto.asked ∙ asked) c.add_part.ensures.row in (
       omega arith,
       omega arith,
-      written_size c.loop-part.picks row width c.args.parts part span wide (omega arith) c.requires.wide size (omega arith) ∙ kept,
+      written_size c.loop-part.picks row width c.args.parts part span wide (omega arith) c.requires.wide size (omega arith) ∙ c.loop-part.invariant.2,
       solved_next c.loop-part.picks row width c.args.parts part span wide (omega arith) c.requires.wide size (omega arith)
           (g.C.PartCounts.counts c.args.counts.now) c.loop-part.part c.read_counts-in-loop-part.new.asked c.loop-part.costs
           c.add_part.new.costs (omega arith) asks c.loop-part.invariant.3 is_row,
@@ -55,9 +53,8 @@ loop-part-preserved g c =
 
 pub returns : goal.returns
 returns g c =
-    let end : c.loop-part.part ≡ c.args.first = omega arith in
-    let width = length c.args.asked.now in
+    let asked = length c.args.asked.now in
     record {
       solved = subst (λ n. IsSolved (g.C.PartCounts.counts c.args.counts.now) n
-          (pick_rows width (c.args.parts - n) (drop (n * width) c.loop-part.picks)) c.loop-part.costs width) end c.loop-part.invariant.3;
+          (pick_rows asked (c.args.parts - n) (drop (n * asked) c.loop-part.picks)) c.loop-part.costs asked) (omega arith) c.loop-part.invariant.3;
     }

@@ -33,5 +33,4 @@ returns-in_default-runs_of-clause-memory c =
 
 pub returns-clause-cut : goal.returns-clause-cut
 returns-clause-cut c =
-    let narrow = cut_narrow c.args.bits c.args.parts (omega arith) (omega arith) in
-    can_cut c.args.bits c.args.parts (omega arith) (omega arith) (omega arith) narrow
+    can_cut c.args.bits c.args.parts (omega arith) (omega arith) (omega arith) (cut_narrow c.args.bits c.args.parts (omega arith) (omega arith))

@@ -47,17 +47,10 @@ returns-clause-syntax c = λ at. syntax_apart c.args.text.now at _ refl c.in_def
 
 pub invariant_of-result : goal.invariant_of-result
 invariant_of-result c =
-    let left = rest_of_text c.args.text.now c.in_default.ensures in
+    let same = c.in-Ok.ensures ∙ (rest_of_text c.args.text.now c.in_default.ensures).1 in
     let some = spelled_some c.args.text.now in
-    let same = c.in-Ok.ensures ∙ left.1 in
-    record {
-      is_laid =
-          record {
-            allowed = c.requires;
-            layout = rw same (laid_of_faultless c.args.bits (spelled c.args.text.now) some.0 some.1 (search rules));
-          };
-      runs_are = search rules;
-    }
+    let laid = laid_of_faultless c.args.bits (spelled c.args.text.now) some.0 some.1 (search rules) in
+    record { is_laid = record { allowed = c.requires; layout = rw same laid }; runs_are = search rules }
 
 pub returns-in-Some-clause-memory : goal.returns-in-Some-clause-memory
 returns-in-Some-clause-memory c =

@@ -30,12 +30,9 @@ returns-in_default-remove_from-clause-unchanged g c =
 pub invariant_of-self-2 : goal.invariant_of-self-2
 invariant_of-self-2 g c =
     let changed = bucket_of_value c.self.invariant c.self.view_is c.requires c.index_mut.ensures.value in
+    let lent = list_lent (bucket_of_value c.self.invariant c.self.view_is c.requires c.index.ensures) c.deref.result.now c.deref.ensures in
     let at : key_at (get_or (arc_value c.index_mut.result.now) (c.args.value / 256) []) c.in-Some.place c.args.key =
-    rw (
-      own_list changed,
-      ← list_lent (bucket_of_value c.self.invariant c.self.view_is c.requires c.index.ensures) c.deref.result.now
-          c.deref.ensures,
-    ) c.in-Some.ensures in
+    rw (own_list changed, ← lent) c.in-Some.ensures in
     let fewer = loses_one c.args.key _ _ (c.in-Ok.ensures.lost.of c.args.key at) in
     kept_changed changed c.remove_from.new.bucket (get_or (arc_value c.remove_from.new.bucket) (c.args.value / 256) []) c.remove_from.ensures.others
     (omega (arith, fewer, own_short changed))
@@ -49,12 +46,9 @@ returns-clause-found g c =
 pub returns-clause-removed : goal.returns-clause-removed
 returns-clause-removed g c = λ _.
     let changed = bucket_of_value c.self.invariant c.self.view_is c.requires c.index_mut.ensures.value in
+    let lent = list_lent (bucket_of_value c.self.invariant c.self.view_is c.requires c.index.ensures) c.deref.result.now c.deref.ensures in
     let at : key_at (get_or (arc_value c.index_mut.result.now) (c.args.value / 256) []) c.in-Some.place c.args.key =
-    rw (
-      own_list changed,
-      ← list_lent (bucket_of_value c.self.invariant c.self.view_is c.requires c.index.ensures) c.deref.result.now
-          c.deref.ensures,
-    ) c.in-Some.ensures in
+    rw (own_list changed, ← lent) c.in-Some.ensures in
     list_told changed c.remove_from.new.bucket (get_or (arc_value c.remove_from.new.bucket) (c.args.value / 256) []) c.remove_from.ensures.others
     (Loses c.args.key) (c.in-Ok.ensures.lost.of c.args.key at)
 

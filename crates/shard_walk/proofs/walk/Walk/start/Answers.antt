@@ -43,7 +43,6 @@ returns-clause-values g c =
     let begun = ap (values_left c.args.plan.now) c.at_part.ensures.part
     ∙ begun_values c.args.plan.now 0 c.parts.ensures.plan.choice.vector.size
     c.parts.ensures.plan.version.laid.layout.some_part in
-    let p = c.args.plan.now in
-    let few = values_few c.flips_make_rings.ensures.balls p.version.contents.layout.bits (planned_query p) c.parts.ensures.plan.query.is_code
-    c.ball_sums_add_up.ensures (parts_of p) p.thresholds in
+    let few = values_few c.flips_make_rings.ensures.balls c.args.plan.now.version.contents.layout.bits (planned_query c.args.plan.now)
+    c.parts.ensures.plan.query.is_code c.ball_sums_add_up.ensures (parts_of c.args.plan.now) c.args.plan.now.thresholds in
     omega (arith, begun)
