@@ -9,6 +9,7 @@ pub mod GiveLemmas
 pub mod GrownLemmas
 pub mod HeldLemmas
 pub mod OpenLemmas
+pub mod PinCallLemmas
 pub mod PinLemmas
 pub mod PinnedLemmas
 pub mod PlaceLemmas

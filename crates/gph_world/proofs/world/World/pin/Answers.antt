@@ -1,5 +1,5 @@
 -- A shard is pinned by a query that goes on.
-use Rattle.std.proofs.Common.{◌≡◌, ◌+◌, ◌<◌, ◌≤◌, inr, length, get_or, sym, ap, subst, ◌∙◌, arith}
+use Rattle.std.proofs.Common.{◌≡◌, ◌+◌, ◌<◌, ◌≤◌, length, sym, ap, subst, ◌∙◌, arith, rules}
 use Rattle.std.specs.Prelude.{Err, Ok, slice_set}
 use Rattle.world_model.specs.declared.refused.Refused.TheVariants.{NoMemory}
 use Rattle.world_model.specs.declared.told.Told.TheVariants as told
@@ -9,13 +9,12 @@ use Rattle.gph_world.specs.Behind.{entries_behind}
 use Rattle.world_parts.specs.Pinned.{missing}
 use Rattle.gph_world.specs.Seen.{setting_seen, state_seen}
 use Rattle.gph_world.specs.Worlds.{WorldView}
-use Rattle.world_parts.specs.declared.held.Held.{Held}
-use Rattle.gph_world.proofs.AdvanceLemmas.{may_come, steps_behind}
-use Rattle.world_parts.proofs.ListLemmas.{found_there, two_found}
-use Rattle.gph_world.proofs.HeldLemmas.{front_is_live}
-use Rattle.gph_world.proofs.PinLemmas.{bring_lacks, front_open, has_come, lacks_keeps, may_open}
+use Rattle.gph_world.proofs.AdvanceLemmas.{may_come}
+use Rattle.world_parts.proofs.ListLemmas.{found_there}
+use Rattle.gph_world.proofs.PinCallLemmas.{found_behind, found_lacks_keeps, found_lacks_step, found_may, found_pins_keeps}
+use Rattle.gph_world.proofs.PinCallLemmas.{found_pins_setting, found_pins_step}
+use Rattle.gph_world.proofs.PinLemmas.{bring_lacks, front_open, lacks_keeps}
 use Rattle.gph_world.proofs.PinLemmas.{pin_found, pin_free, pinned_step, pins_are, pins_few, version_comes}
-use Rattle.gph_world.proofs.PinnedLemmas.{lacks_step, pin_keeps, pin_setting, pin_step, same_keeps}
 use Rattle.gph_world.proofs.world.World.pin.Goals as goal
 
 pub index-requires : goal.index-requires
@@ -136,221 +135,100 @@ returns-in_default-bring-clause-step g c =
 pub returns-in_default-bring-clause-bound : goal.returns-in_default-bring-clause-bound
 returns-in_default-bring-clause-bound g c =
     let i = c.self.inside in
-    let below : c.args.shard < length i.places.items = omega (arith, c.if-place-len.false, c.len.ensures, i.places.ok.0) in
-    let low : c.args.query < length i.queries.items = omega (arith, c.if-number-len.false, c.len-2.ensures, i.queries.ok.0) in
-    let held = c.index-held.result.now in
-    let there = found_there i.queries.items c.args.query held low c.index-held.ensures in
-    let place = c.index_mut.result.now in
-    let stands = found_there i.places.items c.args.shard place below c.index_mut.ensures.value in
     subst (λ (w : WorldView). c.bring.new.steps ≤ c.args.upkeep.now + entries_behind w.state c.args.query c.args.shard) c.self.view_is
-    (steps_behind i.bits i.room i.journal i.places.items i.queries.items c.self.invariant c.args.query held there c.in-Some.front c.in-Some.is
-    c.args.shard place stands
+    (found_behind i.bits i.room i.journal i.places.items i.queries.items c.self.invariant c.args.query c.args.shard
+    (omega (arith, c.if-number-len.false, c.len-2.ensures, i.queries.ok.0)) (omega (arith, c.if-place-len.false, c.len.ensures, i.places.ok.0))
+    c.index-held.result.now c.index-held.ensures c.in-Some.front c.in-Some.is c.index_mut.result.now c.index_mut.ensures.value
     c.args.upkeep.now c.bring.new.steps c.bring.ensures.bound)
 
 pub pin_held-requires : goal.pin_held-requires
 pin_held-requires g c =
     let i = c.self.inside in
-    let below : c.args.shard < length i.places.items = omega (arith, c.if-place-len.false, c.len.ensures, i.places.ok.0) in
-    let low : c.args.query < length i.queries.items = omega (arith, c.if-number-len.false, c.len-2.ensures, i.queries.ok.0) in
-    let held = c.index_mut-held.result.now in
-    let there = found_there i.queries.items c.args.query held low c.index_mut-held.ensures.value in
-    let same = two_found i.queries.items c.args.query c.index-held.result.now held low c.index-held.ensures c.index_mut-held.ensures.value in
-    let goes_on = ap (λ (each : Held g.row.W). each.cancelled) (sym same) ∙ c.if-held.false in
-    let is_open = ap (λ (each : Held g.row.W). each.front) (sym same) ∙ c.in-Some.is in
-    let free = pin_free i.bits i.room i.journal i.places.items i.queries.items c.self.invariant c.args.query held there c.args.shard below goes_on
-    c.index.result.now (subst (λ (each : Held g.row.W). c.index.result.now ≡ get_or each.pins.items c.args.shard c.index.result.now) same c.index.ensures)
-    (sym c.is_some.ensures ∙ c.if-is_some.false) in
-    let place = c.index_mut.result.now in
-    let stands = found_there i.places.items c.args.shard place below c.index_mut.ensures.value in (
-      omega (arith, c.self.invariant.few_words),
-      (
-        omega (arith, c.self.invariant.few_words),
-        (
-          omega arith,
-          (
-            c.self.invariant.few_words,
-            (
-              c.self.invariant.some_room,
-              (
-                c.self.invariant.small_room,
-                (
-                  pins_few i.bits i.room i.journal i.places.items i.queries.items c.self.invariant c.args.query held there c.args.shard below goes_on,
-                  (
-                    front_is_live i.bits i.room i.journal i.places.items i.queries.items c.self.invariant c.args.query held there,
-                    (
-                      free,
-                      may_open i.bits i.room i.journal i.places.items i.queries.items c.self.invariant c.args.query held there c.args.shard
-                          below goes_on free c.in-Some.front is_open place stands c.bring.new.place c.in-Ok.ensures.came c.in-Ok.version
-                          c.in-Ok.ensures.version,
-                    ),
-                  ),
-                ),
-              ),
-            ),
-          ),
-        ),
-      ),
-    )
+    let k = c.self.invariant in
+    let may = found_may i.bits i.room i.journal i.places.items i.queries.items c.self.invariant c.args.query c.args.shard
+    (omega (arith, c.if-number-len.false, c.len-2.ensures, i.queries.ok.0)) (omega (arith, c.if-place-len.false, c.len.ensures, i.places.ok.0))
+    c.index-held.result.now c.index-held.ensures c.in-Some.front c.in-Some.is c.index_mut.result.now c.index_mut.ensures.value
+    c.if-held.false c.index.result.now c.index.ensures (sym c.is_some.ensures ∙ c.if-is_some.false) c.bring.new.place c.in-Ok.ensures.came
+    c.in-Ok.version c.in-Ok.ensures.version c.index_mut-held.result.now c.index_mut-held.ensures.value in
+    (search rules, (search rules, (search rules, (k.few_words, (k.some_room, (k.small_room, may))))))
 
 pub invariant_of-self-in_default-pin_held : goal.invariant_of-self-in_default-pin_held
 invariant_of-self-in_default-pin_held g c =
     let i = c.self.inside in
-    let below : c.args.shard < length i.places.items = omega (arith, c.if-place-len.false, c.len.ensures, i.places.ok.0) in
-    let low : c.args.query < length i.queries.items = omega (arith, c.if-number-len.false, c.len-2.ensures, i.queries.ok.0) in
-    let held = c.index_mut-held.result.now in
-    let there = found_there i.queries.items c.args.query held low c.index_mut-held.ensures.value in
-    let same = two_found i.queries.items c.args.query c.index-held.result.now held low c.index-held.ensures c.index_mut-held.ensures.value in
-    let goes_on = ap (λ (each : Held g.row.W). each.cancelled) (sym same) ∙ c.if-held.false in
-    let is_open = ap (λ (each : Held g.row.W). each.front) (sym same) ∙ c.in-Some.is in
-    let free = pin_free i.bits i.room i.journal i.places.items i.queries.items c.self.invariant c.args.query held there c.args.shard below goes_on
-    c.index.result.now (subst (λ (each : Held g.row.W). c.index.result.now ≡ get_or each.pins.items c.args.shard c.index.result.now) same c.index.ensures)
-    (sym c.is_some.ensures ∙ c.if-is_some.false) in
-    let place = c.index_mut.result.now in
-    let stands = found_there i.places.items c.args.shard place below c.index_mut.ensures.value in
-    let new = c.bring.new.place in
-    let come = has_come i.bits i.room i.journal i.places.items i.queries.items c.self.invariant c.args.query held there c.args.shard below goes_on
-    free c.in-Some.front is_open
-    place stands new c.in-Ok.ensures.came c.in-Ok.version c.in-Ok.ensures.version in
-    let mid = lacks_keeps i.bits i.room i.journal i.places.items i.queries.items c.self.invariant c.args.query held there c.args.shard below goes_on
-    free c.in-Some.front is_open
-    place stands new (inr c.in-Ok.ensures.came) in
-    same_keeps i.bits i.room i.journal i.places.items i.queries.items c.self.invariant c.args.query held there c.args.shard new c.in-Ok.version come mid
-    c.pin_held.new.journal c.pin_held.new.held c.in_default-pin_held.ensures.journal c.in_default-pin_held.ensures.held
+    found_lacks_keeps i.bits i.room i.journal i.places.items i.queries.items c.self.invariant c.args.query c.args.shard
+    (omega (arith, c.if-number-len.false, c.len-2.ensures, i.queries.ok.0)) (omega (arith, c.if-place-len.false, c.len.ensures, i.places.ok.0))
+    c.index-held.result.now c.index-held.ensures c.in-Some.front c.in-Some.is c.index_mut.result.now c.index_mut.ensures.value
+    c.if-held.false c.index.result.now c.index.ensures (sym c.is_some.ensures ∙ c.if-is_some.false) c.bring.new.place c.in-Ok.ensures.came
+    c.in-Ok.version c.in-Ok.ensures.version c.index_mut-held.result.now c.index_mut-held.ensures.value
+    c.pin_held.new.journal c.pin_held.new.held
+    c.in_default-pin_held.ensures.journal c.in_default-pin_held.ensures.held
 
 pub returns-in_default-pin_held-clause-step : goal.returns-in_default-pin_held-clause-step
 returns-in_default-pin_held-clause-step g c =
     let i = c.self.inside in
-    let below : c.args.shard < length i.places.items = omega (arith, c.if-place-len.false, c.len.ensures, i.places.ok.0) in
-    let low : c.args.query < length i.queries.items = omega (arith, c.if-number-len.false, c.len-2.ensures, i.queries.ok.0) in
-    let held = c.index_mut-held.result.now in
-    let there = found_there i.queries.items c.args.query held low c.index_mut-held.ensures.value in
-    let same = two_found i.queries.items c.args.query c.index-held.result.now held low c.index-held.ensures c.index_mut-held.ensures.value in
-    let goes_on = ap (λ (each : Held g.row.W). each.cancelled) (sym same) ∙ c.if-held.false in
-    let is_open = ap (λ (each : Held g.row.W). each.front) (sym same) ∙ c.in-Some.is in
-    let free = pin_free i.bits i.room i.journal i.places.items i.queries.items c.self.invariant c.args.query held there c.args.shard below goes_on
-    c.index.result.now (subst (λ (each : Held g.row.W). c.index.result.now ≡ get_or each.pins.items c.args.shard c.index.result.now) same c.index.ensures)
-    (sym c.is_some.ensures ∙ c.if-is_some.false) in
-    let place = c.index_mut.result.now in
-    let stands = found_there i.places.items c.args.shard place below c.index_mut.ensures.value in
-    let new = c.bring.new.place in
-    let come = has_come i.bits i.room i.journal i.places.items i.queries.items c.self.invariant c.args.query held there c.args.shard below goes_on
-    free c.in-Some.front is_open
-    place stands new c.in-Ok.ensures.came c.in-Ok.version c.in-Ok.ensures.version in
-    let mid = lacks_keeps i.bits i.room i.journal i.places.items i.queries.items c.self.invariant c.args.query held there c.args.shard below goes_on
-    free c.in-Some.front is_open
-    place stands new (inr c.in-Ok.ensures.came) in
     subst (λ (w : WorldView). WorldStep w.setting w.state (Pin c.args.query c.args.shard) (Err NoMemory)
     (state_seen i.bits c.pin_held.new.journal (slice_set i.places.items c.args.shard c.bring.new.place)
     (slice_set i.queries.items c.args.query c.pin_held.new.held))) c.self.view_is
-    (lacks_step i.bits i.room i.journal i.places.items i.queries.items c.self.invariant c.args.query held there c.args.shard new c.in-Ok.version come mid
-    c.pin_held.new.journal c.pin_held.new.held c.in_default-pin_held.ensures.journal c.in_default-pin_held.ensures.held
-    (bring_lacks i.bits i.room i.journal i.places.items i.queries.items c.self.invariant c.args.query held there c.args.shard below goes_on free
-    c.in-Some.front is_open
-    place stands new (inr c.in-Ok.ensures.came)))
+    (found_lacks_step i.bits i.room i.journal i.places.items i.queries.items c.self.invariant c.args.query c.args.shard
+    (omega (arith, c.if-number-len.false, c.len-2.ensures, i.queries.ok.0)) (omega (arith, c.if-place-len.false, c.len.ensures, i.places.ok.0))
+    c.index-held.result.now c.index-held.ensures c.in-Some.front c.in-Some.is c.index_mut.result.now c.index_mut.ensures.value
+    c.if-held.false c.index.result.now c.index.ensures (sym c.is_some.ensures ∙ c.if-is_some.false) c.bring.new.place c.in-Ok.ensures.came
+    c.in-Ok.version c.in-Ok.ensures.version c.index_mut-held.result.now c.index_mut-held.ensures.value
+    c.pin_held.new.journal c.pin_held.new.held
+    c.in_default-pin_held.ensures.journal c.in_default-pin_held.ensures.held)
 
 pub returns-in_default-pin_held-clause-bound : goal.returns-in_default-pin_held-clause-bound
 returns-in_default-pin_held-clause-bound g c =
     let i = c.self.inside in
-    let below : c.args.shard < length i.places.items = omega (arith, c.if-place-len.false, c.len.ensures, i.places.ok.0) in
-    let low : c.args.query < length i.queries.items = omega (arith, c.if-number-len.false, c.len-2.ensures, i.queries.ok.0) in
-    let held = c.index-held.result.now in
-    let there = found_there i.queries.items c.args.query held low c.index-held.ensures in
-    let place = c.index_mut.result.now in
-    let stands = found_there i.places.items c.args.shard place below c.index_mut.ensures.value in
     subst (λ (w : WorldView). c.bring.new.steps ≤ c.args.upkeep.now + entries_behind w.state c.args.query c.args.shard) c.self.view_is
-    (steps_behind i.bits i.room i.journal i.places.items i.queries.items c.self.invariant c.args.query held there c.in-Some.front c.in-Some.is
-    c.args.shard place stands
+    (found_behind i.bits i.room i.journal i.places.items i.queries.items c.self.invariant c.args.query c.args.shard
+    (omega (arith, c.if-number-len.false, c.len-2.ensures, i.queries.ok.0)) (omega (arith, c.if-place-len.false, c.len.ensures, i.places.ok.0))
+    c.index-held.result.now c.index-held.ensures c.in-Some.front c.in-Some.is c.index_mut.result.now c.index_mut.ensures.value
     c.args.upkeep.now c.bring.new.steps c.bring.ensures.bound)
 
 pub invariant_of-self-2 : goal.invariant_of-self-2
 invariant_of-self-2 g c =
     let i = c.self.inside in
-    let below : c.args.shard < length i.places.items = omega (arith, c.if-place-len.false, c.len.ensures, i.places.ok.0) in
-    let low : c.args.query < length i.queries.items = omega (arith, c.if-number-len.false, c.len-2.ensures, i.queries.ok.0) in
-    let held = c.index_mut-held.result.now in
-    let there = found_there i.queries.items c.args.query held low c.index_mut-held.ensures.value in
-    let same = two_found i.queries.items c.args.query c.index-held.result.now held low c.index-held.ensures c.index_mut-held.ensures.value in
-    let goes_on = ap (λ (each : Held g.row.W). each.cancelled) (sym same) ∙ c.if-held.false in
-    let is_open = ap (λ (each : Held g.row.W). each.front) (sym same) ∙ c.in-Some.is in
-    let free = pin_free i.bits i.room i.journal i.places.items i.queries.items c.self.invariant c.args.query held there c.args.shard below goes_on
-    c.index.result.now (subst (λ (each : Held g.row.W). c.index.result.now ≡ get_or each.pins.items c.args.shard c.index.result.now) same c.index.ensures)
-    (sym c.is_some.ensures ∙ c.if-is_some.false) in
-    let place = c.index_mut.result.now in
-    let stands = found_there i.places.items c.args.shard place below c.index_mut.ensures.value in
-    let new = c.bring.new.place in
-    let come = has_come i.bits i.room i.journal i.places.items i.queries.items c.self.invariant c.args.query held there c.args.shard below goes_on
-    free c.in-Some.front is_open
-    place stands new c.in-Ok.ensures.came c.in-Ok.version c.in-Ok.ensures.version in
-    let mid = lacks_keeps i.bits i.room i.journal i.places.items i.queries.items c.self.invariant c.args.query held there c.args.shard below goes_on
-    free c.in-Some.front is_open
-    place stands new (inr c.in-Ok.ensures.came) in
-    pin_keeps i.bits i.room i.journal i.places.items i.queries.items c.self.invariant c.args.query held there c.args.shard new c.in-Ok.version come mid
-    c.pin_held.new.journal c.pin_held.new.held c.in-Ok-pin_held.ensures.pins
+    found_pins_keeps i.bits i.room i.journal i.places.items i.queries.items c.self.invariant c.args.query c.args.shard
+    (omega (arith, c.if-number-len.false, c.len-2.ensures, i.queries.ok.0)) (omega (arith, c.if-place-len.false, c.len.ensures, i.places.ok.0))
+    c.index-held.result.now c.index-held.ensures c.in-Some.front c.in-Some.is c.index_mut.result.now c.index_mut.ensures.value
+    c.if-held.false c.index.result.now c.index.ensures (sym c.is_some.ensures ∙ c.if-is_some.false) c.bring.new.place c.in-Ok.ensures.came
+    c.in-Ok.version c.in-Ok.ensures.version c.index_mut-held.result.now c.index_mut-held.ensures.value
+    c.pin_held.new.journal c.pin_held.new.held
+    c.in-Ok-pin_held.ensures.pins
 
 pub returns-clause-setting : goal.returns-clause-setting
 returns-clause-setting g c =
     let i = c.self.inside in
-    let below : c.args.shard < length i.places.items = omega (arith, c.if-place-len.false, c.len.ensures, i.places.ok.0) in
-    let low : c.args.query < length i.queries.items = omega (arith, c.if-number-len.false, c.len-2.ensures, i.queries.ok.0) in
-    let held = c.index_mut-held.result.now in
-    let there = found_there i.queries.items c.args.query held low c.index_mut-held.ensures.value in
-    let same = two_found i.queries.items c.args.query c.index-held.result.now held low c.index-held.ensures c.index_mut-held.ensures.value in
-    let goes_on = ap (λ (each : Held g.row.W). each.cancelled) (sym same) ∙ c.if-held.false in
-    let is_open = ap (λ (each : Held g.row.W). each.front) (sym same) ∙ c.in-Some.is in
-    let free = pin_free i.bits i.room i.journal i.places.items i.queries.items c.self.invariant c.args.query held there c.args.shard below goes_on
-    c.index.result.now (subst (λ (each : Held g.row.W). c.index.result.now ≡ get_or each.pins.items c.args.shard c.index.result.now) same c.index.ensures)
-    (sym c.is_some.ensures ∙ c.if-is_some.false) in
-    let place = c.index_mut.result.now in
-    let stands = found_there i.places.items c.args.shard place below c.index_mut.ensures.value in
-    let new = c.bring.new.place in
-    let come = has_come i.bits i.room i.journal i.places.items i.queries.items c.self.invariant c.args.query held there c.args.shard below goes_on
-    free c.in-Some.front is_open
-    place stands new c.in-Ok.ensures.came c.in-Ok.version c.in-Ok.ensures.version in
-    let mid = lacks_keeps i.bits i.room i.journal i.places.items i.queries.items c.self.invariant c.args.query held there c.args.shard below goes_on
-    free c.in-Some.front is_open
-    place stands new (inr c.in-Ok.ensures.came) in
-    subst (λ (w : WorldView). setting_seen i.bits i.room c.pin_held.new.journal (slice_set i.places.items c.args.shard new) ≡ w.setting) c.self.view_is
-    (pin_setting i.bits i.room i.journal i.places.items i.queries.items c.self.invariant c.args.query held there c.args.shard new c.in-Ok.version come mid
-    c.pin_held.new.journal c.pin_held.new.held c.in-Ok-pin_held.ensures.pins)
+    subst (λ (w : WorldView). setting_seen i.bits i.room c.pin_held.new.journal (slice_set i.places.items c.args.shard c.bring.new.place) ≡ w.setting)
+    c.self.view_is
+    (found_pins_setting i.bits i.room i.journal i.places.items i.queries.items c.self.invariant c.args.query c.args.shard
+    (omega (arith, c.if-number-len.false, c.len-2.ensures, i.queries.ok.0)) (omega (arith, c.if-place-len.false, c.len.ensures, i.places.ok.0))
+    c.index-held.result.now c.index-held.ensures c.in-Some.front c.in-Some.is c.index_mut.result.now c.index_mut.ensures.value
+    c.if-held.false c.index.result.now c.index.ensures (sym c.is_some.ensures ∙ c.if-is_some.false) c.bring.new.place c.in-Ok.ensures.came
+    c.in-Ok.version c.in-Ok.ensures.version c.index_mut-held.result.now c.index_mut-held.ensures.value
+    c.pin_held.new.journal c.pin_held.new.held
+    c.in-Ok-pin_held.ensures.pins)
 
 pub returns-clause-step : goal.returns-clause-step
 returns-clause-step g c =
     let i = c.self.inside in
-    let below : c.args.shard < length i.places.items = omega (arith, c.if-place-len.false, c.len.ensures, i.places.ok.0) in
-    let low : c.args.query < length i.queries.items = omega (arith, c.if-number-len.false, c.len-2.ensures, i.queries.ok.0) in
-    let held = c.index_mut-held.result.now in
-    let there = found_there i.queries.items c.args.query held low c.index_mut-held.ensures.value in
-    let same = two_found i.queries.items c.args.query c.index-held.result.now held low c.index-held.ensures c.index_mut-held.ensures.value in
-    let goes_on = ap (λ (each : Held g.row.W). each.cancelled) (sym same) ∙ c.if-held.false in
-    let is_open = ap (λ (each : Held g.row.W). each.front) (sym same) ∙ c.in-Some.is in
-    let free = pin_free i.bits i.room i.journal i.places.items i.queries.items c.self.invariant c.args.query held there c.args.shard below goes_on
-    c.index.result.now (subst (λ (each : Held g.row.W). c.index.result.now ≡ get_or each.pins.items c.args.shard c.index.result.now) same c.index.ensures)
-    (sym c.is_some.ensures ∙ c.if-is_some.false) in
-    let place = c.index_mut.result.now in
-    let stands = found_there i.places.items c.args.shard place below c.index_mut.ensures.value in
-    let new = c.bring.new.place in
-    let come = has_come i.bits i.room i.journal i.places.items i.queries.items c.self.invariant c.args.query held there c.args.shard below goes_on
-    free c.in-Some.front is_open
-    place stands new c.in-Ok.ensures.came c.in-Ok.version c.in-Ok.ensures.version in
-    let mid = lacks_keeps i.bits i.room i.journal i.places.items i.queries.items c.self.invariant c.args.query held there c.args.shard below goes_on
-    free c.in-Some.front is_open
-    place stands new (inr c.in-Ok.ensures.came) in
     subst (λ (w : WorldView). WorldStep w.setting w.state (Pin c.args.query c.args.shard) (Ok (told.Pinned c.in-Ok-pin_held.left))
     (state_seen i.bits c.pin_held.new.journal (slice_set i.places.items c.args.shard c.bring.new.place)
     (slice_set i.queries.items c.args.query c.pin_held.new.held))) c.self.view_is
-    (pin_step i.bits i.room i.journal i.places.items i.queries.items c.self.invariant c.args.query held there c.args.shard new c.in-Ok.version come mid
-    c.pin_held.new.journal c.pin_held.new.held c.in-Ok-pin_held.ensures.pins c.in-Ok-pin_held.left c.in-Ok-pin_held.ensures.left)
+    (found_pins_step i.bits i.room i.journal i.places.items i.queries.items c.self.invariant c.args.query c.args.shard
+    (omega (arith, c.if-number-len.false, c.len-2.ensures, i.queries.ok.0)) (omega (arith, c.if-place-len.false, c.len.ensures, i.places.ok.0))
+    c.index-held.result.now c.index-held.ensures c.in-Some.front c.in-Some.is c.index_mut.result.now c.index_mut.ensures.value
+    c.if-held.false c.index.result.now c.index.ensures (sym c.is_some.ensures ∙ c.if-is_some.false) c.bring.new.place c.in-Ok.ensures.came
+    c.in-Ok.version c.in-Ok.ensures.version c.index_mut-held.result.now c.index_mut-held.ensures.value
+    c.pin_held.new.journal c.pin_held.new.held
+    c.in-Ok-pin_held.ensures.pins c.in-Ok-pin_held.left c.in-Ok-pin_held.ensures.left)
 
 pub returns-clause-bound : goal.returns-clause-bound
 returns-clause-bound g c =
     let i = c.self.inside in
-    let below : c.args.shard < length i.places.items = omega (arith, c.if-place-len.false, c.len.ensures, i.places.ok.0) in
-    let low : c.args.query < length i.queries.items = omega (arith, c.if-number-len.false, c.len-2.ensures, i.queries.ok.0) in
-    let held = c.index-held.result.now in
-    let there = found_there i.queries.items c.args.query held low c.index-held.ensures in
-    let place = c.index_mut.result.now in
-    let stands = found_there i.places.items c.args.shard place below c.index_mut.ensures.value in
     subst (λ (w : WorldView). c.bring.new.steps ≤ c.args.upkeep.now + entries_behind w.state c.args.query c.args.shard) c.self.view_is
-    (steps_behind i.bits i.room i.journal i.places.items i.queries.items c.self.invariant c.args.query held there c.in-Some.front c.in-Some.is
-    c.args.shard place stands
+    (found_behind i.bits i.room i.journal i.places.items i.queries.items c.self.invariant c.args.query c.args.shard
+    (omega (arith, c.if-number-len.false, c.len-2.ensures, i.queries.ok.0)) (omega (arith, c.if-place-len.false, c.len.ensures, i.places.ok.0))
+    c.index-held.result.now c.index-held.ensures c.in-Some.front c.in-Some.is c.index_mut.result.now c.index_mut.ensures.value
     c.args.upkeep.now c.bring.new.steps c.bring.ensures.bound)
