@@ -1,5 +1,5 @@
 ghost use Rattle.std.specs.Prelude.{◌≡◌};
-ghost use Rattle.trace_lines.specs.EventRequests.{IsFit, event_of};
+ghost use Rattle.trace_lines.specs.EventRequests.{IsFitEvent, event_of};
 ghost use Rattle.world_model.specs.Events.{Setting};
 ghost use Rattle.world_model.specs.WorldState.{WorldState};
 ghost use Rattle.world_model.specs.WorldStep.{WorldStep};
@@ -24,7 +24,7 @@ pub trait MeetsEvents<const W: usize> {
         upkeep: &mut Steps<M>,
         meters: &mut Meters<L>,
     ) -> Result<Told, Refused>
-        requires fit { IsFit W (setting self.old).bits request }
+        requires fit { IsFitEvent W (setting self.old).bits request }
         ensures setting { setting self.new ≡ setting self.old }
         ensures step { WorldStep (setting self.old) (state self.old)
             (event_of (setting self.old).bits request.entry) result (state self.new) }
