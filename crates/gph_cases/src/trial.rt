@@ -106,8 +106,8 @@ pub(crate) type Row = (&'static str, &'static str, &'static [u8], &'static [u8])
 pub(crate) fn compare_all<R: Abort + Env + Threads + Sync>(rt: &R, alloc: Global, table: &[Row])
     requires sync { IsSync R.row }
 {
-    for &(about, words, input, output) in table {
-        compare_pieces(rt, alloc, about, words, input, output, Outcome::Done);
+    for row in table {
+        compare_pieces(rt, alloc, row.0, row.1, row.2, row.3, Outcome::Done);
     }
 }
 
