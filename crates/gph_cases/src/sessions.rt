@@ -1,26 +1,8 @@
 //! Sessions from their bytes to their replies.
 
-ghost use Rattle.std.specs.Thread.{IsSync};
-
-use crate::trial::compare_pieces;
+use crate::trial::{Row, compare_all, compare_pieces};
 use gph_serve::Outcome;
-use std::alloc::Global;
-use std::env::Env;
-use std::process::Abort;
 use std::test::Fail;
-use std::thread::Threads;
-
-// What a session is about, its words, its input and its output.
-type Row = (&'static str, &'static str, &'static [u8], &'static [u8]);
-
-// Compares each session of a table.
-fn compare_all<R: Abort + Env + Threads + Sync>(rt: &R, alloc: Global, table: &[Row])
-    requires sync { IsSync R.row }
-{
-    for &(about, words, input, output) in table {
-        compare_pieces(rt, alloc, about, words, input, output, Outcome::Done);
-    }
-}
 
 // Rows 1 to 4 of most are at 0, 4, 8 and 1 bits from 00.
 static SESSIONS: [Row; 48] = [

@@ -99,6 +99,18 @@ pub(crate) fn compare_pieces<R: Abort + Env + Threads + Sync>(
     }
 }
 
+/// What a session is about, its words, its input and its output.
+pub(crate) type Row = (&'static str, &'static str, &'static [u8], &'static [u8]);
+
+/// Compares each session of a table.
+pub(crate) fn compare_all<R: Abort + Env + Threads + Sync>(rt: &R, alloc: Global, table: &[Row])
+    requires sync { IsSync R.row }
+{
+    for row in table {
+        compare_pieces(rt, alloc, row.0, row.1, row.2, row.3, Outcome::Done);
+    }
+}
+
 /// The words of a text.
 pub(crate) fn list_of(alloc: Global, text: &str) -> Result<Vec<String>, NoMemory> {
     let mut words = Vec::new(alloc);

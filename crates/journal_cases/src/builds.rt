@@ -1,6 +1,7 @@
 //! Builds that are placed, follow what is committed, are finished and swapped in.
 
-ghost use Rattle.std.specs.Prelude.{◌≡◌, ◌<◌};
+ghost use Rattle.std.specs.Prelude.{◌≡◌, ◌<◌, ◌≤◌};
+ghost use Rattle.hamming_model.specs.declared.limits.TheConstants.{SHARDS_MOST};
 ghost use Rattle.session_desk.specs.Desks.{DeskState};
 ghost use Rattle.shard_rebuild.specs.ShardBuilds.{IsBuildOf};
 
@@ -85,12 +86,6 @@ fn follow_over_deletes<R: Abort + Env, D: Desk<1>>(rt: &R, alloc: Global, desk: 
     swap_in(rt, alloc, desk, build, 4, 2, &mut steps);
 }
 
-#[test]
-fn a_build_follows_over_deletes_of_rows_that_it_placed(rt: HostRuntime) {
-    let mut desk = small_desk(&rt, rt.alloc(), 1, 9);
-    follow_over_deletes(&rt, rt.alloc(), &mut desk);
-}
-
 // A build of no rows is ready, and is swapped in.
 fn build_no_rows<R: Abort + Env, D: Desk<1>>(rt: &R, alloc: Global, desk: &mut D)
     requires bits { (D.desk desk.old).config.bits ≡ 8 }
@@ -100,12 +95,6 @@ fn build_no_rows<R: Abort + Env, D: Desk<1>>(rt: &R, alloc: Global, desk: &mut D
     let build = start(rt, alloc, desk, &mut steps);
     assert!(rt; build.left() == 0 && build.at() == 0);
     swap_in(rt, alloc, desk, build, 0, 0, &mut steps);
-}
-
-#[test]
-fn a_build_of_no_rows_is_ready_at_once(rt: HostRuntime) {
-    let mut desk = small_desk(&rt, rt.alloc(), 2, 9);
-    build_no_rows(&rt, rt.alloc(), &mut desk);
 }
 
 // Finishes a build that has one row left: it is handed back, places the row, is finished, and goes on.
@@ -145,8 +134,46 @@ fn build_on<R: Abort + Env, D: Desk<1>>(rt: &R, alloc: Global, desk: &mut D)
     swap_in(rt, alloc, desk, resumed, 1, 1, &mut steps);
 }
 
+// What is built on a desk.
+#[derive(Clone, Copy)]
+enum Case {
+    OverDeletes,
+    NoRows,
+    HandedBack,
+}
+
+// Meets a case on a desk of its own.
+fn meet<R: Abort + Env>(rt: &R, alloc: Global, shards: u32, case: Case)
+    requires some { 1 ≤ shards }
+    requires few { shards ≤ SHARDS_MOST }
+{
+    let mut desk = small_desk(rt, alloc, shards, 9);
+    meet_on(rt, alloc, &mut desk, case);
+}
+
+// Meets a case on a desk.
+fn meet_on<R: Abort + Env, D: Desk<1>>(rt: &R, alloc: Global, desk: &mut D, case: Case)
+    requires bits { (D.desk desk.old).config.bits ≡ 8 }
+    requires shards { 0 < (D.desk desk.old).config.shards }
+{
+    match case {
+        Case::OverDeletes => follow_over_deletes(rt, alloc, desk),
+        Case::NoRows => build_no_rows(rt, alloc, desk),
+        Case::HandedBack => build_on(rt, alloc, desk),
+    }
+}
+
+#[test]
+fn a_build_follows_over_deletes_of_rows_that_it_placed(rt: HostRuntime) {
+    meet(&rt, rt.alloc(), 1, Case::OverDeletes);
+}
+
+#[test]
+fn a_build_of_no_rows_is_ready_at_once(rt: HostRuntime) {
+    meet(&rt, rt.alloc(), 2, Case::NoRows);
+}
+
 #[test]
 fn a_build_with_rows_left_is_handed_back_and_goes_on(rt: HostRuntime) {
-    let mut desk = small_desk(&rt, rt.alloc(), 1, 9);
-    build_on(&rt, rt.alloc(), &mut desk);
+    meet(&rt, rt.alloc(), 1, Case::HandedBack);
 }

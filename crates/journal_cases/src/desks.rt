@@ -95,12 +95,6 @@ fn decide<R: Abort, D: Desk<1>>(rt: &R, desk: &mut D)
     assert!(rt; told.bytes() == b"0,1,2,3/4,5,6,7".as_slice());
 }
 
-#[test]
-fn a_solo_desk_decides_and_tells_its_rows(rt: HostRuntime) {
-    let mut desk = small_desk(&rt, rt.alloc(), 1, 2);
-    decide(&rt, &mut desk);
-}
-
 // Pins the first shard at a front, compares the rows, and closes the front.
 pub(crate) fn pin_and_close<R: Abort, D: Desk<1>, M>(
     rt: &R,
@@ -139,12 +133,6 @@ fn pin_before_and_after<R: Abort + Env, D: Desk<1>>(rt: &R, desk: &mut D)
     desk.close_front(unused);
     let later = desk.open_front().expect(rt, "memory for a front");
     pin_and_close(rt, desk, later, 1, &mut steps);
-}
-
-#[test]
-fn a_front_answers_its_own_prefix(rt: HostRuntime) {
-    let mut desk = small_desk(&rt, rt.alloc(), 1, 9);
-    pin_before_and_after(&rt, &mut desk);
 }
 
 // Whether there are two sources, of so many rows each.
@@ -190,8 +178,48 @@ fn query_prefixes<R: Abort + Env, D: Desk<1>>(rt: &R, alloc: Global, desk: &mut 
     query(rt, alloc, desk, center, 3, 1, 0, &mut steps);
 }
 
+// What is asked of a desk.
+#[derive(Clone, Copy)]
+enum Case {
+    Decides,
+    Pins,
+    Queries,
+}
+
+// Meets a case on a desk of its own.
+fn meet<R: Abort + Env>(rt: &R, alloc: Global, shards: u32, entries: u64, case: Case)
+    requires some { 1 ≤ shards }
+    requires few { shards ≤ SHARDS_MOST }
+    requires some_entries { 1 ≤ entries }
+    requires few_entries { entries ≤ ENTRIES_MOST }
+{
+    let mut desk = small_desk(rt, alloc, shards, entries);
+    meet_on(rt, alloc, &mut desk, case);
+}
+
+// Meets a case on a desk.
+fn meet_on<R: Abort + Env, D: Desk<1>>(rt: &R, alloc: Global, desk: &mut D, case: Case)
+    requires bits { (D.desk desk.old).config.bits ≡ 8 }
+    requires shards { 0 < (D.desk desk.old).config.shards }
+{
+    match case {
+        Case::Decides => decide(rt, desk),
+        Case::Pins => pin_before_and_after(rt, desk),
+        Case::Queries => query_prefixes(rt, alloc, desk),
+    }
+}
+
+#[test]
+fn a_solo_desk_decides_and_tells_its_rows(rt: HostRuntime) {
+    meet(&rt, rt.alloc(), 1, 2, Case::Decides);
+}
+
+#[test]
+fn a_front_answers_its_own_prefix(rt: HostRuntime) {
+    meet(&rt, rt.alloc(), 1, 9, Case::Pins);
+}
+
 #[test]
 fn a_query_answers_its_own_prefix_over_two_shards(rt: HostRuntime) {
-    let mut desk = small_desk(&rt, rt.alloc(), 2, 9);
-    query_prefixes(&rt, rt.alloc(), &mut desk);
+    meet(&rt, rt.alloc(), 2, 9, Case::Queries);
 }

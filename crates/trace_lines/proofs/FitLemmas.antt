@@ -2,11 +2,11 @@
 use Rattle.std.proofs.Common.{ℕ}
 use Rattle.entry_log.specs.declared.op.Op.TheVariants as op
 use Rattle.world_model.specs.Events.{Setting, IsFormed}
-use Rattle.trace_lines.specs.EventRequests.{IsFit, event_of}
+use Rattle.trace_lines.specs.EventRequests.{IsFitEvent, event_of}
 use Rattle.trace_lines.specs.declared.event_request.EventRequest.{EventRequest}
 use Rattle.trace_lines.specs.declared.event_request.EventRequest.TheVariants as kept
 
-pub fit_is_formed : (W : ℕ) (z : Setting) (request : EventRequest W) → IsFit W z.bits request
+pub fit_is_formed : (W : ℕ) (z : Setting) (request : EventRequest W) → IsFitEvent W z.bits request
     → IsFormed z (event_of z.bits request)
 fit_is_formed W z (kept.Commit who (op.Add key stored)) fit = fit.is_code
 fit_is_formed W z (kept.Commit who (op.Delete key)) fit = tt

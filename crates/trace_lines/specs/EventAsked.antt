@@ -64,13 +64,14 @@ poll_asked (Ok words) = poll_of (query_form words.0) (shard_form words.1) (count
 poll_asked (Err fault) = Err fault
 
 -- a shard and a layout of so many bits
-abbrev pub repart_of : ℕ → Option ℕ → Option (List (List ℕ)) → EventAsked
-repart_of bits None parts = Err (bad_word 2)
-repart_of bits (Some shard) None = Err (bad_word 3)
-repart_of bits (Some shard) (Some parts) =
+abbrev pub event_repart_of : ℕ → Option ℕ → Option (List (List ℕ)) → EventAsked
+event_repart_of bits None parts = Err (bad_word 2)
+event_repart_of bits (Some shard) None = Err (bad_word 3)
+event_repart_of bits (Some shard) (Some parts) =
     Ok (BuildStart shard (record { bits = bits; parts = parts }))
 
 -- the words after `repart`
-abbrev pub repart_asked : ℕ → Result (List ℕ × List ℕ) Bad → EventAsked
-repart_asked bits (Ok words) = repart_of bits (shard_form words.0) (layout_form bits words.1)
-repart_asked bits (Err fault) = Err fault
+abbrev pub event_repart_asked : ℕ → Result (List ℕ × List ℕ) Bad → EventAsked
+event_repart_asked bits (Ok words) =
+    event_repart_of bits (shard_form words.0) (layout_form bits words.1)
+event_repart_asked bits (Err fault) = Err fault

@@ -7,7 +7,7 @@ use Rattle.query_protocol.specs.Requests.{bad}
 use Rattle.query_protocol.specs.declared.bad.Bad.{Bad}
 use Rattle.world_model.specs.Events.{Event, Advance, Pin, Give, Cancel, BuildStep, Follow, Swap}
 use Rattle.trace_lines.specs.EventAsked.{EventAsked, event_naming, query_alone, query_and_shard}
-use Rattle.trace_lines.specs.EventAsked.{poll_asked, shard_alone, shard_and_rows, repart_asked}
+use Rattle.trace_lines.specs.EventAsked.{poll_asked, shard_alone, shard_and_rows, event_repart_asked}
 use Rattle.trace_lines.specs.SessionsAsked.{commit_asked, open_asked}
 use Rattle.trace_lines.specs.EventForms.{event_word, two_words, three_words}
 use Rattle.trace_lines.specs.declared.event_word.EventWord.{EventWord}
@@ -40,7 +40,7 @@ event_asked bits (Some PollWord) after = poll_asked (three_words after)
 event_asked bits (Some GiveWord) after = event_naming (λ query. Give query) (query_alone after)
 event_asked bits (Some CancelWord) after =
     event_naming (λ query. Cancel query) (query_alone after)
-event_asked bits (Some RepartWord) after = repart_asked bits (two_words after)
+event_asked bits (Some RepartWord) after = event_repart_asked bits (two_words after)
 event_asked bits (Some BuildWord) after =
     event_naming (λ both. BuildStep both.0 both.1) (shard_and_rows after)
 event_asked bits (Some FollowWord) after =

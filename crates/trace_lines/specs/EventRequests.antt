@@ -32,25 +32,26 @@ event_of bits (kept.Swap shard) = Swap shard
 
 -- its code stands for one of so many bits, its radius is at most that, its layout is one of so many
 -- bits, and it asks for a hit, or for a step, at least
-abbrev pub IsFit : (W bits : ℕ) → EventRequest W → Type 0
-IsFit W bits (kept.Commit who op) = IsStoredOperation W bits (kept_operation op)
-IsFit W bits (kept.OpenRange who tau stored) =
+abbrev pub IsFitEvent : (W bits : ℕ) → EventRequest W → Type 0
+IsFitEvent W bits (kept.Commit who op) = IsStoredOperation W bits (kept_operation op)
+IsFitEvent W bits (kept.OpenRange who tau stored) =
     StandsFor W bits stored (take bits stored) × (tau ≤ bits)
-IsFit W bits (kept.OpenNear who k stored) = StandsFor W bits stored (take bits stored) × (1 ≤ k)
-IsFit W bits (kept.Poll query shard budget) = 1 ≤ budget
-IsFit W bits (kept.BuildStart shard layout) = IsLayoutFor bits (arc_value layout)
-IsFit W bits other = Unit {0}
+IsFitEvent W bits (kept.OpenNear who k stored) =
+    StandsFor W bits stored (take bits stored) × (1 ≤ k)
+IsFitEvent W bits (kept.Poll query shard budget) = 1 ≤ budget
+IsFitEvent W bits (kept.BuildStart shard layout) = IsLayoutFor bits (arc_value layout)
+IsFitEvent W bits other = Unit {0}
 
 -- what was asked, its code cut so
-abbrev pub asked_of : {W : ℕ} → ℕ → Result (EventRequest W) Bad → EventAsked
-asked_of bits (Ok request) = Ok (event_of bits request)
-asked_of bits (Err fault) = Err fault
+abbrev pub event_asked_of : {W : ℕ} → ℕ → Result (EventRequest W) Bad → EventAsked
+event_asked_of bits (Ok request) = Ok (event_of bits request)
+event_asked_of bits (Err fault) = Err fault
 
 -- what is given is what the words ask, and fit
 pub record AsksAs (W bits : ℕ) (given : Result (EventRequest W) Bad) (asked : EventAsked)
     : Type 0 where
-  pub event : asked_of bits given ≡ asked
-  pub fit : IfOk given (IsFit W bits)
+  pub event : event_asked_of bits given ≡ asked
+  pub fit : IfOk given (IsFitEvent W bits)
 
 -- words ask for a build
 abbrev pub AsksLayout : EventAsked → Type 0
@@ -70,7 +71,7 @@ abbrev pub ReadsEvent
     : (W bits : ℕ) → Result (Option (EventRequest W)) LineFault → EventReading → Type 0
 ReadsEvent W bits (Ok None) reading = reading ≡ Ok None
 ReadsEvent W bits (Ok (Some request)) reading =
-    (reading ≡ Ok (Some (event_of bits request))) × IsFit W bits request
+    (reading ≡ Ok (Some (event_of bits request))) × IsFitEvent W bits request
 ReadsEvent W bits (Err (line.Bad fault)) reading = reading ≡ Err fault
 ReadsEvent W bits (Err line.NoMemory) (Ok (Some event)) = AsksLayout (Ok event)
 ReadsEvent W bits (Err line.NoMemory) reading = ⊥

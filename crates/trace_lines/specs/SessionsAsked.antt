@@ -51,16 +51,17 @@ deleting_asked who (Ok word) = deleting_of who (key_form word)
 deleting_asked who (Err fault) = Err fault
 
 -- a session's commit, by the form that it names and the words after that
-abbrev pub commit_of : ℕ → Option ℕ → Option CommitForm → List (List ℕ) → EventAsked
-commit_of bits who (Some AddForm) after = adding_asked bits who (two_words after)
-commit_of bits who (Some DelForm) after = deleting_asked who (one_word after)
-commit_of bits who None (key ∷ []) = formless who
-commit_of bits who None (key ∷ code ∷ []) = formless who
-commit_of bits who None after = Err (bad 4)
+abbrev pub event_commit_of : ℕ → Option ℕ → Option CommitForm → List (List ℕ) → EventAsked
+event_commit_of bits who (Some AddForm) after = adding_asked bits who (two_words after)
+event_commit_of bits who (Some DelForm) after = deleting_asked who (one_word after)
+event_commit_of bits who None (key ∷ []) = formless who
+event_commit_of bits who None (key ∷ code ∷ []) = formless who
+event_commit_of bits who None after = Err (bad 4)
 
 -- the words after `commit`
 abbrev pub commit_asked : ℕ → List (List ℕ) → EventAsked
-commit_asked bits (who ∷ form ∷ after) = commit_of bits (who_form who) (commit_form form) after
+commit_asked bits (who ∷ form ∷ after) =
+    event_commit_of bits (who_form who) (commit_form form) after
 commit_asked bits after = Err (bad 4)
 
 -- a session's question, by the words after its form, of which the first has a form of its own

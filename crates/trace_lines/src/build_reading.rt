@@ -4,7 +4,7 @@ ghost use Rattle.line_forms.specs.Forms.{shard_form};
 ghost use Rattle.line_forms.specs.Words.{words};
 ghost use Rattle.part_layout.specs.Laid.{IsCodeSize};
 ghost use Rattle.query_protocol.specs.ShardsAsked.{layout_form};
-ghost use Rattle.trace_lines.specs.EventAsked.{repart_asked, repart_of};
+ghost use Rattle.trace_lines.specs.EventAsked.{event_repart_asked, event_repart_of};
 ghost use Rattle.trace_lines.specs.EventForms.{two_words};
 ghost use Rattle.trace_lines.specs.EventRequests.{AsksWithMemory};
 
@@ -23,7 +23,7 @@ pub(crate) fn read_repart<const W: usize>(
     after: &[u8],
 ) -> Result<EventRequest<W>, LineFault>
     requires { IsCodeSize bits }
-    ensures { AsksWithMemory W bits result (repart_asked bits (two_words (words after.now))) }
+    ensures { AsksWithMemory W bits result (event_repart_asked bits (two_words (words after.now))) }
 {
     match two_words(after) {
         Ok((shard, text)) => read_build(alloc, bits, shard, text),
@@ -41,7 +41,7 @@ fn read_build<const W: usize>(
 ) -> Result<EventRequest<W>, LineFault>
     requires { IsCodeSize bits }
     ensures { AsksWithMemory W bits result
-        (repart_of bits (shard_form shard.now) (layout_form bits text.now)) }
+        (event_repart_of bits (shard_form shard.now) (layout_form bits text.now)) }
 {
     let Some(shard) = shard_of(shard) else {
         return Err(LineFault::Bad(of_word(2)));

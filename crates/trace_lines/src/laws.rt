@@ -6,7 +6,7 @@ ghost use Rattle.world_model.specs.Sound.{IsSound};
 ghost use Rattle.world_model.specs.WorldState.{WorldState};
 ghost use Rattle.world_model.specs.WorldStep.{WorldStep};
 ghost use Rattle.trace_lines.specs.EventLines.{event_reading};
-ghost use Rattle.trace_lines.specs.EventRequests.{IsFit, event_of};
+ghost use Rattle.trace_lines.specs.EventRequests.{IsFitEvent, event_of};
 ghost use Rattle.trace_lines.specs.Traces.{Becomes, IsNoEvent, IsTrace, LineMet, Met, met_text};
 ghost use Rattle.trace_lines.specs.declared.event_request.EventRequest.{EventRequest};
 
@@ -15,7 +15,7 @@ use world_model::every_list_of_events_answers_the_scan;
 /// Law: what is read is an event of the world: its code, layout and numbers are those of so many bits.
 pub fn what_is_read_is_formed()
     ensures { (W : ℕ) (z : Setting) (request : EventRequest W) →
-        IsFit W z.bits request → IsFormed z (event_of z.bits request) }
+        IsFitEvent W z.bits request → IsFormed z (event_of z.bits request) }
 {}
 
 /// Law: a trace goes on line by line, from a world that keeps the rules to one that does. Before the first line nothing is answered; a line

@@ -4,7 +4,7 @@ ghost use Rattle.std.specs.Prelude.{◌≡◌, ◌≤◌, Err, None, Some};
 ghost use Rattle.gph_codes.specs.Allowed.{IsAllowed};
 ghost use Rattle.hamming_model.specs.declared.limits.TheConstants.{WORDS_MOST};
 ghost use Rattle.line_forms.specs.Words.{words};
-ghost use Rattle.trace_lines.specs.SessionsAsked.{adding_asked, commit_asked, commit_of};
+ghost use Rattle.trace_lines.specs.SessionsAsked.{adding_asked, commit_asked, event_commit_of};
 ghost use Rattle.trace_lines.specs.SessionsAsked.{deleting_asked, formless, open_asked, open_of};
 ghost use Rattle.trace_lines.specs.EventForms.{who_form, commit_form, open_form};
 ghost use Rattle.trace_lines.specs.EventForms.{one_word, two_words};
@@ -94,7 +94,7 @@ fn read_deleting<const W: usize>(
 
 // The fault of a commit whose third word names no form: it may have as many words as one of the forms.
 fn no_form_of_commit(bits: u32, who: &[u8], after: &[u8]) -> Bad
-    ensures { commit_of bits (who_form who.now) None (words after.now) ≡ Err result }
+    ensures { event_commit_of bits (who_form who.now) None (words after.now) ≡ Err result }
 {
     if let Ok(_) = one_word(after) {
         return formless(who);

@@ -7,7 +7,7 @@ use Rattle.query_protocol.specs.declared.bad.Bad.{Bad}
 use Rattle.query_protocol.specs.declared.bad.LineFault.{LineFault}
 use Rattle.query_protocol.specs.declared.bad.LineFault.TheVariants as line
 use Rattle.trace_lines.specs.EventLines.{EventReading}
-use Rattle.trace_lines.specs.EventRequests.{IsFit, ReadsEvent, event_of}
+use Rattle.trace_lines.specs.EventRequests.{IsFitEvent, ReadsEvent, event_of}
 use Rattle.trace_lines.specs.declared.event_request.EventRequest.{EventRequest}
 use Rattle.trace_lines.specs.Traces.{Becomes, IsNoEvent, IsTrace, LineMet, Met, ReadsLayout, met_text}
 use Rattle.world_model.specs.Events.{Setting, Event, IsFormed}
@@ -61,7 +61,7 @@ reads_nothing {W} bits reading read reads is = subst (λ (r : Option (EventReque
 -- an event, which is fit
 pub reads_event : {W : ℕ} (bits : ℕ) (reading : EventReading) (read : Option (EventRequest W)) (request : EventRequest W)
     → ReadsEvent W bits (Ok read) reading → read ≡ Some request
-    → (reading ≡ Ok (Some (event_of bits request))) × IsFit W bits request
+    → (reading ≡ Ok (Some (event_of bits request))) × IsFitEvent W bits request
 reads_event {W} bits reading read request reads is =
     subst (λ (r : Option (EventRequest W)). ReadsEvent W bits (Ok r) reading) is reads
 

@@ -1,6 +1,6 @@
 ghost use Rattle.std.specs.Prelude.{◌≡◌, ◌≤◌};
 ghost use Rattle.hamming_model.specs.declared.limits.TheConstants.{WORDS_MOST};
-ghost use Rattle.trace_lines.specs.EventRequests.{IsFit, event_of};
+ghost use Rattle.trace_lines.specs.EventRequests.{IsFitEvent, event_of};
 ghost use Rattle.world_model.specs.Events.{Setting};
 ghost use Rattle.world_model.specs.WorldState.{WorldState};
 ghost use Rattle.world_model.specs.WorldStep.{WorldStep};
@@ -26,7 +26,7 @@ pub trait MeetsEvents<const W: usize> {
         meters: &mut Meters<L>,
     ) -> Result<Told, Refused>
         requires few_words { W ≤ WORDS_MOST }
-        requires fit { IsFit W (setting self.old).bits request }
+        requires fit { IsFitEvent W (setting self.old).bits request }
         ensures setting { setting self.new ≡ setting self.old }
         ensures step { WorldStep (setting self.old) (state self.old)
             (event_of (setting self.old).bits request.entry) result (state self.new) }

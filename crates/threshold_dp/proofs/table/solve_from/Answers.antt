@@ -23,9 +23,9 @@ loop-part-init g c =
 
 pub add_part-requires-clause-bound : goal.add_part-requires-clause-bound
 add_part-requires-clause-bound g c = λ units less.
-    let number = rows_number (length c.args.asked.now) (c.args.parts - c.loop-part.part) (drop (c.loop-part.part * length c.args.asked.now) c.loop-part.picks) in
-    let inside = c.read_counts-in-loop-part.auto.asked ∙ c.loop-part.auto.asked in
-    omega (arith, c.loop-part.invariant.3.bound units (omega (arith, inside)))
+    let asked = length c.args.asked.now in
+    let number = rows_number asked (c.args.parts - c.loop-part.part) (drop (c.loop-part.part * asked) c.loop-part.picks) in
+    omega (arith, c.loop-part.invariant.3.bound units (omega (arith, c.read_counts-in-loop-part.auto.asked ∙ c.loop-part.auto.asked)))
 
 pub loop-part-preserved : goal.loop-part-preserved
 loop-part-preserved g c =
@@ -53,8 +53,8 @@ loop-part-preserved g c =
 
 pub returns : goal.returns
 returns g c =
-    let asked = length c.args.asked.now in
     record {
       solved = subst (λ n. IsSolved (g.C.PartCounts.counts c.args.counts.now) n
-          (pick_rows asked (c.args.parts - n) (drop (n * asked) c.loop-part.picks)) c.loop-part.costs asked) (omega arith) c.loop-part.invariant.3;
+          (pick_rows (length c.args.asked.now) (c.args.parts - n) (drop (n * length c.args.asked.now) c.loop-part.picks)) c.loop-part.costs
+          (length c.args.asked.now)) (omega arith) c.loop-part.invariant.3;
     }
