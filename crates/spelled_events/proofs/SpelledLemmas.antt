@@ -27,6 +27,7 @@ use Rattle.trace_lines.specs.EventLines.{event_reading, something}
 use Rattle.trace_lines.specs.EventAsked.{event_naming}
 use Rattle.trace_lines.specs.SessionsAsked.{adding_of, asking_of, deleting_of}
 use Rattle.world_model.specs.Events.{Event, Commit, Open, Advance, Pin, Poll, Give, Cancel, BuildStart, BuildStep, Follow, Swap, IsLayoutFor}
+use Rattle.spelled_events.proofs.LengthLemmas.{layout_short}
 use Rattle.spelled_events.proofs.WordsLemmas.{SpellsCode, code_again, code_spelled, code_word, known_word, line_read, number_again, number_word, short_read}
 
 -- ---- forms
@@ -199,9 +200,9 @@ layout_again layout back =
     ∙ ap (λ (parts : List (List ℕ)). Some parts) back.same_parts
 
 pub repart_read : ((layout : Laid) → IsLaid layout → IsReadBack layout) → ((layout : Laid) → IsLaid layout → HasLayoutBytes (layout_text layout.parts))
-    → (bits shard : ℕ) (layout : Laid) → shard ≤ 99 → IsLayoutFor bits layout → length (layout_text layout.parts) ≤ 4000
+    → (bits shard : ℕ) (layout : Laid) → shard ≤ 99 → IsLayoutFor bits layout
     → event_reading bits (event_line (BuildStart shard layout)) ≡ Ok (Some (BuildStart shard layout))
-repart_read reads_back bytes bits shard layout within is short =
+repart_read reads_back bytes bits shard layout within is =
     let text = layout_text layout.parts in
     let back = reads_back layout is.laid in
     let word = bytes_word text (bytes layout is.laid) in
@@ -220,7 +221,7 @@ repart_read reads_back bytes bits shard layout within is short =
           tt,
         ),
       ),
-    ) (omega (arith, first.short, number.short, short))
+    ) (omega (arith, first.short, number.short, layout_short layout is.laid))
     ∙ ap (λ (found : Option ℕ). something (repart_of bits found (layout_form bits text))) (shard_again shard within)
     ∙ ap (λ (found : Option (List (List ℕ))). something (repart_of bits (Some shard) found))
     (ap (λ (n : ℕ). layout_form n text) (sym is.bits_are) ∙ layout_again layout back)
@@ -239,7 +240,7 @@ event_read back bytes bits (Pin query shard) size is = pin_read bits query shard
 event_read back bytes bits (Poll query shard budget) size is = poll_read bits query shard budget is.0 is.1 is.2 is.3
 event_read back bytes bits (Give query) size is = give_read bits query is
 event_read back bytes bits (Cancel query) size is = cancel_read bits query is
-event_read back bytes bits (BuildStart shard layout) size is = repart_read back bytes bits shard layout is.0 is.1 is.2
+event_read back bytes bits (BuildStart shard layout) size is = repart_read back bytes bits shard layout is.0 is.1
 event_read back bytes bits (BuildStep shard rows) size is = build_read bits shard rows is.0 is.1 is.2
 event_read back bytes bits (Follow shard) size is = follow_read bits shard is
 event_read back bytes bits (Swap shard) size is = swap_read bits shard is

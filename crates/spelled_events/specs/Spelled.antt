@@ -1,5 +1,5 @@
 -- The line of an event, and which events have one.
-use Rattle.std.specs.Prelude.{ℕ, ◌^◌, ◌<◌, ◌≤◌, List, [], ◌∷◌, length, codes, decimal}
+use Rattle.std.specs.Prelude.{ℕ, ◌^◌, ◌<◌, ◌≤◌, List, [], ◌∷◌, codes, decimal}
 use Rattle.hamming_model.specs.Codes.{IsCode}
 use Rattle.hamming_model.specs.History.{Add, Delete}
 use Rattle.hamming_model.specs.Scan.{Range, Near}
@@ -52,7 +52,7 @@ IsSpelledEvent bits (Poll query shard budget) =
 IsSpelledEvent bits (Give query) = query ≤ 99999
 IsSpelledEvent bits (Cancel query) = query ≤ 99999
 IsSpelledEvent bits (BuildStart shard layout) =
-    (shard ≤ 99) × IsLayoutFor bits layout × (length (layout_text layout.parts) ≤ 4000)
+    (shard ≤ 99) × IsLayoutFor bits layout
 IsSpelledEvent bits (BuildStep shard rows) = (shard ≤ 99) × (1 ≤ rows) × (rows ≤ 65536)
 IsSpelledEvent bits (Follow shard) = shard ≤ 99
 IsSpelledEvent bits (Swap shard) = shard ≤ 99
