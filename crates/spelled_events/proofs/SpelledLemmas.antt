@@ -65,8 +65,16 @@ pub add_read : (bits who key : ℕ) (code : List ℕ) → IsCodeSize bits → wh
     → event_reading bits (event_line (Commit who (Add key code))) ≡ Ok (Some (Commit who (Add key code)))
 add_read bits who key code size small fits is =
     let text = spells bits code size is in
-    short_read bits (codes "commit" ∷ decimal who ∷ codes "add" ∷ decimal key ∷ hex_text code ∷ [])
-    (known_word (codes "commit") refl refl refl, (number_word who (omega (arith, small)), (known_word (codes "add") refl refl refl, (number_word key fits, (code_word bits code size.some size.few is text, tt))))) (omega arith)
+    short_read bits (codes "commit" ∷ decimal who ∷ codes "add" ∷ decimal key ∷ hex_text code ∷ []) (
+      known_word (codes "commit") refl refl refl,
+      (
+        number_word who (omega (arith, small)),
+        (
+          known_word (codes "add") refl refl refl,
+          (number_word key fits, (code_word bits code size.some size.few is text, tt)),
+        ),
+      ),
+    ) (omega arith)
     ∙ ap (λ (found : Option ℕ). something (adding_of found (key_form (decimal key)) (code_form bits (hex_text code)))) (who_again who small)
     ∙ ap (λ (found : Option ℕ). something (adding_of (Some who) found (code_form bits (hex_text code)))) (key_again key fits)
     ∙ ap (λ (found : Option (List ℕ)). something (adding_of (Some who) (Some key) found)) (code_again bits code is text)
@@ -74,8 +82,16 @@ add_read bits who key code size small fits is =
 pub delete_read : (bits who key : ℕ) → who < 2 ^ 32 → key < 2 ^ 64
     → event_reading bits (event_line (Commit who (Delete key))) ≡ Ok (Some (Commit who (Delete key)))
 delete_read bits who key small fits =
-    short_read bits (codes "commit" ∷ decimal who ∷ codes "del" ∷ decimal key ∷ [])
-    (known_word (codes "commit") refl refl refl, (number_word who (omega (arith, small)), (known_word (codes "del") refl refl refl, (number_word key fits, tt)))) (omega arith)
+    short_read bits (codes "commit" ∷ decimal who ∷ codes "del" ∷ decimal key ∷ []) (
+      known_word (codes "commit") refl refl refl,
+      (
+        number_word who (omega (arith, small)),
+        (
+          known_word (codes "del") refl refl refl,
+          (number_word key fits, tt),
+        ),
+      ),
+    ) (omega arith)
     ∙ ap (λ (found : Option ℕ). something (deleting_of found (key_form (decimal key)))) (who_again who small)
     ∙ ap (λ (found : Option ℕ). something (deleting_of (Some who) found)) (key_again key fits)
 
@@ -83,8 +99,16 @@ pub range_read : (bits who tau : ℕ) (code : List ℕ) → IsCodeSize bits → 
     → event_reading bits (event_line (Open who (Range tau code))) ≡ Ok (Some (Open who (Range tau code)))
 range_read bits who tau code size small few is =
     let text = spells bits code size is in
-    short_read bits (codes "open" ∷ decimal who ∷ codes "range" ∷ decimal tau ∷ hex_text code ∷ [])
-    (known_word (codes "open") refl refl refl, (number_word who (omega (arith, small)), (known_word (codes "range") refl refl refl, (number_word tau (omega (arith, few, size.few)), (code_word bits code size.some size.few is text, tt))))) (omega arith)
+    short_read bits (codes "open" ∷ decimal who ∷ codes "range" ∷ decimal tau ∷ hex_text code ∷ []) (
+      known_word (codes "open") refl refl refl,
+      (
+        number_word who (omega (arith, small)),
+        (
+          known_word (codes "range") refl refl refl,
+          (number_word tau (omega (arith, few, size.few)), (code_word bits code size.some size.few is text, tt)),
+        ),
+      ),
+    ) (omega arith)
     ∙ ap (λ (found : Option ℕ). something (asking_of (λ tau code. Range tau code) found (radius_of bits (decimal tau)) (code_form bits (hex_text code))))
     (who_again who small)
     ∙ ap (λ (found : Option ℕ). something (asking_of (λ tau code. Range tau code) (Some who) found (code_form bits (hex_text code))))
@@ -95,8 +119,16 @@ pub near_read : (bits who k : ℕ) (code : List ℕ) → IsCodeSize bits → who
     → event_reading bits (event_line (Open who (Near k code))) ≡ Ok (Some (Open who (Near k code)))
 near_read bits who k code size small some few is =
     let text = spells bits code size is in
-    short_read bits (codes "open" ∷ decimal who ∷ codes "near" ∷ decimal k ∷ hex_text code ∷ [])
-    (known_word (codes "open") refl refl refl, (number_word who (omega (arith, small)), (known_word (codes "near") refl refl refl, (number_word k (omega (arith, few)), (code_word bits code size.some size.few is text, tt))))) (omega arith)
+    short_read bits (codes "open" ∷ decimal who ∷ codes "near" ∷ decimal k ∷ hex_text code ∷ []) (
+      known_word (codes "open") refl refl refl,
+      (
+        number_word who (omega (arith, small)),
+        (
+          known_word (codes "near") refl refl refl,
+          (number_word k (omega (arith, few)), (code_word bits code size.some size.few is text, tt)),
+        ),
+      ),
+    ) (omega arith)
     ∙ ap (λ (found : Option ℕ). something (asking_of (λ k code. Near k code) found (nearest_of (decimal k)) (code_form bits (hex_text code))))
     (who_again who small)
     ∙ ap (λ (found : Option ℕ). something (asking_of (λ k code. Near k code) (Some who) found (code_form bits (hex_text code))))
@@ -108,8 +140,13 @@ near_read bits who k code size small some few is =
 pub advance_read : (bits query shard : ℕ) → query ≤ 99999 → shard ≤ 99
     → event_reading bits (event_line (Advance query shard)) ≡ Ok (Some (Advance query shard))
 advance_read bits query shard few within =
-    short_read bits (codes "advance" ∷ decimal query ∷ decimal shard ∷ [])
-    (known_word (codes "advance") refl refl refl, (number_word query (omega (arith, few)), (number_word shard (omega (arith, within)), tt))) (omega arith)
+    short_read bits (codes "advance" ∷ decimal query ∷ decimal shard ∷ []) (
+      known_word (codes "advance") refl refl refl,
+      (
+        number_word query (omega (arith, few)),
+        (number_word shard (omega (arith, within)), tt),
+      ),
+    ) (omega arith)
     ∙ ap (λ (found : Option ℕ). something (event_naming (λ both. Advance both.0 both.1) (two_of found (shard_form (decimal shard)))))
     (query_again query few)
     ∙ ap (λ (found : Option ℕ). something (event_naming (λ both. Advance both.0 both.1) (two_of (Some query) found))) (shard_again shard within)
@@ -126,8 +163,16 @@ pin_read bits query shard few within =
 pub poll_read : (bits query shard budget : ℕ) → query ≤ 99999 → shard ≤ 99 → 1 ≤ budget → budget ≤ 65536
     → event_reading bits (event_line (Poll query shard budget)) ≡ Ok (Some (Poll query shard budget))
 poll_read bits query shard budget few within some most =
-    short_read bits (codes "poll" ∷ decimal query ∷ decimal shard ∷ decimal budget ∷ [])
-    (known_word (codes "poll") refl refl refl, (number_word query (omega (arith, few)), (number_word shard (omega (arith, within)), (number_word budget (omega (arith, most)), tt)))) (omega arith)
+    short_read bits (codes "poll" ∷ decimal query ∷ decimal shard ∷ decimal budget ∷ []) (
+      known_word (codes "poll") refl refl refl,
+      (
+        number_word query (omega (arith, few)),
+        (
+          number_word shard (omega (arith, within)),
+          (number_word budget (omega (arith, most)), tt),
+        ),
+      ),
+    ) (omega arith)
     ∙ ap (λ (found : Option ℕ). something (poll_of found (shard_form (decimal shard)) (count_of (decimal budget)))) (query_again query few)
     ∙ ap (λ (found : Option ℕ). something (poll_of (Some query) found (count_of (decimal budget)))) (shard_again shard within)
     ∙ ap (λ (found : Option ℕ). something (poll_of (Some query) (Some shard) found)) (count_again budget some most)

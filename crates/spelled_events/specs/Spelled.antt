@@ -36,13 +36,14 @@ event_words (Swap shard) = codes "swap" ∷ decimal shard ∷ []
 abbrev pub event_line : Event → List ℕ
 event_line event = joined (event_words event)
 
--- the event is one of a world of codes of so many bits, and its numbers are such as a line may give:
--- a session's of 32 bits, a query's of five digits, a shard's of two, 1 to 65,536 steps or rows
+-- the event is one of a world of codes of so many bits, and its numbers are such as a line may
+-- give: a session of 32 bits, a query of five digits, a shard of two, 1 to 65,536 steps or rows
 abbrev pub IsSpelledEvent : ℕ → Event → Type 0
 IsSpelledEvent bits (Commit who (Add key code)) =
     (who < 2 ^ 32) × (key < 2 ^ 64) × IsCode bits code
 IsSpelledEvent bits (Commit who (Delete key)) = (who < 2 ^ 32) × (key < 2 ^ 64)
-IsSpelledEvent bits (Open who (Range tau code)) = (who < 2 ^ 32) × (tau ≤ bits) × IsCode bits code
+IsSpelledEvent bits (Open who (Range tau code)) =
+    (who < 2 ^ 32) × (tau ≤ bits) × IsCode bits code
 IsSpelledEvent bits (Open who (Near k code)) =
     (who < 2 ^ 32) × (1 ≤ k) × (k ≤ ENTRIES_MOST) × IsCode bits code
 IsSpelledEvent bits (Advance query shard) = (query ≤ 99999) × (shard ≤ 99)
