@@ -5,7 +5,7 @@ ghost use Rattle.std.specs.Arc.{arc_value};
 ghost use Rattle.gph_codes.specs.Allowed.{IsAllowed};
 ghost use Rattle.hamming_model.specs.declared.limits.TheConstants.{WORDS_MOST};
 ghost use Rattle.part_layout.specs.Ranges.{IsConfig};
-ghost use Rattle.trace_lines.specs.EventRequests.{IsFit, event_of};
+ghost use Rattle.trace_lines.specs.EventRequests.{IsFitEvent, event_of};
 ghost use Rattle.world_model.specs.Events.{IsLayoutFor};
 ghost use Rattle.world_model.specs.WorldStep.{WorldStep};
 ghost use Rattle.world_traces.specs.Meeting.{CountsBetween};
@@ -83,7 +83,7 @@ impl<const W: usize> MeetsEvents<W> for EventWorld<W> {
         meters: &mut Meters<L>,
     ) -> Result<Told, Refused>
         requires few_words { W ≤ WORDS_MOST }
-        requires fit { IsFit W self.old.world.setting.bits request }
+        requires fit { IsFitEvent W self.old.world.setting.bits request }
         ensures setting { self.new.world.setting ≡ self.old.world.setting }
         ensures step { WorldStep self.old.world.setting self.old.world.state
             (event_of self.old.world.setting.bits request.entry) result self.new.world.state }

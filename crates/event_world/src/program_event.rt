@@ -2,7 +2,7 @@
 
 ghost use Rattle.std.specs.Prelude.{◌≡◌, ℕ};
 ghost use Rattle.gph_world.specs.Happenings.{IsEventFor, event_seen};
-ghost use Rattle.trace_lines.specs.EventRequests.{IsFit, event_of};
+ghost use Rattle.trace_lines.specs.EventRequests.{IsFitEvent, event_of};
 ghost use Rattle.world_model.specs.Events.{Setting};
 
 use gph_world::{Ask, Event};
@@ -11,7 +11,7 @@ use trace_lines::EventRequest;
 // The event that was asked for.
 pub(crate) fn program_event<const W: usize>(request: EventRequest<W>) -> Event<W>
     ensures same { (bits : ℕ) → event_seen bits result ≡ event_of bits request.entry }
-    ensures fit { (z : Setting) → IsFit W z.bits request.entry → IsEventFor z result }
+    ensures fit { (z : Setting) → IsFitEvent W z.bits request.entry → IsEventFor z result }
 {
     match request {
         EventRequest::Commit { who, op } => Event::Commit { who, op },

@@ -86,14 +86,7 @@ fn command_outcome<R: Env + Alloc<A = Global> + Threads + Sync, S: Source, K: Si
 {
     let mut steps = upkeep::<Upkeep, _>(rt);
     if is_trace(words) {
-        return trace(
-            rt.alloc(),
-            words,
-            source,
-            sink,
-            &mut steps,
-            &mut meters,
-        );
+        return trace(rt.alloc(), words, source, sink, &mut steps, &mut meters);
     }
     run(
         rt,

@@ -9,7 +9,9 @@ mod endings;
 #[cfg(test)]
 mod lines;
 #[cfg(test)]
-mod scripts;
+mod orders;
+#[cfg(test)]
+mod rules;
 #[cfg(test)]
 mod served;
 #[cfg(test)]

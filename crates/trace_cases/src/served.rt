@@ -25,12 +25,12 @@ struct Lengths;
 
 impl LineAnswers for Lengths {
     ghost config = { λ l. record {
-        bits = 8;
-        parts = 2;
-        shards = 1;
-        room = 1;
-        entries = 1;
-        input = 1;
+      bits = 8;
+      parts = 2;
+      shards = 1;
+      room = 1;
+      entries = 1;
+      input = 1;
     } };
 
     ghost answered = { λ l old new lines texts. Unit {0} };

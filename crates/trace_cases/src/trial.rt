@@ -60,6 +60,29 @@ pub(crate) fn compare<R: Abort + Env>(
     Ok(())
 }
 
+/// Compares what is written for each of some scripts without faults, in pieces of 4,096 and of 7 bytes: what it shows, its options, its lines,
+/// and the answers.
+pub(crate) fn compare_all<R: Abort + Env>(
+    rt: &R,
+    alloc: Global,
+    scripts: &[(&str, &str, &str, &str)],
+) -> Result<(), Fail> {
+    for &(about, options, lines, answers) in scripts {
+        for piece in [4096, 7] {
+            let trial = Trial {
+                about,
+                options,
+                lines,
+                piece,
+                read: 0,
+                write: 0,
+            };
+            compare(rt, alloc, &trial, answers, Outcome::Done)?;
+        }
+    }
+    Ok(())
+}
+
 // The words of a trace with these options.
 fn words_of(alloc: Global, options: &str) -> Result<Vec<String>, Fail> {
     let mut words = Vec::new(alloc);

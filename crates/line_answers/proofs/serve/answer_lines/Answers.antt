@@ -6,20 +6,23 @@ use Rattle.line_answers.proofs.ReadLemmas.{done_at_end, refused_at_end, serves_m
 use Rattle.line_answers.proofs.serve.answer_lines.Goals as goal
 
 pub loop-answers-init : goal.loop-answers-init
-loop-answers-init g c = (refl, record {
-  bytes = [];
-  output = [];
-  read = Consumes-nil (g.S.Source.left c.args.source.now);
-  wrote = Appends-nil (g.K.Sink.held c.args.sink.now);
-  long = refl;
-  few = omega arith;
-  no_read_failed = refl;
-  no_write_failed = refl;
-  goes = record {
-    answers = record { texts = []; answered = c.requires.none; output_is = refl };
-    begun = c.requires.begun;
-  };
-})
+loop-answers-init g c = (
+  refl,
+  record {
+    bytes = [];
+    output = [];
+    read = Consumes-nil (g.S.Source.left c.args.source.now);
+    wrote = Appends-nil (g.K.Sink.held c.args.sink.now);
+    long = refl;
+    few = omega arith;
+    no_read_failed = refl;
+    no_write_failed = refl;
+    goes = record {
+      answers = record { texts = []; answered = c.requires.none; output_is = refl };
+      begun = c.requires.begun;
+    };
+  },
+)
 
 pub returns-in-Err-clause-ending : goal.returns-in-Err-clause-ending
 returns-in-Err-clause-ending g c = read_fault c.loop-answers.invariant.1 c.in-Err.ensures.bytes c.in-Err.ensures.cause.failed
@@ -53,9 +56,11 @@ loop-answers-preserved g c =
     let serves = c.loop-answers.invariant.1 in
     let rest = drop c.clamp-room.result c.loop-answers.block in
     let read = has_read c.in-Ok.count c.clamp-room.result c.read.new.room rest (search rules) c.in-Ok.ensures.bound.0
-    (omega (arith, c.clamp-room.ensures)) (omega (arith, c.clamp-room.ensures, serves.few)) c.in-Ok.ensures.bytes.0 in
-    (search rules, serves_more serves _ _ _ _ refl refl c.in-Ok.ensures.steady read c.answer_block.result c.answer_block.ensures.flow c.in-Ok.count
-    (length_read c.in-Ok.count c.read.new.room rest c.in-Ok.ensures.bound.0) (search rules) (search rules))
+    (omega (arith, c.clamp-room.ensures)) (omega (arith, c.clamp-room.ensures, serves.few)) c.in-Ok.ensures.bytes.0 in (
+      search rules,
+      serves_more serves _ _ _ _ refl refl c.in-Ok.ensures.steady read c.answer_block.result c.answer_block.ensures.flow c.in-Ok.count
+          (length_read c.in-Ok.count c.read.new.room rest c.in-Ok.ensures.bound.0) (search rules) (search rules),
+    )
 
 pub returns-in-Err-answer_block-clause-ending : goal.returns-in-Err-answer_block-clause-ending
 returns-in-Err-answer_block-clause-ending g c = refused_in_block c.loop-answers.invariant.1 _ _ _ _ refl refl c.in-Ok.ensures.steady
