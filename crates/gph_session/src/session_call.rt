@@ -45,9 +45,9 @@ pub fn session<
     requires sync { IsSync R.row }
     requires config { (D.desk desk.old).config ≡ config.now }
     // Where there was no memory to begin with nothing was done.
-    ensures unread { result.status ≡ Status.NoMemory → OnlyLearns (D.desk desk.old) (D.desk desk.new)
-        × Untouched (call S.left S.faults K.held K.faults source.old source.new sink.old sink.new
-        meters.old meters.new upkeep.old upkeep.new) }
+    ensures unread { result.status ≡ Status.NoMemory → OnlyLearns (D.desk desk.old)
+        (D.desk desk.new) × Untouched (call S.left S.faults K.held K.faults source.old source.new
+        sink.old sink.new meters.old meters.new upkeep.old upkeep.new) }
     ensures unchanged { result.status ≡ Status.NoMemory → (D.desk desk.old).alone ≡ true →
         D.desk desk.new ≡ D.desk desk.old }
     // What was read, written and counted, and what the desk has seen, by each other status, with its cause.

@@ -1,5 +1,6 @@
 -- One step of a session, from one moment to the next.
-use Rattle.std.specs.Prelude.{◌≡◌, ℕ, ◌+◌, false, Option, Some, Result, Ok, OnOk, true, List, ◌++◌, length, if◌then◌else◌}
+use Rattle.std.specs.Prelude.{◌≡◌, ℕ, ◌+◌, true, false, if◌then◌else◌, List, ◌++◌, length}
+use Rattle.std.specs.Prelude.{Option, Some, Result, Ok, OnOk}
 use Rattle.std.specs.List.{AllByRecursion}
 use Rattle.line_io.specs.declared.source.Failed.{Failed}
 use Rattle.hamming_model.specs.History.{JournalEntry}
@@ -46,7 +47,7 @@ pub record SpendsWithBuild {W : ℕ} (old new : Moment W) (told beside : ℕ) (r
   pub stands : StandsFrom (build_at told replies) new.build
 
 -- one line was answered by one step of a session, which leads from one moment to the next; others
--- may have committed before it and may have moved a shard beyond its build, unless the desk is alone
+-- may have committed before it, and brought a shard beyond its build, unless the desk is alone
 pub record OneStep {A : Type 0} (W : ℕ) (config : Config) (history : List JournalEntry) (s : State)
     (line : List ℕ) (before after : Option (List ℕ)) (result : Result A Failed)
     (old new : Moment W) : Type 0 where

@@ -68,10 +68,9 @@ pub fn open_query<const W: usize, D: Desk<W>, M>(
     ensures versions { IfOk result (λ opened. PinsAll (D.desk desk.old) (D.desk desk.new)
         opened.position (contents_of_all opened.versions.items)) }
     // The source of a shard stands on its version.
-    ensures on { IfOk result (λ opened. AreSourcesOn
-        ⟦<Source<W> as HitSource>⟧.asked ⟦<Source<W> as HitSource>⟧.standing
-        (contents_of_all opened.versions.items) wanted query.entry room
-        opened.sources.items (length (contents_of_all opened.versions.items))) }
+    ensures on { IfOk result (λ opened. AreSourcesOn ⟦<Source<W> as HitSource>⟧.asked
+        ⟦<Source<W> as HitSource>⟧.standing (contents_of_all opened.versions.items) wanted
+        query.entry room opened.sources.items (length (contents_of_all opened.versions.items))) }
     ensures fresh { IfOk result (λ opened.
         AllByRecursion (λ source. IsFresh (⟦<Source<W> as HitSource>⟧.standing source))
         opened.sources.items) }

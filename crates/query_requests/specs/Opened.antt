@@ -1,6 +1,6 @@
 -- What becomes of an opening, between two moments of a session.
 -- No public clause cites this module.
-use Rattle.std.specs.Prelude.{◌≡◌, ℕ, ◌+◌, ◌⊎◌, nat_le, Bool, true, false}
+use Rattle.std.specs.Prelude.{◌≡◌, ℕ, ◌⊎◌, nat_le, Bool, true, false}
 use Rattle.std.specs.Prelude.{List, [], ◌∷◌, ◌++◌, length}
 use Rattle.hamming_model.specs.Scan.{Ask}
 use Rattle.scatter_gather.specs.Gathering.{Gathered}

@@ -129,9 +129,8 @@ fn open_all<const W: usize, D: Desk<W>, M>(
     requires some_room { 1 ≤ room }
     requires small_room { room ≤ ROOM_MOST }
     ensures opened { IfOk result (λ opened. OpensPinned (D.desk desk.old) (D.desk desk.new)
-        (pinned_in pinned.old) (pinned_in pinned.new) opened.0 opened.1
-        (ask_of question (take (D.desk desk.old).config.bits code.entry)) room
-        upkeep.old upkeep.new) }
+        (pinned_in pinned.old) (pinned_in pinned.new) opened.0 opened.1 (ask_of question (take
+        (D.desk desk.old).config.bits code.entry)) room upkeep.old upkeep.new) }
     ensures unpinned { OnErr result (pinned_in pinned.new ≡ pinned_in pinned.old) }
     ensures none { OnErr result (OpensNone (D.desk desk.old) (D.desk desk.new)
         upkeep.old upkeep.new) }
