@@ -1,6 +1,6 @@
 //! The layouts that a session's queries pinned, as its report tells them.
 
-ghost use Rattle.std.specs.Prelude.{◌≡◌, true};
+ghost use Rattle.std.specs.Prelude.{◌≡◌};
 ghost use Rattle.std.specs.Thread.{IsSync};
 
 use gph_session::{LayoutFrom, Report, Status, session};
@@ -135,7 +135,6 @@ fn serve<D: Desk<1>, R: Abort + Env + Threads + Sync>(
     case: &Case,
 ) -> Result<(), Fail>
     requires sync { IsSync R.row }
-    requires alone { (D.desk desk.old).alone ≡ true }
     requires config { (D.desk desk.old).config ≡ config.now }
 {
     let mut source = MemorySource::new(case.asked.to_vec(alloc)?, 4096, Vec::new(alloc));

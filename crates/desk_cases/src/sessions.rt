@@ -1,6 +1,6 @@
 //! A session over the desk that another session left: what it replies, and what it asks the desk for.
 
-ghost use Rattle.std.specs.Prelude.{◌≡◌, IfOk, true};
+ghost use Rattle.std.specs.Prelude.{◌≡◌, IfOk};
 ghost use Rattle.std.specs.Thread.{IsSync};
 
 use crate::counting::CountingDesk;
@@ -58,7 +58,7 @@ static LOOK_UP: Lines = Lines {
     told: b"code 2 0f at 4\n",
 };
 
-// Serves a session over a desk that is alone, and compares its replies.
+// Serves a session over a desk, and compares its replies.
 fn serve<D: Desk<1>, R: Abort + Env + Threads + Sync>(
     rt: &R,
     alloc: Global,
@@ -66,9 +66,7 @@ fn serve<D: Desk<1>, R: Abort + Env + Threads + Sync>(
     lines: &Lines,
 ) -> Result<(), Fail>
     requires sync { IsSync R.row }
-    requires alone { (D.desk desk.old).alone ≡ true }
     requires config { (D.desk desk.old).config ≡ CONFIG }
-    ensures alone { IfOk result (λ _. (D.desk desk.new).alone ≡ true) }
     ensures config { IfOk result (λ _. (D.desk desk.new).config ≡ CONFIG) }
 {
     let mut source = MemorySource::new(lines.asked.to_vec(alloc)?, 4096, Vec::new(alloc));

@@ -1,6 +1,6 @@
 -- Lemmas on the top call: a session over a new desk is a first session.
 use Rattle.std.proofs.Common.{◌≡◌, ℕ, zero, suc, true, None}
-use Rattle.std.proofs.Common.{List, [], ◌∷◌, ◌++◌, map, replicate}
+use Rattle.std.proofs.Common.{List, ◌∷◌, map, replicate}
 use Rattle.std.proofs.Common.{refl, ap, ◌∙◌, subst}
 use Rattle.part_layout.specs.declared.config.Config.{Config}
 use Rattle.session_desk.specs.Desks.{DeskState, ShardPlace, new_desk, pin_position}
@@ -8,7 +8,7 @@ use Rattle.session_desk.specs.Desks.{seen_history, starting_layout}
 use Rattle.session_model.specs.State.{new_session}
 use Rattle.session_model.specs.Entries.{Exchange}
 use Rattle.session_model.specs.Ledger.{Rise}
-use Rattle.session_model.specs.Run.{IsRunAlone, IsServedAlone, AnswersLines, first_session}
+use Rattle.session_model.specs.Run.{IsRunAlone, IsServedAlone, first_session}
 use Rattle.session_model.specs.Outside.{Call}
 use Rattle.session_model.specs.Outcomes.{EndsWith, IsDone, IsReadFault, IsWriteFault, IsInputLimit}
 use Rattle.gph_session.specs.declared.report.Report.{Report}

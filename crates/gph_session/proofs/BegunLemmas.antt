@@ -1,6 +1,6 @@
 -- Lemmas on a session before its first byte, and on its ending by its status.
 use Rattle.std.proofs.Common.{◌≡◌, ℕ, zero, suc, ◌+◌, ◌*◌, ◌<◌, ◌≤◌, ◌&&◌, nat_le, Bool, true, false, cond, Option, None}
-use Rattle.std.proofs.Common.{List, [], ◌∷◌, ◌++◌, length, map, replicate, slice_index_or}
+use Rattle.std.proofs.Common.{List, [], ◌++◌, length, map, replicate, slice_index_or}
 use Rattle.std.proofs.Common.{Result, Ok, IfOk, refl, sym, ap, ◌∙◌, subst, inl, inr, arith, append-nil, append_assoc}
 use Rattle.std.specs.List.{AllByRecursion}
 use Rattle.std.proofs.lemmas.Bool.{and_parts, cases_lt, leb-true}

@@ -7,7 +7,7 @@ use Rattle.hamming_model.specs.History.{JournalEntry}
 use Rattle.part_layout.specs.declared.config.Config.{Config}
 use Rattle.session_model.specs.State.{State}
 use Rattle.session_model.specs.Entries.{Exchange}
-use Rattle.session_model.specs.Commits.{commit_of, commits, entries_by}
+use Rattle.session_model.specs.Commits.{commit_of, entries_by}
 use Rattle.session_model.specs.Run.{Run}
 use Rattle.session_model.proofs.RunLemmas.{own_commits}
 

@@ -1,5 +1,5 @@
 -- What a piece of the input, or its end, makes of a session. No public clause cites this module.
-use Rattle.std.specs.Prelude.{◌≡◌, ℕ, ◌+◌, ◌≤◌, true, Option, Result, Ok, Err}
+use Rattle.std.specs.Prelude.{◌≡◌, ℕ, ◌≤◌, true, Option, Result, Ok, Err}
 use Rattle.std.specs.Prelude.{List, [], ◌++◌, length}
 use Rattle.std.specs.Io.KnownBytes.{Appends}
 use Rattle.byte_lines.specs.Lines.{ended_lines, lines}

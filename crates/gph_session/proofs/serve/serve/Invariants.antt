@@ -1,4 +1,4 @@
-use Rattle.std.proofs.Common.{◌≡◌, ◌-◌, true}
+use Rattle.std.proofs.Common.{◌≡◌, ◌-◌}
 use Rattle.session_model.specs.Outside.{ends}
 use Rattle.layout_search.specs.Improves.{AreSamples}
 use Rattle.open_session.specs.KeptBuild.{IsBuildOfDesk}

@@ -1,5 +1,5 @@
 -- A session begins with nothing answered, and ends as it was served.
-use Rattle.std.proofs.Common.{◌≡◌, sym, ap, ◌∙◌, map, subst, rules, true}
+use Rattle.std.proofs.Common.{◌≡◌, sym, ap, ◌∙◌, map, subst, rules}
 use Rattle.session_desk.specs.Desks.{DeskState, IsDesk}
 use Rattle.gph_session.specs.declared.report.Status.TheVariants as status
 use Rattle.layout_search.specs.Improves.{AreSamples}
@@ -7,7 +7,6 @@ use Rattle.open_session.specs.KeptBuild.{IsBuildOfDesk}
 use Rattle.open_session.specs.Meaning.{HaveShards}
 use Rattle.open_session.specs.Moments.{moment_of}
 use Rattle.open_session.specs.Pinned.{told_layout}
-use Rattle.open_session.proofs.MomentLemmas.{learns_nothing}
 use Rattle.gph_session.proofs.BegunLemmas.{begun_session, ended_as, is_ready, new_of, no_samples}
 use Rattle.gph_session.proofs.session_call.session.Goals as goal
 
