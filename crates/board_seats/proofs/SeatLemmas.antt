@@ -136,7 +136,7 @@ module _ {W : ℕ} (id : ℕ) (v : View W) (other : ℕ) (u : View W) (next : �
         fronts = desk.fronts;
       }
 
-      spent : (config : Config) (journal : JournalState) → IsViewOf config journal spent_view
+      spent : (config : Config) (journal : JournalState) → IsViewOf config journal (spent_view {W = W})
       spent config journal = record {
         seen = record { more = journal.history; longer = refl; others = λ n e. absurd (none_number n e) };
         met = (journal.history, refl);

@@ -1,5 +1,7 @@
 -- What a call makes of a seat and of the place that it visits.
-use Rattle.std.specs.Prelude.{◌≡◌, ℕ, suc, ◌<◌, ◌≤◌, get_or, [], None}
+use Rattle.std.specs.Prelude.{◌≡◌, ℕ, suc, ◌<◌, ◌≤◌, get_or, [], None, Some}
+use Rattle.hamming_model.specs.History.{Operation}
+use Rattle.hamming_model.specs.Recoded.{IsStoredOperation}
 use Rattle.part_layout.specs.declared.config.Config.{Config}
 use Rattle.commit_journal.specs.Journals.{JournalState}
 use Rattle.versioned_shard.specs.Shards.{ShardState}
@@ -25,6 +27,12 @@ module _ {W : ℕ} where
   pub record IsFree (me : Me (Cell W) (View W)) : Type 0 where
     pub slots : me.1 ≡ []
     pub held : me.0.held ≡ None
+
+  -- the words keep an operation's code of the bits that the board was made for
+  pub record IsStoredFor (view : View W) (operation : Operation) : Type 0 where
+    pub config : Config
+    pub config_is : view.config ≡ Some config
+    pub stored : IsStoredOperation W config.bits operation
 
   -- the journal was taken, and brought home as another
   pub record Visited (after : JournalState → View W → View W) (me me' : Me (Cell W) (View W)) : Type 0 where

@@ -2,15 +2,13 @@
 
 ghost use Rattle.std.specs.Prelude.{◌≡◌, ◌≢◌, ◌+◌, [], length, IfOk, OnErr, IfSome, IfNone, Some, None};
 ghost use Rattle.hamming_model.specs.History.{code_at, rows_of};
-ghost use Rattle.hamming_model.specs.Recoded.{IsStoredOperation};
 ghost use Rattle.hamming_model.specs.declared.limits.TheConstants.{SESSIONS_MOST};
-ghost use Rattle.part_layout.specs.declared.config.Config.{Config};
 ghost use Rattle.entry_log.specs.Entries.{kept_operation};
 ghost use Rattle.commit_journal.specs.Journals.{Commits, entry_by, without_front};
 ghost use Rattle.commit_journal.specs.Journals as journals;
 ghost use Rattle.board_seats.specs.Told.{SeesAll, Takes};
 ghost use Rattle.board_seats.specs.Views.{AmongFronts, note_of, settled_view, with_front, with_living, with_number};
-ghost use Rattle.board_seats.specs.Visits.{HasJournal, IsFree, Visited};
+ghost use Rattle.board_seats.specs.Visits.{HasJournal, IsFree, IsStoredFor, Visited};
 
 use crate::cell::{close_in, commit_in, enter_in, front_of, look_up_in, open_in, said_of};
 use crate::rule::{Claims, Closes, Draws, Finds, Looks, Meets, Notes, Opens, Place, Seen, Settles};
@@ -60,8 +58,7 @@ pub fn commit<const W: usize, R: Wait>(
     requires table { HasJournal place.now.table_id }
     requires free { IsFree me.old.me }
     requires number { me.old.me.0.number ≡ Some who }
-    requires stored { (config : Config) → me.old.me.0.config ≡ Some config
-        → IsStoredOperation W config.bits (kept_operation op) }
+    requires stored { IsStoredFor me.old.me.0 (kept_operation op) }
     ensures table { me.new.table_id ≡ me.old.table_id }
     ensures decided { IfOk result (λ decided. (visit : Visited settled_view me.old.me me.new.me)
         × Commits visit.old visit.new (entry_by who op.entry) decided) }
