@@ -1,0 +1,3 @@
+pub mod FrontCalls
+pub mod MapLemmas
+pub mod SharedLemmas

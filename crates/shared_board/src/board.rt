@@ -45,6 +45,7 @@ impl<const W: usize> Model for Board<W> {
 /// The right to the first desk of a board. Seen as the board is.
 #[derive(Drop)]
 pub struct First<const W: usize> {
+    alloc: Global,
     seat: Seen<W>,
     config: Config,
     pins: Vec<Option<(u64, PinnedLayout)>>,
@@ -113,6 +114,7 @@ impl<const W: usize> Board<W> {
                 config: *config,
             },
             First {
+                alloc,
                 seat,
                 config: *config,
                 pins,
@@ -125,9 +127,14 @@ impl<const W: usize> Board<W> {
         requires { first ≡ self.now }
         ensures { result ≡ fresh_desk self.now.0 0 self.now.1 [] 1 }
     {
-        let First { seat, config, pins } = first;
+        let First {
+            alloc,
+            seat,
+            config,
+            pins,
+        } = first;
         let table = &self.table;
-        SharedDesk::first(&table.shared, seat, rt, config, pins)
+        SharedDesk::first(alloc, &table.shared, seat, rt, config, pins)
     }
 
     /// The journal, which begins with all that the standing desk had seen.
@@ -145,6 +152,9 @@ impl<const W: usize> Board<W> {
         let mut closed = table.close_with(seat);
         let word = closed.word(0);
         let cell = closed.take(0);
+        for other in 1..closed.slot_count() {
+            let _cell = closed.take(other);
+        }
         closed.free();
         if word % 2 == 1 {
             return Err(Held { word });

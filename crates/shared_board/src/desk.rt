@@ -1,6 +1,6 @@
 //! A desk of the board.
 
-ghost use Rattle.std.specs.Prelude.{◌≡◌, ◌↔◌, ◌≤◌, [], length, replicate, IfOk, IfSome, OnErr, Some, None};
+ghost use Rattle.std.specs.Prelude.{◌≡◌, ◌≢◌, [], ◌∷◌, length, replicate, IfErr, IfOk, OnErr, Some, None};
 ghost use mathlib.Core.List.{IsPrefix};
 ghost use Rattle.hamming_model.specs.History.{code_at, rows_of};
 ghost use Rattle.hamming_model.specs.Recoded.{IsStoredOperation};
@@ -8,9 +8,10 @@ ghost use Rattle.hamming_model.specs.declared.limits.TheConstants.{SESSIONS_MOST
 ghost use Rattle.entry_log.specs.Entries.{kept_operation};
 ghost use Rattle.session_desk.specs.Calls.{ClosesFront, CommitsAt, OnlyLearns, OpensFront};
 ghost use Rattle.session_desk.specs.Desks.{IsDesk, IsOwnFront};
-ghost use Rattle.board_seats.specs.Views.{AmongFronts, AreOfOthers, knower};
+ghost use Rattle.board_seats.specs.Views.{AmongFronts, AreOfOthers, knower, without_id};
 ghost use Rattle.shared_board.specs.Boards.{HasPlaces, IsAskedFor, board_number};
 ghost use Rattle.shared_board.specs.Shared.{fresh_desk, shared_desk};
+ghost use Rattle.shared_board.specs.declared.desk.DeskFault.TheVariants.{Numbers};
 
 use crate::pinned_layout::PinnedLayout;
 use board_seats::{Place, Seen};
@@ -26,6 +27,7 @@ use std::sync::Wait;
 /// A session's desk at a board. It waits for the place that a call needs with its own runtime.
 #[derive(Drop)]
 pub struct SharedDesk<'b, const W: usize, R: Wait + Copy> {
+    alloc: Global,
     place: &'b Place<W>,
     seat: Seen<W>,
     rt: R,
@@ -63,6 +65,7 @@ pub enum DeskFault {
 impl<'b, const W: usize, R: Wait + Copy> SharedDesk<'b, W, R> {
     // The desk with number 0.
     pub(crate) fn first(
+        alloc: Global,
         place: &'b Place<W>,
         seat: Seen<W>,
         rt: R,
@@ -77,6 +80,7 @@ impl<'b, const W: usize, R: Wait + Copy> SharedDesk<'b, W, R> {
         ensures { result ≡ fresh_desk (board_number place.now.table_id) 0 config [] 1 }
     {
         SharedDesk {
+            alloc,
             place,
             seat,
             rt,
@@ -134,6 +138,167 @@ impl<'b, const W: usize, R: Wait + Copy> SharedDesk<'b, W, R> {
         let rt = self.rt;
         board_seats::code_of(&rt, place, &mut self.seat, key)
     }
+
+    /// A front at the length of all that is seen.
+    ///
+    /// # Errors
+    ///
+    /// `NoMemory` where there is none for the front.
+    pub fn open_front(&mut self) -> Result<Front<W>, NoMemory>
+        // The front.
+        ensures opened { IfOk result (λ front. OpensFront (shared_desk self.old)
+            (shared_desk self.new) front) }
+        ensures own { IfOk result (λ front. IsOwnFront (shared_desk self.new) front) }
+        ensures fronts { IfOk result (λ front. self.new.fronts ≡ front ∷ self.old.fronts) }
+        // No memory.
+        ensures unchanged { OnErr result (OnlyLearns (shared_desk self.old)
+            (shared_desk self.new)) }
+        ensures same { OnErr result (self.new.fronts ≡ self.old.fronts) }
+    {
+        let place = self.place;
+        let rt = self.rt;
+        let front = board_seats::open_front(&rt, place, &mut self.seat, self.who)?;
+        self.last = front.position();
+        Ok(front)
+    }
+
+    /// Closes a front of this desk.
+    pub fn close_front(&mut self, front: Front<W>)
+        requires own { AmongFronts self.old.fronts front }
+        ensures closed { ClosesFront (shared_desk self.old) (shared_desk self.new) front.entry }
+        ensures fronts { self.new.fronts ≡ without_id front.entry.id self.old.fronts }
+    {
+        let place = self.place;
+        let rt = self.rt;
+        board_seats::close_front(&rt, place, &mut self.seat, front);
+    }
+
+    /// A new desk at the same board, which has seen what this one has.
+    ///
+    /// # Errors
+    ///
+    /// `Numbers` where all `SESSIONS_MOST` numbers are out, `NoMemory` where there is none for its pins.
+    pub fn desk(&mut self) -> Result<SharedDesk<'b, W, R>, DeskFault>
+        // The new desk.
+        ensures desk { IfOk result (λ desk. desk
+            ≡ fresh_desk self.old.board desk.who self.old.config desk.seen desk.next) }
+        ensures begins { IfOk result (λ desk. IsPrefix self.old.seen desk.seen) }
+        ensures others { IfOk result (λ desk. AreOfOthers (Some desk.who) desk.seen) }
+        ensures number { IfOk result (λ desk. (self.new.next ≡ desk.who)
+            × (desk.who ≢ SESSIONS_MOST)) }
+        // No number is left.
+        ensures numbers { IfErr result (λ fault. fault ≡ Numbers
+            → self.new.next ≡ SESSIONS_MOST) }
+        // This desk.
+        ensures learns { OnlyLearns (shared_desk self.old) (shared_desk self.new) }
+        ensures fronts { self.new.fronts ≡ self.old.fronts }
+    {
+        let Ok(pins) = no_pins(self.alloc, self.config.shards) else {
+            return Err(DeskFault::NoMemory);
+        };
+        let place = self.place;
+        let rt = self.rt;
+        let mut seat = board_seats::note(place, &mut self.seat);
+        let drawn = board_seats::draw(&rt, place, &mut seat);
+        let found = board_seats::note(place, &mut seat);
+        board_seats::find(place, &mut self.seat, found);
+        match drawn {
+            Some(who) => Ok(SharedDesk {
+                alloc: self.alloc,
+                place,
+                seat,
+                rt,
+                config: self.config,
+                who,
+                last: 0,
+                pins,
+                done: 0,
+                late: 0,
+            }),
+            None => Err(DeskFault::Numbers),
+        }
+    }
+
+    /// What this desk has seen, for another to meet.
+    ///
+    /// # Errors
+    ///
+    /// `NoMemory` where there is none for it.
+    pub fn note(&mut self) -> Result<Note<'b, W>, NoMemory>
+        ensures same { self.new ≡ self.old }
+        ensures note { IfOk result (λ note. note ≡ (self.old.board, self.old.seen)) }
+    {
+        let place = self.place;
+        let seat = board_seats::note(place, &mut self.seat);
+        Ok(Note { place, seat })
+    }
+
+    /// Sees what the note's desk had seen.
+    pub fn meet(&mut self, note: Note<'b, W>)
+        requires board { note.0 ≡ self.old.board }
+        ensures learns { OnlyLearns (shared_desk self.old) (shared_desk self.new) }
+        ensures met { IsPrefix note.entry.1 self.new.seen }
+        ensures fronts { self.new.fronts ≡ self.old.fronts }
+    {
+        let place = self.place;
+        let Note { place: _, seat } = note;
+        board_seats::meet(place, &mut self.seat, seat);
+    }
+
+    /// Gives up this desk to another, which has then seen what both had.
+    pub fn leave(self, into: &mut SharedDesk<'b, W, R>)
+        requires board { self.board ≡ into.old.board }
+        requires fronts { self.fronts ≡ [] }
+        ensures learns { OnlyLearns (shared_desk into.old) (shared_desk into.new) }
+        ensures met { IsPrefix self.entry.seen into.new.seen }
+        ensures fronts { into.new.fronts ≡ into.old.fronts }
+    {
+        let place = into.place;
+        let SharedDesk {
+            alloc: _,
+            place: _,
+            seat,
+            rt: _,
+            config: _,
+            who: _,
+            last: _,
+            pins: _,
+            done: _,
+            late: _,
+        } = self;
+        board_seats::meet(place, &mut into.seat, seat);
+    }
+
+    /// Ends the loan of the board, and keeps what was seen.
+    pub fn stand(self) -> Standing<W>
+        requires fronts { self.fronts ≡ [] }
+        ensures { result ≡ (self.entry.board, self.entry.seen) }
+    {
+        let SharedDesk {
+            alloc: _,
+            place: _,
+            seat,
+            rt: _,
+            config: _,
+            who: _,
+            last: _,
+            pins: _,
+            done: _,
+            late: _,
+        } = self;
+        Standing { seat }
+    }
+}
+
+// A pin for each of so many shards, of which none gave a version yet.
+fn no_pins(alloc: Global, shards: u32) -> Result<Vec<Option<(u64, PinnedLayout)>>, NoMemory>
+    ensures { IfOk result (λ pins. pins.items ≡ replicate shards None) }
+{
+    let mut pins = Vec::new(alloc);
+    for _ in 0..shards {
+        pins.push(None)?;
+    }
+    Ok(pins)
 }
 
 /// What a desk had seen, for another to meet. Seen as the board's number and those entries.
