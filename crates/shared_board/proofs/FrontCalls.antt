@@ -55,8 +55,9 @@ module _ {W : ℕ} (table seat : TableId) (me : Me (Cell W) (View W)) (who : ℕ
     all_seen : front.entries ≡ me'.0.seen
     all_seen = opens.entries ∙ sym (opened_seen ∙ history_stays)
 
-    pub opened_desk : OpensFront (shared_desk now) (desk_at me' (position_of front)) front
-    opened_desk = subst (λ (s : SharedState). OpensFront (shared_desk s) (desk_at me' (position_of front)) front) is_now (record {
+    pub opened_desk : (last' : ℕ) → last' ≡ position_of front → OpensFront (shared_desk now) (desk_at me' last') front
+    opened_desk last' e = subst (λ (n : ℕ). OpensFront (shared_desk now) (desk_at me' n) front) (sym e)
+        (subst (λ (s : SharedState). OpensFront (shared_desk s) (desk_at me' (position_of front)) front) is_now (record {
       learns = subst (Learns before) (sym (opened_seen ∙ history_stays))
           (learns_history table seat me who config last pins done late old now is_now visit.config visit.old visit.knows);
       entries = all_seen;
@@ -78,10 +79,10 @@ module _ {W : ℕ} (table seat : TableId) (me : Me (Cell W) (View W)) (who : ℕ
               fronts = map.insert (live_map me.0.fronts) front.id (who, length h);
               last = length h;
             })) all_seen;
-    })
+    }))
 
-    pub opened_own : IsOwnFront (desk_at me' (position_of front)) front
-    opened_own = subst (λ (fronts : List FrontState). map.get (live_map fronts) front.id ≡ Some (front.who, position_of front)) (sym fronts_are)
+    pub opened_own : (last' : ℕ) → IsOwnFront (desk_at me' last') front
+    opened_own last' = subst (λ (fronts : List FrontState). map.get (live_map fronts) front.id ≡ Some (front.who, position_of front)) (sym fronts_are)
         (own_there me.0.fronts front)
 
   -- ---- a front less

@@ -1,3 +1,5 @@
+pub mod DeskLemmas
 pub mod FrontCalls
 pub mod MapLemmas
 pub mod SharedLemmas
+pub mod StartLemmas

@@ -18,7 +18,7 @@ use Rattle.session_desk.specs.Desks.{DeskState, IsDesk, Pin, pin_position, pinne
 use Rattle.board_seats.specs.declared.rule.Cell.{Cell}
 use Rattle.board_seats.specs.declared.rule.View.{View}
 use Rattle.board_seats.specs.Rule.{IsJournalOf}
-use Rattle.board_seats.specs.Views.{IsViewOf, settled_view, taking}
+use Rattle.board_seats.specs.Views.{IsViewOf, knower, settled_view, taking}
 use Rattle.board_seats.specs.Visits.{IsFree, Visited}
 use Rattle.board_seats.specs.Told.{SeesAll}
 use Rattle.shared_board.specs.Boards.{HasPlaces, IsAskedFor, board_number}
@@ -213,12 +213,36 @@ module _ {W : ℕ} (table seat : TableId) (me : Me (Cell W) (View W)) (who : ℕ
       pub met_fronts : me'.0.fronts ≡ now.fronts
       met_fronts = ap (λ (m : Me (Cell W) (View W)). m.0.fronts) sees.me_is ∙ ap (λ (s : SharedState). s.fronts) is_now
 
+-- ---- the first desk
+module _ {W : ℕ} (table seat : TableId) (me : Me (Cell W) (View W)) (config : Config) (pins : List (Option Pin)) (none : pins ≡ replicate config.shards None)
+    (first : me ≡ (knower (Some 0) [] 1 (Some config) [], [])) where
+  pub first_is : seated_of table 0 config me.0 0 pins 0 0 ≡ fresh_desk (board_number table) 0 config [] 1
+  first_is =
+      fresh_is table seat me 0 config pins none (ap (λ (m : Me (Cell W) (View W)). m.0.fronts) first) (ap (λ (m : Me (Cell W) (View W)). m.0.left) first)
+      ∙ ap (λ (m : Me (Cell W) (View W)). fresh_desk (board_number table) 0 config m.0.seen m.0.next) first
+
+  pub first_seated : seat ≡ table → HasPlaces table config → IsAskedFor W config → IsSeated table seat me (seated_of table 0 config me.0 0 pins 0 0)
+  first_seated same places fits =
+      let seen : me.0.seen ≡ [] = ap (λ (m : Me (Cell W) (View W)). m.0.seen) first in
+      fresh_seated table seat me 0 config pins none (ap (λ (m : Me (Cell W) (View W)). m.0.fronts) first)
+      (ap (λ (m : Me (Cell W) (View W)). m.0.left) first) same places
+      (record { slots = ap (λ (m : Me (Cell W) (View W)). m.1) first; held = ap (λ (m : Me (Cell W) (View W)). m.0.held) first })
+      (ap (λ (m : Me (Cell W) (View W)). m.0.number) first) (ap (λ (m : Me (Cell W) (View W)). m.0.config) first) fits
+      (subst IsLegal (sym seen) (record { each = λ i other low. absurd (omega (arith, low)) }))
+      (let long = ap length seen in omega arith) (subst (AreStoredEntries W config.bits) (sym seen) tt)
+
+pub replicate_more : {A : Type 0} (n : ℕ) (x : A) → replicate n x ++ x ∷ [] ≡ replicate (n + 1) x
+replicate_more {A} zero x = refl
+replicate_more {A} (suc n) x =
+    let next : suc n + 1 ≡ suc (n + 1) = omega arith in
+    ap (λ (l : List A). x ∷ l) (replicate_more n x) ∙ ap (λ (k : ℕ). replicate k x) (sym next)
+
 -- ---- answers
 module _ {A B : Type 0} (result : Result A B) where
-  pub visit_of : {V : Type 0} {P : A → V → Type 0} {Q : V → Type 0} → IfOk result (λ a. (v : V) × P a v) → OnErr result ((v : V) × Q v) → V
-  visit_of = go result
+  pub visit_of : (V : Type 0) (P : A → V → Type 0) (Q : V → Type 0) → IfOk result (λ a. (v : V) × P a v) → OnErr result ((v : V) × Q v) → V
+  visit_of V P Q = go result
     where
-      go : (r : Result A B) → {V : Type 0} {P : A → V → Type 0} {Q : V → Type 0} → IfOk r (λ a. (v : V) × P a v) → OnErr r ((v : V) × Q v) → V
+      go : (r : Result A B) → IfOk r (λ a. (v : V) × P a v) → OnErr r ((v : V) × Q v) → V
       go (Ok a) done failed = done.0
       go (Err b) done failed = failed.0
 
@@ -228,6 +252,13 @@ module _ {A B : Type 0} (result : Result A B) where
       go : (r : Result A B) → {P Q : A → Type 0} → ((a : A) → P a → Q a) → IfOk r P → IfOk r Q
       go (Ok a) f p = f a p
       go (Err b) f p = tt
+
+  pub any_err : {Q : Type 0} → Q → OnErr result Q
+  any_err = go result
+    where
+      go : (r : Result A B) → {Q : Type 0} → Q → OnErr r Q
+      go (Ok a) q = tt
+      go (Err b) q = q
 
   pub map_err : {P Q : Type 0} → (P → Q) → OnErr result P → OnErr result Q
   map_err = go result

@@ -295,7 +295,7 @@ fn no_pins(alloc: Global, shards: u32) -> Result<Vec<Option<(u64, PinnedLayout)>
     ensures { IfOk result (λ pins. pins.items ≡ replicate shards None) }
 {
     let mut pins = Vec::new(alloc);
-    for _ in 0..shards {
+    for number in 0..shards {
         pins.push(None)?;
     }
     Ok(pins)

@@ -8,7 +8,7 @@ invariant_of-self g c =
     settled_seated c.self.inside.place.now.table_id c.self.inside.seat.table_id c.self.inside.seat.me c.self.inside.who c.self.inside.config
       c.self.inside.last c.self.inside.pins.items c.self.inside.done c.self.inside.late c.self.invariant c.args.self.now c.self.view_is c.commit.new.me.table_id c.commit.new.me.me
       c.commit.ensures.table
-      (visit_of c.commit.result c.commit.ensures.decided c.commit.ensures.unchanged)
+      (visit_of c.commit.result _ _ _ c.commit.ensures.decided c.commit.ensures.unchanged)
 
 pub returns-clause-decided : goal.returns-clause-decided
 returns-clause-decided g c =
