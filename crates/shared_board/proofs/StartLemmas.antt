@@ -1,9 +1,10 @@
 -- How a board begins.
-use Rattle.std.proofs.Common.{◌≡◌, ◌⊎◌, ⊎_elim, inl, inr, ℕ, zero, suc, ◌+◌, ◌*◌, ◌<◌, ◌≤◌, List, [], ◌∷◌, ◌++◌, length, map, replicate, get_or, refl, sym, ap, subst, ◌∙◌, arith, Option, Some, None}
+use Rattle.std.proofs.Common.{◌≡◌, ◌≢◌, Bool, true, false, set, ◌⊎◌, ⊎_elim, inl, inr, ℕ, zero, suc, ◌+◌, ◌*◌, ◌<◌, ◌≤◌, List, [], ◌∷◌, ◌++◌, length, map, replicate, get_or, refl, sym, ap, subst, ◌∙◌, arith, Option, Some, None}
 use mathlib.Core.Option as core
 use mathlib.Core.Option.{some, none, some-injective, some-ne-none}
 use lib.ListN.{get_elem?}
-use Rattle.std.proofs.lemmas.List.{length-map}
+use Rattle.std.proofs.lemmas.Bool.{cases_eq}
+use Rattle.std.proofs.lemmas.List.{get_or-set_other, length-map}
 use Rattle.part_layout.specs.Laid.{IsLaid, Laid}
 use Rattle.part_layout.specs.declared.config.Config.{Config}
 use Rattle.hamming_model.specs.History.{JournalEntry}
@@ -21,8 +22,8 @@ use Rattle.board_seats.specs.Rule.{IsBoardShard, IsShown}
 use Rattle.board_seats.specs.Views.{IsViewOf, knower}
 use Rattle.board_seats.proofs.ClaimLemmas.{same_config}
 use Rattle.board_seats.proofs.TableLemmas.{holds_none, of_some}
-use Rattle.shared_board.specs.Boards.{AreLaid, IsAskedFor, cells_of, first_shards, opened_journal}
-use Rattle.shared_board.proofs.SharedLemmas.{replicate_more}
+use Rattle.shared_board.specs.Boards.{AreLaid, AreOut, IsAskedFor, cells_of, first_shards, opened_journal, shard_cell}
+use Rattle.shared_board.proofs.SharedLemmas.{replicate_length, replicate_more}
 
 -- ---- lists
 module _ {A : Type 0} where
@@ -37,21 +38,21 @@ module _ {A : Type 0} where
   at_below (x ∷ l) zero y e = omega arith
   at_below (x ∷ l) (suc k) y e = let low = at_below l k y e in omega arith
 
-same_at : (n k : ℕ) → k < n → get_elem? (replicate n 0) k ≡ some 0
+same_at : (n k : ℕ) → k < n → get_elem? {A = ℕ} (replicate n 0) k ≡ some 0
 same_at zero k low = absurd (omega arith)
 same_at (suc n) zero low = refl
 same_at (suc n) (suc k) low = same_at n k (omega arith)
 
 shard_at : {W : ℕ} (shards : List ShardState) (k : ℕ) (shard : ShardState) → get_elem? shards k ≡ some shard
-    → get_elem? (map some (map (λ each. Cell.Shard {W = W} each) shards)) k ≡ some (some (Cell.Shard shard))
+    → get_elem? (map some (map (shard_cell {W = W}) shards)) k ≡ some (some (Cell.Shard shard))
 shard_at [] k shard e = absurd (some-ne-none shard (sym e))
-shard_at {W} (first ∷ shards) zero shard e = ap (λ (each : ShardState). some (some (Cell.Shard {W = W} each))) (some-injective first shard e)
+shard_at {W} (first ∷ shards) zero shard e = ap (λ (each : ShardState). some (some (shard_cell {W = W} each))) (some-injective first shard e)
 shard_at (first ∷ shards) (suc k) shard e = shard_at shards k shard e
 
 map_more : {W : ℕ} (shards : List ShardState) (shard : ShardState)
-    → map (λ each. Cell.Shard {W = W} each) (shards ++ shard ∷ []) ≡ map (λ each. Cell.Shard each) shards ++ Cell.Shard shard ∷ []
+    → map (shard_cell {W = W}) (shards ++ shard ∷ []) ≡ map shard_cell shards ++ shard_cell shard ∷ []
 map_more [] shard = refl
-map_more {W} (first ∷ shards) shard = ap (λ (l : List (Cell W)). Cell.Shard first ∷ l) (map_more shards shard)
+map_more {W} (first ∷ shards) shard = ap (λ (l : List (Cell W)). shard_cell first ∷ l) (map_more shards shard)
 
 -- ---- the first shards
 length_first : (config : Config) (n : ℕ) → length (first_shards config n) ≡ n
@@ -139,7 +140,7 @@ module _ {W : ℕ} (config : Config) (n : ℕ) (fits : IsAskedFor W config) (lai
       };
       shards = stands;
     };
-    count = length-map (cells_of {W = W} journal shards) some ∙ ap suc (length-map shards (λ each. Cell.Shard {W = W} each));
+    count = length-map (cells_of {W = W} journal shards) some ∙ ap suc (length-map shards (shard_cell {W = W}));
     left = λ id view e k shard there. subst (λ (u : View W). get_or u.left k 0 ≤ shard.current.at) (sym (the_view id view e).1) (omega arith);
     desks = λ id view e. subst (IsViewOf config journal) (sym (the_view id view e).1) knows;
     differ = λ id id' view view' session e e' is is'. (the_view id view e).0 ∙ sym (the_view id' view' e').0;
@@ -150,3 +151,34 @@ module _ {W : ℕ} (config : Config) (n : ℕ) (fits : IsAskedFor W config) (lai
   laid_begins words slots pins are =
       subst (λ (ws : List ℕ). IsShown (opening ws slots first_view)) (sym are.words_are)
       (subst (λ (xs : List (Cell W)). IsShown (opening (0 ∷ replicate n 0) xs first_view)) (sym are.slots_are) begins)
+
+-- so many words and cells are laid
+pub laid_words : {W : ℕ} (config : Config) (n : ℕ) (words : List ℕ) (slots : List (Cell W)) (pins : List (Option Pin)) → AreLaid config n words slots pins
+    → length words ≡ suc n
+laid_words config n words slots pins are = ap length are.words_are ∙ ap suc (replicate_length n 0)
+
+pub laid_slots : {W : ℕ} (config : Config) (n : ℕ) (words : List ℕ) (slots : List (Cell W)) (pins : List (Option Pin)) → AreLaid config n words slots pins
+    → length slots ≡ suc n
+laid_slots {W} config n words slots pins are =
+    ap length are.slots_are ∙ ap suc (length-map (first_shards config n) (shard_cell {W = W}) ∙ length_first config n)
+
+-- ---- cells that are taken out one after the other
+gone_at : (filled : List Bool) (n : ℕ) → get_or (set filled n false) n false ≡ false
+gone_at [] n = refl
+gone_at (x ∷ filled) zero = refl
+gone_at (x ∷ filled) (suc n) = gone_at filled n
+
+pub out_first : (filled : List Bool) (count : ℕ) → ((k : ℕ) → k < count → get_or filled k false ≡ true) → AreOut (set filled 0 false) count 1
+out_first filled count full = record {
+  below = λ k low. subst (λ (n : ℕ). get_or (set filled 0 false) n false ≡ false) (let nought : 0 ≡ k = omega arith in nought) (gone_at filled 0);
+  above = λ k high low. get_or-set_other filled 0 k false false (λ e. omega arith) ∙ full k low;
+}
+
+pub out_more : (filled : List Bool) (count n : ℕ) → AreOut filled count n → AreOut (set filled n false) count (n + 1)
+out_more filled count n out = record {
+  below = λ k low. elim (cases_eq k n) [
+    | inl same ↦ subst (λ (m : ℕ). get_or (set filled n false) m false ≡ false) (sym same) (gone_at filled n)
+    | inr apart ↦ get_or-set_other filled n k false false apart ∙ out.below k (omega arith)
+  ];
+  above = λ k high low. get_or-set_other filled n k false false (λ e. omega arith) ∙ out.above k (omega arith) low;
+}

@@ -1,5 +1,5 @@
 -- What a contract sees of a board, and how its table is laid.
-use Rattle.std.specs.Prelude.{◌≡◌, ℕ, zero, suc, ◌+◌, ◌*◌, ◌≤◌, List, [], ◌∷◌, ◌++◌, map, replicate, Option, Some, None}
+use Rattle.std.specs.Prelude.{◌≡◌, ℕ, zero, suc, ◌+◌, ◌*◌, ◌<◌, ◌≤◌, Bool, true, false, slice_index_or, List, [], ◌∷◌, ◌++◌, map, replicate, Option, Some, None}
 use Rattle.hamming_model.specs.declared.limits.TheConstants.{WORDS_MOST}
 use Rattle.part_layout.specs.Ranges.{IsConfig}
 use Rattle.part_layout.specs.declared.config.Config.{Config}
@@ -36,9 +36,13 @@ first_shards config zero = []
 first_shards config (suc number) =
     first_shards config number ++ first_shard_of config number ∷ []
 
+-- a shard as a cell
+abbrev pub shard_cell : {W : ℕ} → ShardState → Cell W
+shard_cell shard = Cell.Shard shard
+
 -- the journal and the shards as cells
 abbrev pub cells_of : {W : ℕ} → JournalState → List ShardState → List (Cell W)
-cells_of journal shards = Cell.Journal journal ∷ map (λ shard. Cell.Shard shard) shards
+cells_of journal shards = Cell.Journal journal ∷ map shard_cell shards
 
 -- the words, the cells and the pins of a board with so many shards
 pub record AreLaid {W : ℕ} (config : Config) (number : ℕ) (words : List ℕ)
@@ -46,3 +50,8 @@ pub record AreLaid {W : ℕ} (config : Config) (number : ℕ) (words : List ℕ)
   pub words_are : words ≡ 0 ∷ replicate number 0
   pub slots_are : slots ≡ cells_of (opened_journal config.entries) (first_shards config number)
   pub pins_are : pins ≡ replicate number None
+
+-- of so many cells those before a number were taken out, and those from it on are there
+pub record AreOut (filled : List Bool) (count number : ℕ) : Type 0 where
+  pub below : (k : ℕ) → k < number → slice_index_or filled k false ≡ false
+  pub above : (k : ℕ) → number ≤ k → k < count → slice_index_or filled k false ≡ true

@@ -152,7 +152,8 @@ impl<const W: usize> Board<W> {
         let mut closed = table.close_with(seat);
         let word = closed.word(0);
         let cell = closed.take(0);
-        for other in 1..closed.slot_count() {
+        let count = closed.slot_count();
+        for other in 1..count {
             let _cell = closed.take(other);
         }
         closed.free();
