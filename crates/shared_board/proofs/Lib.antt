@@ -1,4 +1,5 @@
 pub mod DeskLemmas
+pub mod EndLemmas
 pub mod FrontCalls
 pub mod MapLemmas
 pub mod SharedLemmas
