@@ -1,5 +1,5 @@
 -- The claim of the journal keeps the rule.
-use Rattle.std.proofs.Common.{◌≡◌, ◌≢◌, ℕ, suc, ◌+◌, ◌*◌, ◌%◌, ◌==◌, Bool, true, false, List, [], ◌∷◌, inl, inr, length, set, sym, refl, ap, ◌∙◌, subst, arith, eq-eqb, Some, None}
+use Rattle.std.proofs.Common.{◌≡◌, ℕ, suc, ◌+◌, ◌*◌, ◌%◌, ◌==◌, Bool, true, false, [], ◌∷◌, inl, inr, length, set, sym, refl, ap, ◌∙◌, subst, arith, eq-eqb, Some, None}
 use mathlib.Core.Option.{some, none}
 use lib.ListN.{get_elem?}
 use prog.Atomic.{either}
@@ -53,27 +53,30 @@ module _ {W : ℕ} (slots id : ℕ) (me : Me (Cell W) (View W)) (old : ℕ) (fre
           w,
           takes 0 (Cell.Journal journal),
           h.home,
-          (board, record {
-            journal = inr (record {
-              word = set_there s.words 0 (old + 1) (2 * length journal.history) h.word ∙ ap (λ m. some (m + 1)) (sym same ∙ number);
-              home = set_there s.homes 0 none (some (Cell.Journal journal)) h.home;
-              id = id;
-              view = w;
-              stands = set_there s.views id w me.0 at;
-              holds = refl;
-              alone = λ k u c e. all_set (λ k' u'. (c' : Cell W) → u'.held ≡ Some (0, c') → k' ≡ id) s.views id w (λ c' e'. refl)
-                  (λ k' u' _ e' c' e''. absurd (h.nobody k' u' c' e' e'')) k u e c;
-            });
-            places = λ k shard there. shows_same s id me.0 w at (suc k) (Cell.Shard shard) (set s.words 0 (old + 1)) (set s.homes 0 none)
-                (set_else s.words 0 (suc k) (old + 1) (λ z. omega arith)) (set_else s.homes 0 (suc k) none (λ z. omega arith))
-                (λ c e'. absurd (let z = other_place 0 (suc k) (Cell.Journal journal) c e' in omega arith))
-                (λ c e'. absurd (holds_none me.0.held (suc k) c free e')) (kept.1.places k shard there);
-            sound = kept.1.sound;
-            count = length-set s.homes 0 none ∙ kept.1.count;
-            left = all_set (λ _ u. IsLeftBehind board u) s.views id w (kept.1.left id me.0 at) (λ k u _ e'. kept.1.left k u e');
-            desks = all_set (λ _ u. IsViewOf config journal u) s.views id w (taken_view config journal me.0 desk) (λ k u _ e'. kept.1.desks k u e');
-            differ = differ_set s id me.0 w at kept.1.differ (λ n' e'. inl e');
-          }),
+          (
+            board,
+            record {
+              journal = inr (record {
+                word = set_there s.words 0 (old + 1) (2 * length journal.history) h.word ∙ ap (λ m. some (m + 1)) (sym same ∙ number);
+                home = set_there s.homes 0 none (some (Cell.Journal journal)) h.home;
+                id = id;
+                view = w;
+                stands = set_there s.views id w me.0 at;
+                holds = refl;
+                alone = λ k u c e. all_set (λ k' u'. (c' : Cell W) → u'.held ≡ Some (0, c') → k' ≡ id) s.views id w (λ c' e'. refl)
+                    (λ k' u' _ e' c' e''. absurd (h.nobody k' u' c' e' e'')) k u e c;
+              });
+              places = λ k shard there. shows_same s id me.0 w at (suc k) (Cell.Shard shard) (set s.words 0 (old + 1)) (set s.homes 0 none)
+                  (set_else s.words 0 (suc k) (old + 1) (λ z. omega arith)) (set_else s.homes 0 (suc k) none (λ z. omega arith))
+                  (λ c e'. absurd (let z = other_place 0 (suc k) (Cell.Journal journal) c e' in omega arith))
+                  (λ c e'. absurd (holds_none me.0.held (suc k) c free e')) (kept.1.places k shard there);
+              sound = kept.1.sound;
+              count = length-set s.homes 0 none ∙ kept.1.count;
+              left = all_set (λ _ u. IsLeftBehind board u) s.views id w (kept.1.left id me.0 at) (λ k u _ e'. kept.1.left k u e');
+              desks = all_set (λ _ u. IsViewOf config journal u) s.views id w (taken_view config journal me.0 desk) (λ k u _ e'. kept.1.desks k u e');
+              differ = differ_set s id me.0 w at kept.1.differ (λ n' e'. inl e');
+            },
+          ),
           record {
             config = config;
             journal = journal;

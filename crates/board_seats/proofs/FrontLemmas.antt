@@ -1,12 +1,11 @@
 -- Live fronts as a finite map, with one more and with one less.
-use Rattle.std.proofs.Common.{◌≡◌, ℕ, ◌==◌, Bool, true, false, cond, List, [], ◌∷◌, ◌⊎◌, inl, inr, refl, sym, ap, ◌∙◌, Some, None, is_some}
+use Rattle.std.proofs.Common.{◌≡◌, ℕ, ◌==◌, Bool, true, false, cond, List, [], ◌∷◌, inl, inr, refl, ap, ◌∙◌, Some, None, is_some}
 use Rattle.std.specs.Cmp.{nat_cmp_total, unsigned_tied}
 use Rattle.std.specs.FinMap.{FinMap, get, insert, remove, get-insert, get-remove}
 use Rattle.std.specs.Ordering.{nat_cmp}
 use Rattle.commit_journal.specs.Fronts.{FrontState, live_at}
-use Rattle.commit_journal.specs.Journals.{IsLive, JournalState}
-use Rattle.commit_journal.specs.Journals as journals
-use Rattle.board_seats.specs.Views.{AmongFronts, living_fronts, without_id}
+use Rattle.commit_journal.specs.Journals.{JournalState}
+use Rattle.board_seats.specs.Views.{AmongFronts, living_fronts}
 
 module _ {T : Type 0} (live : FinMap nat_cmp T) (id : ℕ) where
   pub map_insert : (value : T) (q : ℕ) → get (insert live id value) q ≡ cond (q == id) (Some value) (get live q)

@@ -1,5 +1,5 @@
 -- What each call makes of the journal and of the seat's view may be released.
-use Rattle.std.proofs.Common.{◌≡◌, ◌≢◌, ℕ, ◌+◌, ◌*◌, ◌<◌, ◌≤◌, ◌==◌, Bool, true, false, cond, List, [], ◌∷◌, ◌++◌, ◌⊎◌, inl, inr, length, refl, sym, ap, ◌∙◌, subst, append-nil, append_assoc, arith, Option, Some, None, eqb-true, eq-eqb, true≢false, is_some}
+use Rattle.std.proofs.Common.{◌≡◌, ◌≢◌, ℕ, ◌+◌, ◌<◌, ◌≤◌, ◌==◌, Bool, true, false, cond, List, [], ◌∷◌, ◌++◌, inl, inr, length, refl, sym, ap, ◌∙◌, subst, append-nil, append_assoc, arith, Option, Some, None, eqb-true, eq-eqb, true≢false, is_some}
 use Rattle.std.specs.List.{AllByRecursion}
 use Rattle.std.specs.FinMap as map
 use Rattle.hamming_model.specs.History.{JournalEntry, Operation, is_accepted}
@@ -15,7 +15,7 @@ use Rattle.versioned_shard.specs.Shards.{ShardState}
 use Rattle.board_seats.specs.declared.rule.View.{View}
 use Rattle.board_seats.specs.Moves.{Releases}
 use Rattle.board_seats.specs.Rule.{IsJournalOf}
-use Rattle.board_seats.specs.Views.{AmongFronts, IsOwnLive, IsViewOf, living_fronts, settled_view, with_front, with_living, with_number}
+use Rattle.board_seats.specs.Views.{AmongFronts, IsOwnLive, IsViewOf, settled_view, with_front, with_living, with_number}
 use Rattle.board_seats.specs.Visits.{IsStoredFor}
 use Rattle.board_seats.proofs.FrontLemmas.{lives_on, map_insert, map_remove}
 use Rattle.board_seats.proofs.SeatLemmas.{nothing_new}
@@ -77,8 +77,8 @@ module _ {W : ℕ} (config : Config) (v : View W) (old : JournalState) (sound : 
               room = sound.room;
               sound = whole;
               drawn = subst (AllByRecursion (λ each. each.who < new.next)) longer (all_join (λ each. each.who < new.next) old.history (entry ∷ [])
-                (all_weaker (λ each. each.who < old.next) (λ each. each.who < new.next) old.history (λ each low. omega arith) sound.drawn)
-                (let low = knows.number entry.who number in omega arith, tt));
+                  (all_weaker (λ each. each.who < old.next) (λ each. each.who < new.next) old.history (λ each low. omega arith) sound.drawn)
+                  (let low = knows.number entry.who number in omega arith, tt));
               limit = ap (λ (j : JournalState). j.limit) is ∙ sound.limit;
               codes = subst (AreStoredEntries W config.bits) longer
                   (all_join (λ each. IsStoredOperation W config.bits each.operation) old.history (entry ∷ []) sound.codes (stored, tt));
@@ -172,14 +172,14 @@ module _ {W : ℕ} (config : Config) (v : View W) (old : JournalState) (sound : 
           let mine = knows.fronts front own in
           let pair : Some (front.who, position_of front) ≡ Some (other.who, position_of other) = sym mine.live ∙ ap (live_at old.live) (sym same) ∙ stands in
           let who : front.who ≡ other.who =
-              (let both : (front.who, position_of front) ≡ (other.who, position_of other) = cc in ap (λ (p : ℕ × ℕ). p.0) both) in
+          (let both : (front.who, position_of front) ≡ (other.who, position_of other) = cc in ap (λ (p : ℕ × ℕ). p.0) both) in
           apart (mine.who ∙ ap Some who)
 
       still_there : (other : FrontState) → is_some (live_at new.live other.id) ≡ true → other.id ≢ front.id
       still_there other there same =
           let gone : live_at new.live other.id ≡ None =
-              ap (live_at new.live) same ∙ ap (λ (j : JournalState). live_at j.live front.id) is ∙ map_remove old.live front.id front.id
-              ∙ ap (λ b. cond b None (live_at old.live front.id)) (eq-eqb front.id front.id refl) in
+          ap (live_at new.live) same ∙ ap (λ (j : JournalState). live_at j.live front.id) is ∙ map_remove old.live front.id front.id
+          ∙ ap (λ b. cond b None (live_at old.live front.id)) (eq-eqb front.id front.id refl) in
           let never : is_some (live_at new.live other.id) ≡ false = ap is_some gone in
           true≢false (sym there ∙ never)
 

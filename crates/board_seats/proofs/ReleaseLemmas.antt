@@ -1,5 +1,5 @@
 -- The release of the journal keeps the rule.
-use Rattle.std.proofs.Common.{◌≡◌, ◌≢◌, ℕ, suc, ◌+◌, ◌*◌, ◌<◌, ◌≤◌, ◌==◌, true, List, [], ◌∷◌, ◌++◌, ◌⊎◌, ⊎_elim, inl, inr, length, set, get_or, sym, refl, ap, ◌∙◌, subst, append_assoc, arith, Option, Some, None}
+use Rattle.std.proofs.Common.{◌≡◌, ◌≢◌, ℕ, suc, ◌+◌, ◌*◌, ◌≤◌, ◌==◌, true, List, [], ◌∷◌, ◌++◌, ⊎_elim, inl, inr, length, set, get_or, sym, refl, ap, ◌∙◌, subst, append_assoc, arith, Option, Some, None}
 use mathlib.Core.Option.{some, none, some-injective}
 use lib.ListN.{get_elem?}
 use prog.Atomic.{either}
@@ -16,7 +16,7 @@ use Rattle.atomic_table.proofs.Lists.{set_else}
 use Rattle.board_seats.specs.declared.rule.Cell.{Cell}
 use Rattle.board_seats.specs.declared.rule.View.{View}
 use Rattle.board_seats.specs.Moves.{Releases}
-use Rattle.board_seats.specs.Rule.{BoardState, IsBoardShard, IsJournalOf, IsLeftBehind, IsShown, IsTaken, ShowsBoard}
+use Rattle.board_seats.specs.Rule.{BoardState, IsBoardShard, IsJournalOf, IsLeftBehind, IsShown, IsTaken}
 use Rattle.board_seats.specs.Told.{Takes, journal_in}
 use Rattle.board_seats.specs.Views.{IsViewOf, taking}
 use Rattle.board_seats.specs.Visits.{Visited}
@@ -81,26 +81,29 @@ module _ {W : ℕ} (s : State (Cell W) (View W)) (id : ℕ) (v w : View W) (conf
       × IsShown (record { words = set s.words 0 word; homes = set s.homes 0 (some (Cell.Journal new)); views = set s.views id w })
   releases = (
     index_is s.words 0 (2 * length kept.0.journal.history + 1) out.word ∙ ap (λ (j : JournalState). 2 * length j.history + 1) same_journal,
-    (board, record {
-      journal = inl (record {
-        word = set_there s.words 0 word (2 * length kept.0.journal.history + 1) out.word ∙ ap some is;
-        home = set_there s.homes 0 (some (Cell.Journal new)) none out.home;
-        nobody = λ k u c e. all_set (λ k' u'. (c' : Cell W) → u'.held ≢ Some (0, c')) s.views id w (λ c' e'. holds_none w.held 0 c' moves.held e')
-            (λ k' u' apart e' c' e''. apart (out.alone k' u' c' e' e'' ∙ sym mine)) k u e c;
-      });
-      places = λ k shard there. shows_same s id v w at (suc k) (Cell.Shard shard) (set s.words 0 word) (set s.homes 0 (some (Cell.Journal new)))
-          (set_else s.words 0 (suc k) word (λ z. omega arith)) (set_else s.homes 0 (suc k) (some (Cell.Journal new)) (λ z. omega arith))
-          (λ c e. absurd (holds_none w.held (suc k) c moves.held e))
-          (λ c e. absurd (let z = other_place 0 (suc k) (Cell.Journal old) c (sym holds ∙ e) in omega arith)) (kept.1.places k shard there);
-      sound = record { journal = subst (λ c. IsJournalOf W c new) config_is moves.sound; shards = shard_still };
-      count = length-set s.homes 0 (some (Cell.Journal new)) ∙ kept.1.count;
-      left = all_set (λ _ u. IsLeftBehind kept.0 u) s.views id w
-          (λ k shard there. subst (λ l. get_or l k 0 ≤ shard.current.at) (sym moves.left) (kept.1.left id v at k shard there))
-          (λ k u _ e. kept.1.left k u e);
-      desks = all_set (λ _ u. IsViewOf kept.0.config new u) s.views id w (subst (λ c. IsViewOf c new w) config_is moves.knows) others_desk;
-      differ = differ_set s id v w at kept.1.differ (λ n e. ⊎_elim inl
-          (λ fresh. inr (λ i u there has. let low = (desk_was i u there).number n has in omega arith)) (moves.number n e));
-    }),
+    (
+      board,
+      record {
+        journal = inl (record {
+          word = set_there s.words 0 word (2 * length kept.0.journal.history + 1) out.word ∙ ap some is;
+          home = set_there s.homes 0 (some (Cell.Journal new)) none out.home;
+          nobody = λ k u c e. all_set (λ k' u'. (c' : Cell W) → u'.held ≢ Some (0, c')) s.views id w (λ c' e'. holds_none w.held 0 c' moves.held e')
+              (λ k' u' apart e' c' e''. apart (out.alone k' u' c' e' e'' ∙ sym mine)) k u e c;
+        });
+        places = λ k shard there. shows_same s id v w at (suc k) (Cell.Shard shard) (set s.words 0 word) (set s.homes 0 (some (Cell.Journal new)))
+            (set_else s.words 0 (suc k) word (λ z. omega arith)) (set_else s.homes 0 (suc k) (some (Cell.Journal new)) (λ z. omega arith))
+            (λ c e. absurd (holds_none w.held (suc k) c moves.held e))
+            (λ c e. absurd (let z = other_place 0 (suc k) (Cell.Journal old) c (sym holds ∙ e) in omega arith)) (kept.1.places k shard there);
+        sound = record { journal = subst (λ c. IsJournalOf W c new) config_is moves.sound; shards = shard_still };
+        count = length-set s.homes 0 (some (Cell.Journal new)) ∙ kept.1.count;
+        left = all_set (λ _ u. IsLeftBehind kept.0 u) s.views id w
+            (λ k shard there. subst (λ l. get_or l k 0 ≤ shard.current.at) (sym moves.left) (kept.1.left id v at k shard there))
+            (λ k u _ e. kept.1.left k u e);
+        desks = all_set (λ _ u. IsViewOf kept.0.config new u) s.views id w (subst (λ c. IsViewOf c new w) config_is moves.knows) others_desk;
+        differ = differ_set s id v w at kept.1.differ (λ n e. ⊎_elim inl
+            (λ fresh. inr (λ i u there has. let low = (desk_was i u there).number n has in omega arith)) (moves.number n e));
+      },
+    ),
   )
 
 module _ {W : ℕ} (slots id : ℕ) (v w : View W) (config : Config) (old new : JournalState) (word : ℕ) (asked : v.config ≡ Some config)
@@ -116,10 +119,13 @@ module _ {W : ℕ} (slots id : ℕ) (v w : View W) (config : Config) (old new : 
   exchanges then odd e told s kept long at small =
       let done = releases s id v w config old new word kept at asked holds moves is in
       let found : slice_index s.words 0 ≡ odd = done.0 ∙ sym e in
-      let test : (slice_index s.words 0 == odd) ≡ true = grind (arith, nat_tests) in
-      (w, gives, tt,
+      let test : (slice_index s.words 0 == odd) ≡ true = grind (arith, nat_tests) in (
+        w,
+        gives,
+        tt,
         subst (λ b. IsShown (stepped s 0 (either b word (slice_index s.words 0)) id ((0, Cell.Journal new) ∷ []) w gives)) (sym test) done.1,
-        told (slice_index s.words 0))
+        told (slice_index s.words 0),
+      )
 
 -- ---- a seat that has taken the journal
 module _ {W : ℕ} (before me : Me (Cell W) (View W)) (n : ℕ) (t : Takes before n me) where

@@ -1,5 +1,5 @@
 -- What a place shows stays where one view is written; and what that keeps of the rule.
-use Rattle.std.proofs.Common.{◌≡◌, ◌≢◌, ℕ, zero, suc, ◌+◌, ◌<◌, ◌≤◌, List, [], ◌∷◌, ◌++◌, ◌⊎◌, ⊎_elim, inl, inr, length, set, get_or, sym, refl, ap, ◌∙◌, subst, append_assoc, arith, Option, Some, None}
+use Rattle.std.proofs.Common.{◌≡◌, ◌≢◌, ℕ, zero, suc, ◌+◌, List, [], ◌∷◌, ◌++◌, ◌⊎◌, ⊎_elim, inl, inr, set, get_or, sym, refl, ap, ◌∙◌, subst, append_assoc, arith, Option, Some, None}
 use mathlib.Core.Option.{some, none, some-injective, some-ne-none}
 use mathlib.Core.Option as core
 use mathlib.Core.Logic.{dite}
@@ -9,8 +9,6 @@ use lib.ListN.{get_elem?}
 use Rattle.std.specs.Prelude.{slice_index}
 use Rattle.std.specs.List.{AllByRecursion}
 use Rattle.hamming_model.specs.History.{JournalEntry}
-use Rattle.commit_journal.specs.Journals.{JournalState}
-use Rattle.versioned_shard.specs.Shards.{ShardState}
 use Rattle.atomic_table.specs.Table.{State}
 use Rattle.atomic_table.proofs.Lists.{at_set, set_else}
 use Rattle.board_seats.specs.declared.rule.Cell.{Cell}
@@ -81,24 +79,24 @@ module _ {W : ℕ} (s : State (Cell W) (View W)) (id : ℕ) (v w : View W) (at :
       → ShowsCell j cell s → ShowsCell j cell (record { words = ws; homes = hs; views = set s.views id w })
   shows_same j cell ws hs wj hj forth back shows = elim shows [
     | inl h ↦ inl (record {
-        word = wj ∙ h.word;
-        home = hj ∙ h.home;
-        nobody = λ k u c e. all_set (λ _ u'. (c' : Cell W) → u'.held ≢ Some (j, c')) s.views id w
-            (λ c' e'. h.nobody id v c' at (forth c' e')) (λ k' u' _ e' c'. h.nobody k' u' c' e') k u e c;
-      })
+      word = wj ∙ h.word;
+      home = hj ∙ h.home;
+      nobody = λ k u c e. all_set (λ _ u'. (c' : Cell W) → u'.held ≢ Some (j, c')) s.views id w
+          (λ c' e'. h.nobody id v c' at (forth c' e')) (λ k' u' _ e' c'. h.nobody k' u' c' e') k u e c;
+    })
     | inr h ↦ inr (dite (ℕ_discrete h.id id)
         (λ same.
-          let mine : h.view ≡ v = some-injective h.view v (sym h.stands ∙ ap (get_elem? s.views) same ∙ at) in
-          record {
-            word = wj ∙ h.word;
-            home = hj ∙ h.home;
-            id = id;
-            view = w;
-            stands = set_there s.views id w v at;
-            holds = back cell (ap (λ (u : View W). u.held) (sym mine) ∙ h.holds);
-            alone = λ k u c e. all_set (λ k' u'. (c' : Cell W) → u'.held ≡ Some (j, c') → k' ≡ id) s.views id w
-                (λ c' e'. refl) (λ k' u' _ e' c' e''. h.alone k' u' c' e' e'' ∙ same) k u e c;
-          })
+        let mine : h.view ≡ v = some-injective h.view v (sym h.stands ∙ ap (get_elem? s.views) same ∙ at) in
+        record {
+          word = wj ∙ h.word;
+          home = hj ∙ h.home;
+          id = id;
+          view = w;
+          stands = set_there s.views id w v at;
+          holds = back cell (ap (λ (u : View W). u.held) (sym mine) ∙ h.holds);
+          alone = λ k u c e. all_set (λ k' u'. (c' : Cell W) → u'.held ≡ Some (j, c') → k' ≡ id) s.views id w
+              (λ c' e'. refl) (λ k' u' _ e' c' e''. h.alone k' u' c' e' e'' ∙ same) k u e c;
+        })
         (λ apart. record {
           word = wj ∙ h.word;
           home = hj ∙ h.home;
@@ -121,14 +119,14 @@ module _ {W : ℕ} (s : State (Cell W) (View W)) (id : ℕ) (v w : View W) (at :
       → Differ (set s.views id w)
   differ_set differ new i i' u u' n e e' is is' = ⊎_elim
       (λ x. ⊎_elim (λ x'. x.0 ∙ sym x'.0)
-        (λ x'. ⊎_elim (λ old. x.0 ∙ differ id i' v u' n at x'.1 old is') (λ none_has. absurd (none_has i' u' x'.1 is'))
-            (new n (ap (λ (z : View W). z.number) x.1 ∙ is)))
-        (at_set s.views id i' w u' e'))
+      (λ x'. ⊎_elim (λ old. x.0 ∙ differ id i' v u' n at x'.1 old is') (λ none_has. absurd (none_has i' u' x'.1 is'))
+      (new n (ap (λ (z : View W). z.number) x.1 ∙ is)))
+      (at_set s.views id i' w u' e'))
       (λ x. ⊎_elim
-        (λ x'. ⊎_elim (λ old. differ i id u v n x.1 at is old ∙ sym x'.0) (λ none_has. absurd (none_has i u x.1 is))
-            (new n (ap (λ (z : View W). z.number) x'.1 ∙ is')))
-        (λ x'. differ i i' u u' n x.1 x'.1 is is')
-        (at_set s.views id i' w u' e'))
+      (λ x'. ⊎_elim (λ old. differ i id u v n x.1 at is old ∙ sym x'.0) (λ none_has. absurd (none_has i u x.1 is))
+      (new n (ap (λ (z : View W). z.number) x'.1 ∙ is')))
+      (λ x'. differ i i' u u' n x.1 x'.1 is is')
+      (at_set s.views id i' w u' e'))
       (at_set s.views id i w u e)
 
   -- the view alone changes, and not what it holds

@@ -1,11 +1,8 @@
 -- What each step tells the seat that makes it.
-use Rattle.std.specs.Prelude.{◌≡◌, ℕ, pred, ◌*◌, ◌≤◌, get_or, ◌==◌, List, [], ◌∷◌, length, Option, Some, None}
+use Rattle.std.specs.Prelude.{◌≡◌, ℕ, pred, ◌*◌, ◌≤◌, get_or, ◌==◌, List, [], ◌∷◌, length}
 use mathlib.Core.Option.{none, some}
 use mathlib.Core.Option as core
-use mathlib.Core.List.{IsPrefix}
 use Rattle.std.specs.Bool.{MatchBool}
-use Rattle.std.specs.FinMap as map
-use Rattle.hamming_model.specs.History.{JournalEntry}
 use Rattle.part_layout.specs.declared.config.Config.{Config}
 use Rattle.commit_journal.specs.Fronts.{FrontState}
 use Rattle.commit_journal.specs.Journals.{JournalState, empty_journal}
@@ -14,7 +11,7 @@ use Rattle.atomic_table.specs.Table.{Me, Step}
 use Rattle.board_seats.specs.declared.rule.Cell.{Cell}
 use Rattle.board_seats.specs.declared.rule.View.{View}
 use Rattle.board_seats.specs.Rule.{IsBoardShard, IsJournalOf}
-use Rattle.board_seats.specs.Views.{IsViewOf, LearnsMore, left_shard, settled_view, taking, taking_shard, with_living, with_number}
+use Rattle.board_seats.specs.Views.{IsViewOf, left_shard, settled_view, taking, taking_shard, with_living, with_number}
 
 -- the journal in a cell, and one with no entry where there is none
 abbrev pub journal_in : {W : ℕ} → Cell W → JournalState

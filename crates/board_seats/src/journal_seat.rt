@@ -192,8 +192,7 @@ pub fn meet<const W: usize>(place: &Place<W>, me: &mut Seen<W>, other: Seen<W>)
     requires table { HasJournal place.now.table_id }
     requires free { IsFree other.me }
     ensures table { me.new.table_id ≡ me.old.table_id }
-    ensures met {
-        SeesAll (record me.old.me.0 { met = other.entry.me.0.seen }, me.old.me.1) me.new.me }
+    ensures met { SeesAll (record me.old.me.0 { met = other.entry.me.0.seen }, me.old.me.1) me.new.me }
 {
     place.join_seat::<Notes>(me, other);
     place.load::<Meets>(me, 0);
@@ -206,10 +205,13 @@ pub fn find<const W: usize>(place: &Place<W>, me: &mut Seen<W>, other: Seen<W>)
     requires table { HasJournal place.now.table_id }
     requires free { IsFree other.me }
     ensures table { me.new.table_id ≡ me.old.table_id }
-    ensures met { SeesAll (record me.old.me.0 {
+    ensures met { SeesAll (
+      record me.old.me.0 {
         met = other.entry.me.0.seen;
         next = other.entry.me.0.next;
-    }, me.old.me.1) me.new.me }
+      },
+      me.old.me.1,
+    ) me.new.me }
 {
     place.join_seat::<Finds>(me, other);
     place.load::<Meets>(me, 0);

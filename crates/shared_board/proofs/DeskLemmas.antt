@@ -1,5 +1,5 @@
 -- A desk that draws its number.
-use Rattle.std.proofs.Common.{◌≡◌, ◌≢◌, ℕ, ◌+◌, ◌<◌, ◌≤◌, List, [], ◌∷◌, length, replicate, refl, sym, ap, subst, ◌∙◌, arith, Option, Some, None}
+use Rattle.std.proofs.Common.{◌≡◌, ℕ, ◌+◌, ◌<◌, List, [], ◌∷◌, length, replicate, sym, ap, subst, ◌∙◌, arith, Option, Some, None}
 use mathlib.Core.List.{IsPrefix}
 use Rattle.std.specs.List.{AllByRecursion}
 use Rattle.hamming_model.specs.History.{IsLegal, JournalEntry}
@@ -80,6 +80,6 @@ module _ {W : ℕ} (table seat : TableId) (config : Config) (before me after now
         (ap (λ (m : Me (Cell W) (View W)). m.0.config) (same ∙ visit.me_is) ∙ ap Some config_is) fits
         (subst IsLegal (sym seen_is) sound.sound.legal)
         (let few = sound.sound.few in let long = ap length seen_is in let limit = sound.limit in
-          let entries = ap (λ (c : Config). c.entries) config_is in omega arith)
+        let entries = ap (λ (c : Config). c.entries) config_is in omega arith)
         (subst (AreStoredEntries W config.bits) (sym seen_is)
-          (subst (λ (c : Config). AreStoredEntries W c.bits visit.new.history) config_is sound.codes))
+        (subst (λ (c : Config). AreStoredEntries W c.bits visit.new.history) config_is sound.codes))

@@ -1,5 +1,5 @@
 -- What opening and closing a front makes of its desk.
-use Rattle.std.proofs.Common.{◌≡◌, ℕ, ◌==◌, List, [], ◌∷◌, length, refl, sym, ap, subst, ◌∙◌, Option, Some, None}
+use Rattle.std.proofs.Common.{◌≡◌, ℕ, List, ◌∷◌, length, sym, ap, subst, ◌∙◌, Option, Some}
 use Rattle.std.specs.FinMap as map
 use Rattle.hamming_model.specs.History.{JournalEntry}
 use Rattle.part_layout.specs.declared.config.Config.{Config}
@@ -8,11 +8,11 @@ use Rattle.commit_journal.specs.Journals.{JournalState, without_front}
 use Rattle.commit_journal.specs.Journals as journals
 use Rattle.atomic_table.specs.Seated.{TableId}
 use Rattle.atomic_table.specs.Table.{Me}
-use Rattle.session_desk.specs.Calls.{ClosesFront, KeepsKnown, Learns, OpensFront}
+use Rattle.session_desk.specs.Calls.{ClosesFront, Learns, OpensFront}
 use Rattle.session_desk.specs.Desks.{DeskState, IsOwnFront, Pin}
 use Rattle.board_seats.specs.declared.rule.Cell.{Cell}
 use Rattle.board_seats.specs.declared.rule.View.{View}
-use Rattle.board_seats.specs.Views.{IsViewOf, living_fronts, with_front, with_living, without_id}
+use Rattle.board_seats.specs.Views.{living_fronts, with_front, with_living, without_id}
 use Rattle.board_seats.specs.Visits.{Visited}
 use Rattle.shared_board.specs.Shared.{IsSeated, SharedState, live_map, seated_of, shared_desk}
 use Rattle.shared_board.proofs.MapLemmas.{fresh_in, living_without, own_there, without_map}
@@ -58,28 +58,28 @@ module _ {W : ℕ} (table seat : TableId) (me : Me (Cell W) (View W)) (who : ℕ
     pub opened_desk : (last' : ℕ) → last' ≡ position_of front → OpensFront (shared_desk now) (desk_at me' last') front
     opened_desk last' e = subst (λ (n : ℕ). OpensFront (shared_desk now) (desk_at me' n) front) (sym e)
         (subst (λ (s : SharedState). OpensFront (shared_desk s) (desk_at me' (position_of front)) front) is_now (record {
-      learns = subst (Learns before) (sym (opened_seen ∙ history_stays))
-          (learns_history table seat me who config last pins done late old now is_now visit.config visit.old visit.knows);
-      entries = all_seen;
-      who = opens.who;
-      fresh = fresh_in visit.old front.id me.0.fronts (λ each has. (visit.knows.fronts each has).live) opens.fresh;
-      after = ap (λ (m : Me (Cell W) (View W)). desk_at m (position_of front)) visit.me_is
-          ∙ ap (λ (h : List JournalEntry). (record before {
-              seen = h;
-              fronts = live_map (front ∷ me.0.fronts);
-              last = position_of front;
-            })) (sym opened_seen)
-          ∙ ap (λ (n : ℕ). (record before {
-              seen = me'.0.seen;
-              fronts = map.insert (live_map me.0.fronts) front.id (n, position_of front);
-              last = position_of front;
-            })) opens.who
-          ∙ ap (λ (h : List JournalEntry). (record before {
-              seen = me'.0.seen;
-              fronts = map.insert (live_map me.0.fronts) front.id (who, length h);
-              last = length h;
-            })) all_seen;
-    }))
+          learns = subst (Learns before) (sym (opened_seen ∙ history_stays))
+              (learns_history table seat me who config last pins done late old now is_now visit.config visit.old visit.knows);
+          entries = all_seen;
+          who = opens.who;
+          fresh = fresh_in visit.old front.id me.0.fronts (λ each has. (visit.knows.fronts each has).live) opens.fresh;
+          after = ap (λ (m : Me (Cell W) (View W)). desk_at m (position_of front)) visit.me_is
+              ∙ ap (λ (h : List JournalEntry). (record before {
+                seen = h;
+                fronts = live_map (front ∷ me.0.fronts);
+                last = position_of front;
+              })) (sym opened_seen)
+              ∙ ap (λ (n : ℕ). (record before {
+                seen = me'.0.seen;
+                fronts = map.insert (live_map me.0.fronts) front.id (n, position_of front);
+                last = position_of front;
+              })) opens.who
+              ∙ ap (λ (h : List JournalEntry). (record before {
+                seen = me'.0.seen;
+                fronts = map.insert (live_map me.0.fronts) front.id (who, length h);
+                last = length h;
+              })) all_seen;
+        }))
 
     pub opened_own : (last' : ℕ) → IsOwnFront (desk_at me' last') front
     opened_own last' = subst (λ (fronts : List FrontState). map.get (live_map fronts) front.id ≡ Some (front.who, position_of front)) (sym fronts_are)
@@ -113,6 +113,6 @@ module _ {W : ℕ} (table seat : TableId) (me : Me (Cell W) (View W)) (who : ℕ
       after = ap (λ (m : Me (Cell W) (View W)). desk_at m last) visit.me_is
           ∙ ap (λ (h : List JournalEntry). (record before { seen = h; fronts = live_map (living_fronts visit.new me.0.fronts) })) (sym closed_seen)
           ∙ ap (λ (fronts : Live). (record before { seen = me'.0.seen; fronts = fronts }))
-            (ap live_map (ap (λ (j : JournalState). living_fronts j me.0.fronts) closed
-            ∙ living_without visit.old front.id me.0.fronts (λ each has. (visit.knows.fronts each has).live)) ∙ without_map front.id me.0.fronts);
+          (ap live_map (ap (λ (j : JournalState). living_fronts j me.0.fronts) closed
+          ∙ living_without visit.old front.id me.0.fronts (λ each has. (visit.knows.fronts each has).live)) ∙ without_map front.id me.0.fronts);
     })

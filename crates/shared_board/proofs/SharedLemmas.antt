@@ -1,24 +1,22 @@
 -- What a seat's visit makes of its desk.
-use Rattle.std.proofs.Common.{◌≡◌, ℕ, zero, suc, ◌+◌, ◌≤◌, ◌<◌, true, false, true≢false, List, [], ◌∷◌, ◌++◌, length, take, get_or, replicate, refl, sym, ap, subst, ◌∙◌, arith, Option, Some, None}
+use Rattle.std.proofs.Common.{◌≡◌, ℕ, zero, suc, ◌+◌, ◌≤◌, true≢false, List, [], ◌∷◌, ◌++◌, length, get_or, replicate, refl, sym, ap, subst, ◌∙◌, arith, Option, Some, None}
 use mathlib.Core.List.{IsPrefix}
 use Rattle.std.specs.Prelude.{IfOk, OnErr}
 use Rattle.std.specs.declared.result.Result.{Result}
 use Rattle.std.specs.declared.result.Result.TheVariants.{Ok, Err}
-use Rattle.std.specs.List.{AllByRecursion}
 use Rattle.hamming_model.specs.History.{IsLegal, JournalEntry, Operation}
 use Rattle.hamming_model.specs.Recoded.{AreStoredEntries}
 use Rattle.part_layout.specs.declared.config.Config.{Config}
 use Rattle.commit_journal.specs.declared.decided.Decided.{Decided}
-use Rattle.commit_journal.specs.Fronts.{FrontState}
 use Rattle.commit_journal.specs.Journals.{Commits, JournalState}
 use Rattle.atomic_table.specs.Seated.{TableId}
 use Rattle.atomic_table.specs.Table.{Me}
 use Rattle.session_desk.specs.Calls.{CommitsAt, Learns, OnlyLearns}
-use Rattle.session_desk.specs.Desks.{DeskState, IsDesk, Pin, pin_position, pinned_at, left_at}
+use Rattle.session_desk.specs.Desks.{DeskState, Pin, pin_position, pinned_at}
 use Rattle.board_seats.specs.declared.rule.Cell.{Cell}
 use Rattle.board_seats.specs.declared.rule.View.{View}
 use Rattle.board_seats.specs.Rule.{IsJournalOf}
-use Rattle.board_seats.specs.Views.{IsViewOf, knower, settled_view, taking}
+use Rattle.board_seats.specs.Views.{IsViewOf, knower, settled_view}
 use Rattle.board_seats.specs.Visits.{IsFree, Visited}
 use Rattle.board_seats.specs.Told.{SeesAll}
 use Rattle.shared_board.specs.Boards.{HasPlaces, IsAskedFor, board_number}

@@ -1,7 +1,6 @@
 -- How a board begins.
 use Rattle.std.proofs.Common.{◌≡◌, ◌≢◌, Bool, true, false, set, ◌⊎◌, ⊎_elim, inl, inr, ℕ, zero, suc, ◌+◌, ◌*◌, ◌<◌, ◌≤◌, List, [], ◌∷◌, ◌++◌, length, map, replicate, get_or, refl, sym, ap, subst, ◌∙◌, arith, Option, Some, None}
-use mathlib.Core.Option as core
-use mathlib.Core.Option.{some, none, some-injective, some-ne-none}
+use mathlib.Core.Option.{some, some-injective, some-ne-none}
 use lib.ListN.{get_elem?}
 use Rattle.std.proofs.lemmas.Bool.{cases_eq}
 use Rattle.std.proofs.lemmas.List.{get_or-set_other, length-map}
@@ -117,34 +116,37 @@ module _ {W : ℕ} (config : Config) (n : ℕ) (fits : IsAskedFor W config) (lai
       }
 
   begins : IsShown (opening (0 ∷ replicate n 0) (cells_of journal shards) first_view)
-  begins = (record { config = config; journal = journal; shards = shards }, record {
-    journal = inl (record {
-      word = refl;
-      home = refl;
-      nobody = λ id view c e held. holds_none view.held 0 c (ap (λ (u : View W). u.held) (the_view id view e).1) held;
-    });
-    places = λ k shard there. inl (record {
-      word = same_at n k (let low = at_below shards k shard there in let long = length_first config n in omega arith);
-      home = shard_at shards k shard there;
-      nobody = λ id view c e held. holds_none view.held (suc k) c (ap (λ (u : View W). u.held) (the_view id view e).1) held;
-    });
-    sound = record {
-      journal = record {
-        config_is = fits.config_is;
-        few_words = fits.few_words;
-        room = fits.room;
-        sound = sound;
-        drawn = tt;
-        limit = refl;
-        codes = tt;
+  begins = (
+    record { config = config; journal = journal; shards = shards },
+    record {
+      journal = inl (record {
+        word = refl;
+        home = refl;
+        nobody = λ id view c e held. holds_none view.held 0 c (ap (λ (u : View W). u.held) (the_view id view e).1) held;
+      });
+      places = λ k shard there. inl (record {
+        word = same_at n k (let low = at_below shards k shard there in let long = length_first config n in omega arith);
+        home = shard_at shards k shard there;
+        nobody = λ id view c e held. holds_none view.held (suc k) c (ap (λ (u : View W). u.held) (the_view id view e).1) held;
+      });
+      sound = record {
+        journal = record {
+          config_is = fits.config_is;
+          few_words = fits.few_words;
+          room = fits.room;
+          sound = sound;
+          drawn = tt;
+          limit = refl;
+          codes = tt;
+        };
+        shards = stands;
       };
-      shards = stands;
-    };
-    count = length-map (cells_of {W = W} journal shards) some ∙ ap suc (length-map shards (shard_cell {W = W}));
-    left = λ id view e k shard there. subst (λ (u : View W). get_or u.left k 0 ≤ shard.current.at) (sym (the_view id view e).1) (omega arith);
-    desks = λ id view e. subst (IsViewOf config journal) (sym (the_view id view e).1) knows;
-    differ = λ id id' view view' session e e' is is'. (the_view id view e).0 ∙ sym (the_view id' view' e').0;
-  })
+      count = length-map (cells_of {W = W} journal shards) some ∙ ap suc (length-map shards (shard_cell {W = W}));
+      left = λ id view e k shard there. subst (λ (u : View W). get_or u.left k 0 ≤ shard.current.at) (sym (the_view id view e).1) (omega arith);
+      desks = λ id view e. subst (IsViewOf config journal) (sym (the_view id view e).1) knows;
+      differ = λ id id' view view' session e e' is is'. (the_view id view e).0 ∙ sym (the_view id' view' e').0;
+    },
+  )
 
   pub laid_begins : (words : List ℕ) (slots : List (Cell W)) (pins : List (Option Pin)) → AreLaid config n words slots pins
       → IsShown (opening words slots first_view)

@@ -1,5 +1,5 @@
 -- What a contract sees of a board, and how its table is laid.
-use Rattle.std.specs.Prelude.{◌≡◌, ℕ, zero, suc, ◌+◌, ◌*◌, ◌<◌, ◌≤◌, Bool, true, false, slice_index_or, List, [], ◌∷◌, ◌++◌, map, replicate, Option, Some, None}
+use Rattle.std.specs.Prelude.{◌≡◌, ℕ, zero, suc, ◌*◌, ◌<◌, ◌≤◌, Bool, true, false, slice_index_or, List, [], ◌∷◌, ◌++◌, map, replicate, Option, None}
 use Rattle.hamming_model.specs.declared.limits.TheConstants.{WORDS_MOST}
 use Rattle.part_layout.specs.Ranges.{IsConfig}
 use Rattle.part_layout.specs.declared.config.Config.{Config}

@@ -1,5 +1,5 @@
 -- What a contract sees of a desk at a board.
-use Rattle.std.specs.Prelude.{◌≡◌, ℕ, zero, suc, ◌≤◌, false, List, [], ◌∷◌, Option, Some, None, replicate, refl}
+use Rattle.std.specs.Prelude.{◌≡◌, ℕ, zero, suc, false, List, [], ◌∷◌, Option, Some, None, replicate, refl}
 use Rattle.std.specs.Coded.{Coded, code_by, coded×, coded_list, coded_option, coded_ℕ}
 use Rattle.std.specs.FinMap as map
 use Rattle.hamming_model.specs.Coding.{history_code}
@@ -57,8 +57,34 @@ shared_code =
     (coded× coded_ℕ (coded× (coded_list front_code) (coded× coded_ℕ
     (coded× (coded_list (coded_option (coded× coded_ℕ (coded_list coded_ℕ))))
     (coded× (coded_list coded_ℕ) (coded× coded_ℕ coded_ℕ))))))))))
-    (λ s. (s.board, (s.who, (s.config, (s.seen, (s.next, (s.fronts, (s.last, (s.pins, (s.left,
-    (s.done, s.late)))))))))))
+    (λ s. (
+      s.board,
+      (
+        s.who,
+        (
+          s.config,
+          (
+            s.seen,
+            (
+              s.next,
+              (
+                s.fronts,
+                (
+                  s.last,
+                  (
+                    s.pins,
+                    (
+                      s.left,
+                      (s.done, s.late),
+                    ),
+                  ),
+                ),
+              ),
+            ),
+          ),
+        ),
+      ),
+    ))
     (λ t. shared_of t.0 t.1.0 t.1.1.0 t.1.1.1.0 t.1.1.1.1.0 t.1.1.1.1.1.0 t.1.1.1.1.1.1.0
     t.1.1.1.1.1.1.1.0 t.1.1.1.1.1.1.1.1.0 t.1.1.1.1.1.1.1.1.1.0 t.1.1.1.1.1.1.1.1.1.1)
     (λ _. refl)

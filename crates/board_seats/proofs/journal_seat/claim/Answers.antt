@@ -8,9 +8,12 @@ load-word-requires g c = (search rules, search rules, looks _ c.loop.me.id c.loo
 
 pub compare_exchange-found-requires : goal.compare_exchange-found-requires
 compare_exchange-found-requires g c =
-    let same = c.load-word.ensures.2 ∙ c.loop.invariant.4 in
-    (search rules, search rules, claims _ c.load-word.new.seat.id c.load-word.new.seat.me c.load-word.result
-      (ap (λ m. m.0.held) same ∙ c.requires.free.held) (ap (λ m. m.1) same ∙ c.requires.free.slots) c.if-word-eq0.true)
+    let same = c.load-word.ensures.2 ∙ c.loop.invariant.4 in (
+      search rules,
+      search rules,
+      claims _ c.load-word.new.seat.id c.load-word.new.seat.me c.load-word.result
+          (ap (λ m. m.0.held) same ∙ c.requires.free.held) (ap (λ m. m.1) same ∙ c.requires.free.slots) c.if-word-eq0.true,
+    )
 
 pub returns-then-found-word-clause-taken : goal.returns-then-found-word-clause-taken
 returns-then-found-word-clause-taken g c =

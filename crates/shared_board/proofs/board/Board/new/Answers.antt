@@ -1,5 +1,5 @@
 -- The table begins with the journal and its first shards.
-use Rattle.std.proofs.Common.{◌≡◌, [], Some, ◌+◌, suc, length, ap, ◌∙◌, sym, subst, arith}
+use Rattle.std.proofs.Common.{◌≡◌, [], Some, suc, length, ap, ◌∙◌, sym, subst, arith}
 use Rattle.atomic_table.specs.Table.{opening}
 use Rattle.commit_journal.specs.Journals.{IsJournal}
 use Rattle.part_layout.specs.Laid.{IsLaid}
