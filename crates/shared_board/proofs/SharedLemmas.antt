@@ -20,17 +20,17 @@ use Rattle.board_seats.specs.Views.{IsViewOf, knower, settled_view}
 use Rattle.board_seats.specs.Visits.{IsFree, Visited}
 use Rattle.board_seats.specs.Told.{SeesAll}
 use Rattle.shared_board.specs.Boards.{HasPlaces, IsAskedFor, board_number}
-use Rattle.shared_board.specs.Shared.{IsSeated, SharedState, fresh_desk, padded, seated_of, shared_desk}
+use Rattle.shared_board.specs.Shared.{IsSeated, SharedState, fresh_desk, padded_to, seated_of, shared_desk}
 
 -- ---- lists
-pub padded_length : (n : ℕ) (numbers : List ℕ) → length (padded n numbers) ≡ n
-padded_length zero numbers = refl
-padded_length (suc n) [] = ap suc (padded_length n [])
-padded_length (suc n) (first ∷ rest) = ap suc (padded_length n rest)
+pub padded_to_length : (n : ℕ) (numbers : List ℕ) → length (padded_to n numbers) ≡ n
+padded_to_length zero numbers = refl
+padded_to_length (suc n) [] = ap suc (padded_to_length n [])
+padded_to_length (suc n) (first ∷ rest) = ap suc (padded_to_length n rest)
 
-pub padded_none : (n : ℕ) → padded n [] ≡ replicate n 0
-padded_none zero = refl
-padded_none (suc n) = ap (λ (l : List ℕ). 0 ∷ l) (padded_none n)
+pub padded_to_none : (n : ℕ) → padded_to n [] ≡ replicate n 0
+padded_to_none zero = refl
+padded_to_none (suc n) = ap (λ (l : List ℕ). 0 ∷ l) (padded_to_none n)
 
 pub replicate_length : {A : Type 0} (n : ℕ) (x : A) → length (replicate n x) ≡ n
 replicate_length zero x = refl
@@ -55,7 +55,7 @@ module _ {W : ℕ} (table seat : TableId) (me : Me (Cell W) (View W)) (who : ℕ
     fronts = no_fronts i;
     last = 0;
     pins = none i;
-    left = (ap (padded config.shards) left ∙ padded_none config.shards) i;
+    left = (ap (padded_to config.shards) left ∙ padded_to_none config.shards) i;
     done = 0;
     late = 0;
   }
@@ -110,8 +110,8 @@ module _ {W : ℕ} (table seat : TableId) (me : Me (Cell W) (View W)) (who : ℕ
             let entries = ap (λ (c : Config). c.entries) is in omega arith);
         codes = subst (AreStoredEntries W config.bits) (sym seen) (subst (λ (c : Config). AreStoredEntries W c.bits journal.history) is sound.codes);
         pins = old.desk.pins;
-        left = padded_length config.shards me'.0.left;
-        pinned = λ shard low. subst (λ (l : List ℕ). pinned_at before shard ≤ get_or (padded config.shards l) shard 0) (sym left) (old.desk.pinned shard low);
+        left = padded_to_length config.shards me'.0.left;
+        pinned = λ shard low. subst (λ (l : List ℕ). pinned_at before shard ≤ get_or (padded_to config.shards l) shard 0) (sym left) (old.desk.pinned shard low);
         places = λ e. absurd (true≢false (sym e));
         each = λ e. absurd (true≢false (sym e));
       };

@@ -95,10 +95,10 @@ live_map [] = map.empty
 live_map (front ∷ fronts) = map.insert (live_map fronts) front.id (front.who, position_of front)
 
 -- the first so many numbers of a list, with 0 behind its end
-abbrev pub padded : ℕ → List ℕ → List ℕ
-padded zero numbers = []
-padded (suc n) [] = 0 ∷ padded n []
-padded (suc n) (first ∷ rest) = first ∷ padded n rest
+abbrev pub padded_to : ℕ → List ℕ → List ℕ
+padded_to zero numbers = []
+padded_to (suc n) [] = 0 ∷ padded_to n []
+padded_to (suc n) (first ∷ rest) = first ∷ padded_to n rest
 
 -- what it is as a session's desk, which isn't alone
 abbrev pub shared_desk : SharedState → DeskState
@@ -122,7 +122,7 @@ abbrev pub seated_of : {W : ℕ} → TableId → ℕ → Config → View W → �
     → SharedState
 seated_of table who config view last pins done late =
     shared_of (board_number table) who config view.seen view.next view.fronts last pins
-    (padded config.shards view.left) done late
+    (padded_to config.shards view.left) done late
 
 -- a desk that has no front and no pin, and left no shard
 abbrev pub fresh_desk : List ℕ → ℕ → Config → List JournalEntry → ℕ → SharedState
