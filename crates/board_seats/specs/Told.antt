@@ -99,7 +99,10 @@ module _ {W : ℕ} where
     pub config : Config
     pub journal : JournalState
     pub shard : ShardState
-    pub me_is : me' ≡ (taking_shard config journal (pred place) shard me.0, (place, Cell.Shard shard) ∷ [])
+    pub me_is : me' ≡ (
+      taking_shard config journal (pred place) shard me.0,
+      (place, Cell.Shard shard) ∷ [],
+    )
     pub sound : IsJournalOf W config journal
     pub stands : IsBoardShard config journal (pred place) shard
     pub knows : IsViewOf config journal me.0

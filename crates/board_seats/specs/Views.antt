@@ -40,7 +40,8 @@ living_fronts journal (first ∷ fronts) =
     else living_fronts journal fronts
 
 -- a live front of a session, which the journal knows
-pub record IsOwnLive (journal : JournalState) (number : Option ℕ) (front : FrontState) : Type 0 where
+pub record IsOwnLive (journal : JournalState) (number : Option ℕ)
+    (front : FrontState) : Type 0 where
   pub who : number ≡ Some front.who
   pub live : IsLive journal front
   pub knows : KnowsFront journal front

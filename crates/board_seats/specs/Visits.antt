@@ -35,7 +35,8 @@ module _ {W : ℕ} where
     pub stored : IsStoredOperation W config.bits operation
 
   -- the journal was taken, and brought home as another
-  pub record Visited (after : JournalState → View W → View W) (me me' : Me (Cell W) (View W)) : Type 0 where
+  pub record Visited (after : JournalState → View W → View W)
+      (me me' : Me (Cell W) (View W)) : Type 0 where
     pub config : Config
     pub old : JournalState
     pub new : JournalState

@@ -14,7 +14,7 @@ invariant_of-self g c =
 pub returns-clause-decided : goal.returns-clause-decided
 returns-clause-decided g c =
     map_ok c.commit.result (λ decided visit. settled_commits c.self.inside.place.now.table_id c.self.inside.seat.table_id c.self.inside.seat.me
-      c.self.inside.who c.self.inside.config
+    c.self.inside.who c.self.inside.config
     c.self.inside.last c.self.inside.pins.items c.self.inside.done c.self.inside.late c.self.invariant c.args.self.now c.self.view_is
     c.commit.new.me.table_id c.commit.new.me.me
     c.commit.ensures.table
@@ -23,7 +23,7 @@ returns-clause-decided g c =
 pub returns-clause-unchanged : goal.returns-clause-unchanged
 returns-clause-unchanged g c =
     map_err c.commit.result (λ visit. settled_learns c.self.inside.place.now.table_id c.self.inside.seat.table_id c.self.inside.seat.me
-      c.self.inside.who c.self.inside.config
+    c.self.inside.who c.self.inside.config
     c.self.inside.last c.self.inside.pins.items c.self.inside.done c.self.inside.late c.self.invariant c.args.self.now c.self.view_is
     c.commit.new.me.table_id c.commit.new.me.me
     c.commit.ensures.table

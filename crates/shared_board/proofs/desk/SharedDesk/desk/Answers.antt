@@ -19,7 +19,7 @@ invariant_of-self g c =
     c.self.inside.last c.self.inside.pins.items c.self.inside.done c.self.inside.late c.self.invariant c.args.self.now c.self.view_is
     c.find.new.me.table_id c.find.new.me.me
     (c.find.ensures.table ∙ c.note-seat.ensures.table) _ _ (sees_from c.self.inside.seat.me c.note-seat.new.me.me c.find.new.me.me _ _
-      c.note-seat.ensures.same c.find.ensures.met)
+    c.note-seat.ensures.same c.find.ensures.met)
 
 pub returns-in-Some-clause-desk : goal.returns-in-Some-clause-desk
 returns-in-Some-clause-desk g c =
@@ -40,7 +40,7 @@ returns-in-Some-clause-learns g c =
     c.self.inside.last c.self.inside.pins.items c.self.inside.done c.self.inside.late c.self.invariant c.args.self.now c.self.view_is
     c.find.new.me.table_id c.find.new.me.me
     (c.find.ensures.table ∙ c.note-seat.ensures.table) _ _ (sees_from c.self.inside.seat.me c.note-seat.new.me.me c.find.new.me.me _ _
-      c.note-seat.ensures.same c.find.ensures.met)
+    c.note-seat.ensures.same c.find.ensures.met)
 
 pub invariant_of-self-2 : goal.invariant_of-self-2
 invariant_of-self-2 g c =
@@ -48,7 +48,7 @@ invariant_of-self-2 g c =
     c.self.inside.last c.self.inside.pins.items c.self.inside.done c.self.inside.late c.self.invariant c.args.self.now c.self.view_is
     c.find.new.me.table_id c.find.new.me.me
     (c.find.ensures.table ∙ c.note-seat.ensures.table) _ _ (sees_from c.self.inside.seat.me c.note-seat.new.me.me c.find.new.me.me _ _
-      c.note-seat.ensures.same c.find.ensures.met)
+    c.note-seat.ensures.same c.find.ensures.met)
 
 pub returns-clause-learns : goal.returns-clause-learns
 returns-clause-learns g c =
@@ -56,4 +56,4 @@ returns-clause-learns g c =
     c.self.inside.last c.self.inside.pins.items c.self.inside.done c.self.inside.late c.self.invariant c.args.self.now c.self.view_is
     c.find.new.me.table_id c.find.new.me.me
     (c.find.ensures.table ∙ c.note-seat.ensures.table) _ _ (sees_from c.self.inside.seat.me c.note-seat.new.me.me c.find.new.me.me _ _
-      c.note-seat.ensures.same c.find.ensures.met)
+    c.note-seat.ensures.same c.find.ensures.met)

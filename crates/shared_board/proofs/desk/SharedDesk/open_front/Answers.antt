@@ -13,7 +13,7 @@ invariant_of-self g c =
 pub returns-in_err-front-clause-unchanged : goal.returns-in_err-front-clause-unchanged
 returns-in_err-front-clause-unchanged g c =
     any_err c.from_residual.result (settled_learns c.self.inside.place.now.table_id c.self.inside.seat.table_id c.self.inside.seat.me
-      c.self.inside.who c.self.inside.config
+    c.self.inside.who c.self.inside.config
     c.self.inside.last c.self.inside.pins.items c.self.inside.done c.self.inside.late c.self.invariant c.args.self.now c.self.view_is
     c.open_front.new.me.table_id c.open_front.new.me.me
     c.open_front.ensures.table
