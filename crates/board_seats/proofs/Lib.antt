@@ -1,0 +1,6 @@
+pub mod ClaimLemmas
+pub mod FrontLemmas
+pub mod MoveLemmas
+pub mod ReleaseLemmas
+pub mod SeatLemmas
+pub mod TableLemmas

@@ -1,0 +1,10 @@
+//! The seats of a board: one journal and its shards in the slots of a table, each taken by a claim of its word and brought home.
+//! Between any two steps the table shows one board, and each seat knows what is so of it.
+#![tactic(auto)]
+
+mod cell;
+mod journal_seat;
+mod rule;
+
+pub use journal_seat::{close_front, code_of, commit, draw, find, meet, note, open_front};
+pub use rule::{Cell, Keeps, Past, Place, Seen, View};

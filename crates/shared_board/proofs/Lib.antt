@@ -1,0 +1,6 @@
+pub mod DeskLemmas
+pub mod EndLemmas
+pub mod FrontCalls
+pub mod MapLemmas
+pub mod SharedLemmas
+pub mod StartLemmas
