@@ -155,6 +155,7 @@ module _ {W : ℕ} (before me : Me (Cell W) (View W)) (n : ℕ) (t : Takes befor
       new = new;
       sound = t.sound;
       sound_after = moves.sound;
+      grown = (moves.more, moves.longer);
       knows = t.knows;
       me_is = e ∙ ap (λ z. (F (journal_in z) me.0, [])) lying ∙ ap (λ (m : Me (Cell W) (View W)). (F new m.0, [])) t.me_is;
     }

@@ -5,6 +5,7 @@ use Rattle.hamming_model.specs.Recoded.{IsStoredOperation}
 use Rattle.part_layout.specs.declared.config.Config.{Config}
 use Rattle.commit_journal.specs.Journals.{JournalState}
 use Rattle.versioned_shard.specs.Shards.{ShardState}
+use mathlib.Core.List.{IsPrefix}
 use Rattle.atomic_table.specs.Seated.{TableId}
 use Rattle.atomic_table.specs.Table.{Me}
 use Rattle.board_seats.specs.declared.rule.Cell.{Cell}
@@ -34,7 +35,7 @@ module _ {W : ℕ} where
     pub config_is : view.config ≡ Some config
     pub stored : IsStoredOperation W config.bits operation
 
-  -- the journal was taken, and brought home as another
+  -- the journal was taken, and brought home as another, whose history goes on from where it stood
   pub record Visited (after : JournalState → View W → View W)
       (me me' : Me (Cell W) (View W)) : Type 0 where
     pub config : Config
@@ -42,6 +43,7 @@ module _ {W : ℕ} where
     pub new : JournalState
     pub sound : IsJournalOf W config old
     pub sound_after : IsJournalOf W config new
+    pub grown : IsPrefix old.history new.history
     pub knows : IsViewOf config old me.0
     pub me_is : me' ≡ (after new (taking config old me.0), [])
 

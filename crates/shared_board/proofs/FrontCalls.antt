@@ -16,7 +16,7 @@ use Rattle.board_seats.specs.Views.{living_fronts, with_front, with_living, with
 use Rattle.board_seats.specs.Visits.{Visited}
 use Rattle.shared_board.specs.Shared.{IsSeated, SharedState, live_map, seated_of, shared_desk}
 use Rattle.shared_board.proofs.MapLemmas.{fresh_in, living_without, own_there, without_map}
-use Rattle.shared_board.proofs.SharedLemmas.{learns_history, seated_by}
+use Rattle.shared_board.proofs.SharedLemmas.{learns_history, seated_by, seen_within}
 
 module _ {W : ℕ} (table seat : TableId) (me : Me (Cell W) (View W)) (who : ℕ) (config : Config) (last : ℕ) (pins : List (Option Pin)) (done late : ℕ)
     (old : IsSeated table seat me (seated_of table who config me.0 last pins done late))
@@ -44,7 +44,8 @@ module _ {W : ℕ} (table seat : TableId) (me : Me (Cell W) (View W)) (who : ℕ
         (record { slots = ap (λ (m : Me (Cell W) (View W)). m.1) visit.me_is; held = ap (λ (m : Me (Cell W) (View W)). m.0.held) visit.me_is })
         (ap (λ (m : Me (Cell W) (View W)). m.0.number) visit.me_is ∙ old.number)
         (ap (λ (m : Me (Cell W) (View W)). m.0.config) visit.me_is ∙ ap Some asked)
-        (ap (λ (m : Me (Cell W) (View W)). m.0.left) visit.me_is) opened_seen visit.sound_after asked
+        (ap (λ (m : Me (Cell W) (View W)). m.0.left) visit.me_is) opened_seen
+        (seen_within table seat me who config last pins done late old now is_now visit.config visit.old visit.knows visit.new visit.grown) visit.sound_after asked
 
     fronts_are : me'.0.fronts ≡ front ∷ me.0.fronts
     fronts_are = ap (λ (m : Me (Cell W) (View W)). m.0.fronts) visit.me_is
@@ -98,7 +99,8 @@ module _ {W : ℕ} (table seat : TableId) (me : Me (Cell W) (View W)) (who : ℕ
         (record { slots = ap (λ (m : Me (Cell W) (View W)). m.1) visit.me_is; held = ap (λ (m : Me (Cell W) (View W)). m.0.held) visit.me_is })
         (ap (λ (m : Me (Cell W) (View W)). m.0.number) visit.me_is ∙ old.number)
         (ap (λ (m : Me (Cell W) (View W)). m.0.config) visit.me_is ∙ ap Some asked_too)
-        (ap (λ (m : Me (Cell W) (View W)). m.0.left) visit.me_is) closed_seen visit.sound_after asked_too
+        (ap (λ (m : Me (Cell W) (View W)). m.0.left) visit.me_is) closed_seen
+        (seen_within table seat me who config last pins done late old now is_now visit.config visit.old visit.knows visit.new visit.grown) visit.sound_after asked_too
 
     pub closed_fronts : me'.0.fronts ≡ without_id front.id now.fronts
     closed_fronts =

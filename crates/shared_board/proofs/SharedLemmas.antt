@@ -1,4 +1,5 @@
 -- What a seat's visit makes of its desk.
+use Rattle.std.proofs.lemmas.List.{length-append}
 use Rattle.std.proofs.Common.{◌≡◌, ℕ, zero, suc, ◌+◌, ◌≤◌, true≢false, List, [], ◌∷◌, ◌++◌, length, get_or, replicate, refl, sym, ap, subst, ◌∙◌, arith, Option, Some, None}
 use mathlib.Core.List.{IsPrefix}
 use Rattle.std.specs.Prelude.{IfOk, OnErr}
@@ -81,6 +82,7 @@ module _ {W : ℕ} (table seat : TableId) (me : Me (Cell W) (View W)) (who : ℕ
           pins = replicate_length config.shards None;
           left = replicate_length config.shards 0;
           pinned = λ shard low. (let nought = none_at config.shards shard in omega arith);
+          pinned_within = λ shard low. (let nought = none_at config.shards shard in omega arith);
           places = λ e. absurd (true≢false (sym e));
           each = λ e. absurd (true≢false (sym e));
         };
@@ -94,8 +96,9 @@ module _ {W : ℕ} (table seat : TableId) (me : Me (Cell W) (View W)) (who : ℕ
     -- ---- a seat that has seen a whole journal, and left no shard elsewhere
     pub seated_by : (seat' : TableId) (me' : Me (Cell W) (View W)) (asked : Config) (journal : JournalState) (last' : ℕ) → seat' ≡ seat → IsFree me'
         → me'.0.number ≡ Some who → me'.0.config ≡ Some config → me'.0.left ≡ me.0.left → me'.0.seen ≡ journal.history
-        → IsJournalOf W asked journal → asked ≡ config → IsSeated table seat' me' (seated_of table who config me'.0 last' pins done late)
-    seated_by seat' me' asked journal last' same free number config_is left seen sound is = record {
+        → length me.0.seen ≤ length journal.history → IsJournalOf W asked journal → asked ≡ config
+        → IsSeated table seat' me' (seated_of table who config me'.0 last' pins done late)
+    seated_by seat' me' asked journal last' same free number config_is left seen grown sound is = record {
       board = same ∙ old.board;
       places = old.places;
       free = free;
@@ -112,6 +115,7 @@ module _ {W : ℕ} (table seat : TableId) (me : Me (Cell W) (View W)) (who : ℕ
         pins = old.desk.pins;
         left = padded_to_length config.shards me'.0.left;
         pinned = λ shard low. subst (λ (l : List ℕ). pinned_at before shard ≤ get_or (padded_to config.shards l) shard 0) (sym left) (old.desk.pinned shard low);
+        pinned_within = λ shard low. (let was = old.desk.pinned_within shard low in let long = ap length seen in omega arith);
         places = λ e. absurd (true≢false (sym e));
         each = λ e. absurd (true≢false (sym e));
       };
@@ -125,6 +129,13 @@ module _ {W : ℕ} (table seat : TableId) (me : Me (Cell W) (View W)) (who : ℕ
       others = knows.seen.others who old.number;
       all = λ e. absurd (true≢false (sym e));
     }
+
+    -- what a view has seen is no longer than the history of a journal that has only grown
+    pub seen_within : (asked : Config) (journal : JournalState) → IsViewOf asked journal me.0 → (after : JournalState)
+        → IsPrefix journal.history after.history → length me.0.seen ≤ length after.history
+    seen_within asked journal knows after grown =
+        let first = ap length knows.seen.longer in let second = ap length grown.1 in
+        let one = length-append me.0.seen knows.seen.more in let two = length-append journal.history grown.0 in omega arith
 
     asked_is : (asked : Config) (journal : JournalState) → IsViewOf asked journal me.0 → asked ≡ config
     asked_is asked journal knows = sym (knows.config_is config old.config_is)
@@ -142,7 +153,8 @@ module _ {W : ℕ} (table seat : TableId) (me : Me (Cell W) (View W)) (who : ℕ
           (record { slots = ap (λ (m : Me (Cell W) (View W)). m.1) visit.me_is; held = ap (λ (m : Me (Cell W) (View W)). m.0.held) visit.me_is })
           (ap (λ (m : Me (Cell W) (View W)). m.0.number) visit.me_is ∙ old.number)
           (ap (λ (m : Me (Cell W) (View W)). m.0.config) visit.me_is ∙ ap Some (asked_is visit.config visit.old visit.knows))
-          (ap (λ (m : Me (Cell W) (View W)). m.0.left) visit.me_is) seen_is visit.sound_after (asked_is visit.config visit.old visit.knows)
+          (ap (λ (m : Me (Cell W) (View W)). m.0.left) visit.me_is) seen_is
+          (seen_within visit.config visit.old visit.knows visit.new visit.grown) visit.sound_after (asked_is visit.config visit.old visit.knows)
 
       settled_after : after ≡ record before { seen = after.seen }
       settled_after =
@@ -188,7 +200,8 @@ module _ {W : ℕ} (table seat : TableId) (me : Me (Cell W) (View W)) (who : ℕ
           })
           (ap (λ (m : Me (Cell W) (View W)). m.0.number) sees.me_is ∙ old.number)
           (ap (λ (m : Me (Cell W) (View W)). m.0.config) sees.me_is ∙ old.config_is)
-          (ap (λ (m : Me (Cell W) (View W)). m.0.left) sees.me_is) sees_seen sees.sound sees_asked
+          (ap (λ (m : Me (Cell W) (View W)). m.0.left) sees.me_is) sees_seen
+          (let one = ap length sees.knows.seen.longer in let two = length-append me.0.seen sees.knows.seen.more in omega arith) sees.sound sees_asked
 
       abbrev met_after : DeskState
       met_after = shared_desk (seated_of table who config me'.0 last pins done late)

@@ -54,6 +54,7 @@ returns-in-Ok-clause-opened g c =
         new = new;
         sound = t.sound;
         sound_after = moves.sound;
+        grown = visit.grown;
         knows = t.knows;
         me_is = visit.me_is ∙ ap (λ z. (with_said (core.some z) new v, [])) c.front_of.ensures;
       },
