@@ -15,9 +15,10 @@ pub record KeepsDesk (old new : DeskState) : Type 0 where
   pub fronts : new.fronts ≡ old.fronts
   pub alone : new.alone ≡ old.alone
 
--- a count rose by so much, unless it stands at the greatest number
+-- a count rose by so much, unless it stands at the greatest number, at which it stays
 pub record IsRise (before number after : ℕ) : Type 0 where
   pub exact : after ≢ 18446744073709551615 → after ≡ before + number
+  pub full : before ≡ 18446744073709551615 → after ≡ 18446744073709551615
   pub never_back : before ≤ after
   pub never_more : after ≤ before + number
 

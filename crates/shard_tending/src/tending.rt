@@ -8,6 +8,7 @@ ghost use Rattle.shard_tending.specs.Tending.{IsRise, KeepsDesk, TendsAlone};
 
 use crate::tended::Tended;
 use crate::turning::tend_shard;
+use exchange_model::rounds_never_cost_more;
 use read_meter::Steps;
 use session_desk::Desk;
 use std::alloc::Global;
@@ -36,6 +37,7 @@ pub fn tend<const W: usize, D: Desk<W>, M>(
     ensures bound { upkeep.new ≤ upkeep.old
         + (D.desk desk.old).config.shards * (80 + 3 * length (D.desk desk.new).seen) }
 {
+    rounds_never_cost_more();
     let mut tended = Tended {
         swapped: 0,
         moved: 0,
