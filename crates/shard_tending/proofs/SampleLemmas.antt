@@ -1,5 +1,5 @@
 -- The samples that are drawn from the first rows of a version.
-use Rattle.std.proofs.Common.{◌≡◌, ℕ, ◌<◌, ◌≤◌, List, [], ◌∷◌, length, map, take, get_or, refl, sym, ap, ap2, subst, ◌∙◌, arith, absurd}
+use Rattle.std.proofs.Common.{◌≡◌, ℕ, ◌<◌, ◌≤◌, List, [], ◌∷◌, length, map, take, get_or, refl, sym, ap, subst, ◌∙◌, arith}
 use Rattle.std.proofs.lemmas.List.{length-map, length-take}
 use Rattle.std.specs.Prelude.{zero, suc}
 use Rattle.hamming_model.specs.Codes.{StandsFor}
@@ -18,6 +18,10 @@ use Rattle.layout_search.specs.declared.found.Found.{Found}
 use Rattle.shard_tending.specs.Turns.{FindsTended}
 use Rattle.shard_tending.specs.Searched.{row_sample, tending_samples}
 use Rattle.shard_tending.specs.declared.limits.TheConstants.{TENDING_RADIUS, TENDING_ROUNDS, TENDING_ROWS}
+
+-- two arguments that are the same
+pub ap_both : {A B C : Type 0} (f : A → B → C) {one other : A} {first second : B} → one ≡ other → first ≡ second → f one first ≡ f other second
+ap_both f {one} {other} {first} {second} same also = ap (λ x. f x first) same ∙ ap (f other) also
 
 -- a row's code as a sample
 abbrev pub stored_sample : {W : ℕ} → ℕ × List ℕ → Sample W
@@ -46,8 +50,8 @@ pub finds_tended : {W : ℕ} (version : Contents) (samples : List (Sample W)) (f
     → map (plain_sample version.layout.bits) samples ≡ tending_samples version.rows → FindsImproved version samples TENDING_ROUNDS found
     → IsLaid (arc_value found.layout) → (arc_value found.layout).bits ≡ version.layout.bits → FindsTended version found
 finds_tended version samples found plain ends laid bits = record {
-  layout = ap2 (λ (n : ℕ) (parts : List (List ℕ)). the_laid n parts) bits is.layout;
-  cheaper = ap2 nat_lt (is.cost_after ∙ ap (search_cost version.rows (tending_samples version.rows)) is.layout) is.cost_before;
+  layout = ap_both (λ (n : ℕ) (parts : List (List ℕ)). the_laid n parts) bits is.layout;
+  cheaper = ap_both nat_lt (is.cost_after ∙ ap (search_cost version.rows (tending_samples version.rows)) is.layout) is.cost_before;
   laid = laid;
 }
   where

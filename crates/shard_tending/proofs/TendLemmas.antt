@@ -1,5 +1,5 @@
 -- The shards of a turn, one after the other.
-use Rattle.std.proofs.Common.{◌≡◌, ◌≢◌, ◌⊎◌, inl, inr, ℕ, zero, suc, ◌+◌, ◌*◌, ◌<◌, ◌≤◌, ◌==◌, Bool, true, false, cond, List, [], ◌∷◌, ◌++◌, length, refl, sym, ap, ap2, subst, ◌∙◌, arith, absurd}
+use Rattle.std.proofs.Common.{◌≡◌, ◌≢◌, ◌⊎◌, inl, inr, ℕ, zero, suc, ◌+◌, ◌*◌, ◌<◌, ◌≤◌, ◌==◌, Bool, true, false, cond, List, [], ◌∷◌, ◌++◌, length, refl, sym, ap, subst, ◌∙◌, arith}
 use Rattle.std.specs.Prelude.{◌&&◌, nat_lt, Option, Some, None}
 use Rattle.std.proofs.lemmas.Bool.{cases_eq, cases_lt, eq-eqb, ne_eqb, lt-ltb}
 use Rattle.std.proofs.lemmas.List.{append-nil, length-append}
@@ -18,6 +18,7 @@ use Rattle.shard_tending.specs.declared.limits.TheConstants.{TENDING_ROUNDS}
 use Rattle.shard_tending.specs.declared.outcome.ShardTurn.{ShardTurn}
 use Rattle.shard_tending.specs.declared.outcome.ShardTurn.TheVariants.{Stays, Swapped, Moved, NoMemory}
 use Rattle.shard_tending.specs.declared.tended.Tended.{Tended}
+use Rattle.shard_tending.proofs.SampleLemmas.{ap_both}
 use Rattle.shard_tending.proofs.TurnLemmas.{rows_same}
 
 -- ---- a search that takes no exchange
@@ -107,10 +108,10 @@ module _ (law : CheaperBySwaps) (old now new : DeskState) (tended : Tended) (sha
   rows = rows_same old now keeps alone shard
 
   tended_same : tended_in now shard ≡ tended_in old shard
-  tended_same = ap2 tended_layout rows here
+  tended_same = ap_both tended_layout rows here
 
   improvable_same : is_improvable now shard ≡ is_improvable old shard
-  improvable_same = ap2 is_improved rows here
+  improvable_same = ap_both is_improved rows here
 
   nowhere : (b : Bool) (one other : Laid) → cond (b && false) one other ≡ other
   nowhere true one other = refl

@@ -1,5 +1,5 @@
 -- The turn of one shard: what the desk that was pinned, and maybe swapped, is to the desk before.
-use Rattle.std.proofs.Common.{◌≡◌, ◌≢◌, ◌⊎◌, inl, inr, ℕ, ◌+◌, ◌<◌, ◌≤◌, ◌==◌, Bool, true, false, cond, List, ◌++◌, length, take, map, eqb-true, absurd, get_or, set, refl, sym, ap, ap2, subst, ◌∙◌, arith}
+use Rattle.std.proofs.Common.{◌≡◌, ◌≢◌, ◌⊎◌, inl, inr, ℕ, ◌+◌, ◌<◌, ◌≤◌, ◌==◌, Bool, true, false, cond, List, ◌++◌, length, take, map, eqb-true, get_or, set, refl, sym, ap, subst, ◌∙◌, arith}
 use Rattle.std.specs.Prelude.{◌&&◌}
 use Rattle.std.proofs.lemmas.Bool.{cases_eq, eq-eqb, eqb-false, ne_eqb}
 use Rattle.std.proofs.lemmas.List.{append-nil, get_or-set_other, get_or-set_same, length-map, take_all}
@@ -15,6 +15,7 @@ use Rattle.query_opening.proofs.PinLemmas.{learns_both}
 use Rattle.shard_rebuild.specs.Swapping.{FindsMoved, IfMoved, IfNoMemory, IfSwapped, LacksMemory, SwapsIn, with_late, with_swap}
 use Rattle.shard_rebuild.specs.declared.answer.SwapAnswer.{SwapAnswer}
 use Rattle.shard_rebuild.specs.declared.answer.SwapAnswer.TheVariants as answer
+use Rattle.shard_tending.proofs.SampleLemmas.{ap_both}
 use Rattle.shard_tending.specs.Outcomes.{outcome_of}
 use Rattle.shard_tending.specs.Searched.{is_improvable, is_improved, layout_in, seen_rows, tended_in, tended_layout}
 use Rattle.shard_tending.specs.Tending.{IsRise, KeepsDesk}
@@ -116,10 +117,10 @@ module _ (old mid : DeskState) (shard : ℕ) (comes : ComesOn old mid) (version 
   version_layout = pins.pinned.layout alone
 
   pub version_improved : is_improved version.rows version.layout ≡ is_improvable old shard
-  version_improved = ap2 is_improved version_rows version_layout
+  version_improved = ap_both is_improved version_rows version_layout
 
   pub version_tended : tended_layout version.rows version.layout ≡ tended_in old shard
-  version_tended = ap2 tended_layout version_rows version_layout
+  version_tended = ap_both tended_layout version_rows version_layout
 
 -- ---- the outcomes
 
