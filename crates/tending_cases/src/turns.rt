@@ -1,0 +1,106 @@
+//! Turns over shards of codes of 8 bits in two parts.
+
+ghost use Rattle.std.specs.Prelude.{◌≡◌, ◌<◌, ◌≤◌, take};
+ghost use Rattle.hamming_model.specs.Codes.{StandsFor};
+ghost use Rattle.hamming_model.specs.Recoded.{IsStoredOperation};
+ghost use Rattle.hamming_model.specs.declared.limits.TheConstants.{SHARDS_MOST};
+ghost use Rattle.entry_log.specs.Entries.{kept_operation};
+
+use entry_log::{Decision, Op};
+use gph_codes::Code;
+use part_layout::Config;
+use read_meter::{Steps, upkeep};
+use search_model::stored_rows_search_alike;
+use session_desk::{Desk, SoloDesk};
+use shard_tending::{Tended, tend};
+use std::alloc::Global;
+use std::process::Abort;
+use std::test::Fail;
+
+// The ledger that these tests count on.
+#[derive(Drop)]
+struct Upkeep;
+
+// A desk of codes of 8 bits in two parts.
+fn small_desk<R: Abort>(rt: &R, alloc: Global, shards: u32) -> SoloDesk<1>
+    requires some { 1 ≤ shards }
+    requires few { shards ≤ SHARDS_MOST }
+    ensures bits { (⟦<SoloDesk<1> as Desk<1>>⟧.desk result).config.bits ≡ 8 }
+    ensures shards { (⟦<SoloDesk<1> as Desk<1>>⟧.desk result).config.shards ≡ shards }
+{
+    let config = Config {
+        bits: 8,
+        parts: 2,
+        shards,
+        room: 16,
+        entries: 100,
+        input: 100,
+    };
+    SoloDesk::new(alloc, &config).expect(rt, "memory for a desk")
+}
+
+// Adds a code that two digits spell.
+fn add<R: Abort, D: Desk<1>>(rt: &R, desk: &mut D, key: u64, text: &[u8])
+    requires bits { (D.desk desk.old).config.bits ≡ 8 }
+    ensures config { (D.desk desk.new).config ≡ (D.desk desk.old).config }
+{
+    stored_rows_search_alike();
+    let Ok(code) = Code::from_hex(8, text) else {
+        panic!(rt; "no code");
+    };
+    let decided = desk.commit(Op::Add { key, code }).expect(rt, "memory for an entry");
+    assert!(rt; decided.decision == Decision::Added, "{key}");
+}
+
+// Compares the layout of a shard.
+fn stands_in<R: Abort, D: Desk<1>>(rt: &R, desk: &mut D, shard: u32, layout: &[u8])
+    requires shard { shard < (D.desk desk.old).config.shards }
+    ensures config { (D.desk desk.new).config ≡ (D.desk desk.old).config }
+{
+    let told = desk.layout_of(shard);
+    assert!(rt; told.bytes() == layout, "{shard}");
+}
+
+// Compares what a turn did.
+fn tends<R: Abort, D: Desk<1>>(
+    rt: &R,
+    alloc: Global,
+    desk: &mut D,
+    swapped: u32,
+    steps: &mut Steps<Upkeep>,
+)
+    ensures config { (D.desk desk.new).config ≡ (D.desk desk.old).config }
+{
+    let tended = tend(alloc, desk, steps);
+    let is_tended = tended
+        == Tended {
+            swapped,
+            moved: 0,
+            nomem: 0,
+        };
+    assert!(rt; is_tended, "{swapped}");
+}
+
+#[test]
+fn a_turn_over_no_rows_swaps_nothing(rt: HostRuntime) -> Result<(), Fail> {
+    let mut desk = small_desk(&rt, rt.alloc(), 2);
+    let mut steps: Steps<Upkeep> = upkeep(&rt);
+    tends(&rt, rt.alloc(), &mut desk, 0, &mut steps);
+    stands_in(&rt, &mut desk, 0, b"0,1,2,3/4,5,6,7");
+    stands_in(&rt, &mut desk, 1, b"0,1,2,3/4,5,6,7");
+    Ok(())
+}
+
+#[test]
+fn a_further_turn_swaps_nothing(rt: HostRuntime) -> Result<(), Fail> {
+    let mut desk = small_desk(&rt, rt.alloc(), 1);
+    let mut steps: Steps<Upkeep> = upkeep(&rt);
+    add(&rt, &mut desk, 1, b"00");
+    add(&rt, &mut desk, 2, b"1f");
+    add(&rt, &mut desk, 3, b"e3");
+    let tended = tend(rt.alloc(), &mut desk, &mut steps);
+    assert!(rt; tended.moved == 0 && tended.nomem == 0);
+    let further = tend(rt.alloc(), &mut desk, &mut steps);
+    assert!(rt; further.moved == 0 && further.nomem == 0 && further.swapped == 0);
+    Ok(())
+}
