@@ -24,7 +24,11 @@ pub(crate) fn outcome_of<const W: usize>(answer: SwapAnswer<W>) -> ShardTurn
 {
     match answer {
         SwapAnswer::Swapped { at: _ } => ShardTurn::Swapped,
-        SwapAnswer::Moved { front: _, shard_at: _, build: _ } => ShardTurn::Moved,
+        SwapAnswer::Moved {
+            front: _,
+            shard_at: _,
+            build: _,
+        } => ShardTurn::Moved,
         SwapAnswer::NoMemory { build: _ } => ShardTurn::NoMemory,
     }
 }

@@ -8,13 +8,15 @@ ghost use Rattle.entry_log.specs.Entries.{kept_operation};
 
 use entry_log::{Decision, Op};
 use gph_codes::Code;
-use part_layout::Config;
+use part_layout::{Config, Layout};
 use read_meter::{Steps, upkeep};
 use search_model::stored_rows_search_alike;
 use session_desk::{Desk, SoloDesk};
+use shard_rebuild::{SwapAnswer, builds_stay_with_their_shard, start_build, swap_build};
 use shard_tending::{Tended, tend};
 use std::alloc::Global;
 use std::process::Abort;
+use std::sync::Arc;
 use std::test::Fail;
 
 // The ledger that these tests count on.
@@ -48,7 +50,9 @@ fn add<R: Abort, D: Desk<1>>(rt: &R, desk: &mut D, key: u64, text: &[u8])
     let Ok(code) = Code::from_hex(8, text) else {
         panic!(rt; "no code");
     };
-    let decided = desk.commit(Op::Add { key, code }).expect(rt, "memory for an entry");
+    let decided = desk
+        .commit(Op::Add { key, code })
+        .expect(rt, "memory for an entry");
     assert!(rt; decided.decision == Decision::Added, "{key}");
 }
 
@@ -102,5 +106,33 @@ fn a_further_turn_swaps_nothing(rt: HostRuntime) -> Result<(), Fail> {
     assert!(rt; tended.moved == 0 && tended.nomem == 0);
     let further = tend(rt.alloc(), &mut desk, &mut steps);
     assert!(rt; further.moved == 0 && further.nomem == 0 && further.swapped == 0);
+    Ok(())
+}
+
+#[test]
+fn a_turn_swaps_in_a_cheaper_layout(rt: HostRuntime) -> Result<(), Fail> {
+    builds_stay_with_their_shard();
+    let mut desk = small_desk(&rt, rt.alloc(), 1);
+    let mut steps: Steps<Upkeep> = upkeep(&rt);
+    add(&rt, &mut desk, 1, b"00");
+    add(&rt, &mut desk, 2, b"1f");
+    add(&rt, &mut desk, 3, b"e3");
+    let Ok(layout) = Layout::parse(rt.alloc(), 8, b"0,1,2,6/3,4,5,7") else {
+        panic!(rt; "no layout");
+    };
+    assert!(rt; layout.bits() == 8);
+    let shared = Arc::new(rt.alloc(), layout).expect(&rt, "memory for a layout");
+    let mut build = start_build(rt.alloc(), &mut desk, 0, shared, &mut steps)
+        .expect(&rt, "memory for a build");
+    let _state = build.step(9, &mut steps);
+    assert!(rt; build.left() == 0);
+    let SwapAnswer::Swapped { at: 3 } = swap_build(rt.alloc(), &mut desk, 0, build, &mut steps)
+    else {
+        panic!(rt; "the build goes on");
+    };
+    stands_in(&rt, &mut desk, 0, b"0,1,2,6/3,4,5,7");
+    tends(&rt, rt.alloc(), &mut desk, 1, &mut steps);
+    stands_in(&rt, &mut desk, 0, b"3,1,2,6/0,4,5,7");
+    tends(&rt, rt.alloc(), &mut desk, 0, &mut steps);
     Ok(())
 }
