@@ -6,12 +6,13 @@ use Rattle.hamming_model.specs.declared.limits.TheConstants.{BITS_MOST}
 use Rattle.part_layout.specs.Contiguous.{can_be_cut}
 use Rattle.command_line.specs.CommandOptions.{least, greatest}
 use Rattle.command_line.specs.CommandWords.{number_given, or_fault}
+use Rattle.command_line.specs.ListenWords.{settings_asked}
 use Rattle.command_line.specs.WrittenOptions.{Written, given, fault_of_option}
 use Rattle.command_line.specs.declared.command_option.CommandOption.{CommandOption}
 use Rattle.command_line.specs.declared.command_option.CommandOption.TheVariants.{Bits, Parts}
 use Rattle.command_line.specs.declared.command_option.CommandOption.TheVariants.{Shards, Room}
 use Rattle.command_line.specs.declared.command_option.CommandOption.TheVariants.{Entries, Input}
-use Rattle.command_line.specs.declared.command_option.CommandOption.TheVariants.{Number, Codes}
+use Rattle.command_line.specs.declared.command_option.CommandOption.TheVariants.{Number, Codes, Port, Sessions}
 use Rattle.command_line.specs.declared.command.CommandWord.{CommandWord}
 use Rattle.command_line.specs.declared.given.GivenNumber.{GivenNumber}
 use Rattle.command_line.specs.declared.given.Given.{Given}
@@ -34,6 +35,8 @@ entry_at Entries given = given.entries
 entry_at Input given = given.input
 entry_at Number given = given.number
 entry_at Codes given = given.codes
+entry_at Port given = given.port
+entry_at Sessions given = given.sessions
 
 -- what is kept once an option is given
 abbrev pub put : CommandOption → GivenNumber → Given → Given
@@ -45,6 +48,8 @@ put Entries entry given = record given { entries = Some entry }
 put Input entry given = record given { input = Some entry }
 put Number entry given = record given { number = Some entry }
 put Codes entry given = record given { codes = Some entry }
+put Port entry given = record given { port = Some entry }
+put Sessions entry given = record given { sessions = Some entry }
 
 -- the number of an entry, or else a default
 abbrev pub entry_number_or : ℕ → Option GivenNumber → ℕ
@@ -70,6 +75,7 @@ abbrev pub size : Given → ℕ
 size given =
     present given.bits + present given.parts + present given.shards + present given.room
     + present given.entries + present given.input + present given.number + present given.codes
+    + present given.port + present given.sessions
 
 -- what is kept of the options
 abbrev pub options_kept : List Written → Given
@@ -82,12 +88,23 @@ options_kept settings = record {
   input = entry_in Input settings;
   number = entry_in Number settings;
   codes = entry_in Codes settings;
+  port = entry_in Port settings;
+  sessions = entry_in Sessions settings;
 }
 
 -- what is kept after one more option, or its fault
 abbrev pub kept_after : CommandWord → List Written → Written → Result Given ℕ
 kept_after command before one =
     or_fault (fault_of_option command before one) (Ok (options_kept (one ∷ before)))
+
+-- what is kept of options that have no fault
+abbrev pub kept_of : Result (List Written) ℕ → Result Given ℕ
+kept_of (Err place) = Err place
+kept_of (Ok settings) = Ok (options_kept settings)
+
+-- what is kept of the options that the words after a command write, or the first fault
+abbrev pub given_asked : CommandWord → List (List ℕ) → Result Given ℕ
+given_asked command words = kept_of (settings_asked command words)
 
 -- the number of an entry, or else a place
 abbrev pub entry_number_at : ℕ → Option GivenNumber → Result ℕ ℕ

@@ -1,5 +1,6 @@
 pub mod CommandOptions
 pub mod WrittenOptions
 pub mod CommandWords
+pub mod ListenWords
 pub mod Commands
 pub mod Kept
