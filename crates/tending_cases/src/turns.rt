@@ -85,6 +85,81 @@ fn tends<R: Abort, D: Desk<1>>(
     assert!(rt; is_tended, "{swapped}");
 }
 
+// Twenty rows, of which the last four give no samples where there is one shard.
+static ROWS: [(u64, &[u8]); 20] = [
+    (1, b"5a"),
+    (2, b"1d"),
+    (3, b"83"),
+    (4, b"0b"),
+    (5, b"b7"),
+    (6, b"ce"),
+    (7, b"09"),
+    (8, b"d6"),
+    (9, b"bb"),
+    (10, b"c0"),
+    (11, b"04"),
+    (12, b"e7"),
+    (13, b"17"),
+    (14, b"5c"),
+    (15, b"64"),
+    (16, b"3c"),
+    (17, b"7d"),
+    (18, b"ec"),
+    (19, b"b0"),
+    (20, b"b5"),
+];
+
+// The layouts in which a turn leaves the shards, as a plain program of its own searches them.
+static TURNS: [(u32, u32, [&[u8]; 4]); 4] = [
+    (1, 1, [b"7,1,6,2/0,5,3,4", b"", b"", b""]),
+    (2, 2, [b"0,1,4,3/2,5,6,7", b"4,1,2,3/0,5,6,7", b"", b""]),
+    (
+        3,
+        3,
+        [
+            b"6,1,2,5/4,3,0,7",
+            b"4,1,2,3/0,5,6,7",
+            b"7,1,2,6/4,5,3,0",
+            b"",
+        ],
+    ),
+    (
+        4,
+        2,
+        [
+            b"5,1,2,3/4,0,6,7",
+            b"0,1,2,3/4,5,6,7",
+            b"0,4,2,3/1,5,6,7",
+            b"0,1,2,3/4,5,6,7",
+        ],
+    ),
+];
+
+// Adds the twenty rows.
+fn add_rows<R: Abort, D: Desk<1>>(rt: &R, desk: &mut D)
+    requires bits { (D.desk desk.old).config.bits ≡ 8 }
+    ensures config { (D.desk desk.new).config ≡ (D.desk desk.old).config }
+{
+    for &(key, text) in &ROWS {
+        add(rt, desk, key, text);
+    }
+}
+
+#[test]
+fn each_shard_comes_to_where_its_search_ends(rt: HostRuntime) -> Result<(), Fail> {
+    for &(shards, swapped, layouts) in &TURNS {
+        assert!(rt; 1 <= shards && shards <= 4);
+        let mut desk = small_desk(&rt, rt.alloc(), shards);
+        let mut steps: Steps<Upkeep> = upkeep(&rt);
+        add_rows(&rt, &mut desk);
+        tends(&rt, rt.alloc(), &mut desk, swapped, &mut steps);
+        for shard in 0..shards {
+            stands_in(&rt, &mut desk, shard, layouts[shard as usize]);
+        }
+    }
+    Ok(())
+}
+
 #[test]
 fn a_turn_over_no_rows_swaps_nothing(rt: HostRuntime) -> Result<(), Fail> {
     let mut desk = small_desk(&rt, rt.alloc(), 2);
@@ -102,10 +177,10 @@ fn a_further_turn_swaps_nothing(rt: HostRuntime) -> Result<(), Fail> {
     add(&rt, &mut desk, 1, b"00");
     add(&rt, &mut desk, 2, b"1f");
     add(&rt, &mut desk, 3, b"e3");
-    let tended = tend(rt.alloc(), &mut desk, &mut steps);
-    assert!(rt; tended.moved == 0 && tended.nomem == 0);
-    let further = tend(rt.alloc(), &mut desk, &mut steps);
-    assert!(rt; further.moved == 0 && further.nomem == 0 && further.swapped == 0);
+    tends(&rt, rt.alloc(), &mut desk, 1, &mut steps);
+    stands_in(&rt, &mut desk, 0, b"6,1,2,3/4,5,0,7");
+    tends(&rt, rt.alloc(), &mut desk, 0, &mut steps);
+    stands_in(&rt, &mut desk, 0, b"6,1,2,3/4,5,0,7");
     Ok(())
 }
 
@@ -122,8 +197,10 @@ fn a_turn_swaps_in_a_cheaper_layout(rt: HostRuntime) -> Result<(), Fail> {
     };
     assert!(rt; layout.bits() == 8);
     let shared = Arc::new(rt.alloc(), layout).expect(&rt, "memory for a layout");
-    let mut build = start_build(rt.alloc(), &mut desk, 0, shared, &mut steps)
-        .expect(&rt, "memory for a build");
+    let mut build = start_build(rt.alloc(), &mut desk, 0, shared, &mut steps).expect(
+        &rt,
+        "memory for a build",
+    );
     let _state = build.step(9, &mut steps);
     assert!(rt; build.left() == 0);
     let SwapAnswer::Swapped { at: 3 } = swap_build(rt.alloc(), &mut desk, 0, build, &mut steps)
