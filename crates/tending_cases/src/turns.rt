@@ -145,6 +145,16 @@ fn add_rows<R: Abort, D: Desk<1>>(rt: &R, desk: &mut D)
     }
 }
 
+// Compares the layouts of the shards.
+fn all_stand_in<R: Abort, D: Desk<1>>(rt: &R, desk: &mut D, shards: u32, layouts: &[&[u8]; 4])
+    requires shards { (D.desk desk.old).config.shards ≡ shards }
+    requires few { shards ≤ 4 }
+{
+    for shard in 0..shards {
+        stands_in(rt, desk, shard, layouts[shard as usize]);
+    }
+}
+
 #[test]
 fn each_shard_comes_to_where_its_search_ends(rt: HostRuntime) -> Result<(), Fail> {
     for &(shards, swapped, layouts) in &TURNS {
@@ -153,9 +163,7 @@ fn each_shard_comes_to_where_its_search_ends(rt: HostRuntime) -> Result<(), Fail
         let mut steps: Steps<Upkeep> = upkeep(&rt);
         add_rows(&rt, &mut desk);
         tends(&rt, rt.alloc(), &mut desk, swapped, &mut steps);
-        for shard in 0..shards {
-            stands_in(&rt, &mut desk, shard, layouts[shard as usize]);
-        }
+        all_stand_in(&rt, &mut desk, shards, &layouts);
     }
     Ok(())
 }
