@@ -7,7 +7,8 @@ use Rattle.command_line.specs.CommandOptions.{name_of, option_named, option_of, 
 use Rattle.command_line.specs.CommandWords.{or_fault}
 use Rattle.command_line.specs.ListenWords.{settings_after}
 use Rattle.command_line.specs.WrittenOptions.{Written, parted, in_one_word, in_two_words, written_options, given, value_fault, option_fault, fault_of_option, first_written, others_written}
-use Rattle.command_line.specs.Kept.{given_option, entry_at, put, options_kept, kept_after, present, size, IsNumberOf, IsEntryOf, AreEntries, next_in, after_next}
+use Rattle.command_line.specs.Kept.{given_option, entry_at, put, options_kept, kept_after, present, size, IsNumberOf, IsEntryOf, AreEntries}
+use Rattle.command_line.specs.ReadWords.{next_in, after_next}
 use Rattle.command_line.proofs.WordLemmas.{from_first}
 use Rattle.command_line.proofs.OptionLemmas.{named_name, number_range}
 use Rattle.command_line.specs.declared.command_option.CommandOption.{CommandOption}
@@ -20,16 +21,26 @@ use Rattle.command_line.specs.declared.command.CommandWord.{CommandWord}
 put_named : (before : List Written) (one : Written) (option : CommandOption)
     → ((other : CommandOption) → bytes_eq one.name (name_of other) ≡ bytes_eq (name_of option) (name_of other))
     → put option (given_option option one) (options_kept before) ≡ options_kept (one ∷ before)
-put_named before one Bits same = rw (same Bits, same Parts, same Shards, same Room, same Entries, same Input, same Number, same Codes, same Port, same Sessions)
-put_named before one Parts same = rw (same Bits, same Parts, same Shards, same Room, same Entries, same Input, same Number, same Codes, same Port, same Sessions)
-put_named before one Shards same = rw (same Bits, same Parts, same Shards, same Room, same Entries, same Input, same Number, same Codes, same Port, same Sessions)
-put_named before one Room same = rw (same Bits, same Parts, same Shards, same Room, same Entries, same Input, same Number, same Codes, same Port, same Sessions)
-put_named before one Entries same = rw (same Bits, same Parts, same Shards, same Room, same Entries, same Input, same Number, same Codes, same Port, same Sessions)
-put_named before one Number same = rw (same Bits, same Parts, same Shards, same Room, same Entries, same Input, same Number, same Codes, same Port, same Sessions)
-put_named before one Codes same = rw (same Bits, same Parts, same Shards, same Room, same Entries, same Input, same Number, same Codes, same Port, same Sessions)
-put_named before one Port same = rw (same Bits, same Parts, same Shards, same Room, same Entries, same Input, same Number, same Codes, same Port, same Sessions)
-put_named before one Sessions same = rw (same Bits, same Parts, same Shards, same Room, same Entries, same Input, same Number, same Codes, same Port, same Sessions)
-put_named before one Input same = rw (same Bits, same Parts, same Shards, same Room, same Entries, same Input, same Number, same Codes, same Port, same Sessions)
+put_named before one Bits same =
+    rw (same Bits, same Parts, same Shards, same Room, same Entries, same Input, same Number, same Codes, same Port, same Sessions)
+put_named before one Parts same =
+    rw (same Bits, same Parts, same Shards, same Room, same Entries, same Input, same Number, same Codes, same Port, same Sessions)
+put_named before one Shards same =
+    rw (same Bits, same Parts, same Shards, same Room, same Entries, same Input, same Number, same Codes, same Port, same Sessions)
+put_named before one Room same =
+    rw (same Bits, same Parts, same Shards, same Room, same Entries, same Input, same Number, same Codes, same Port, same Sessions)
+put_named before one Entries same =
+    rw (same Bits, same Parts, same Shards, same Room, same Entries, same Input, same Number, same Codes, same Port, same Sessions)
+put_named before one Number same =
+    rw (same Bits, same Parts, same Shards, same Room, same Entries, same Input, same Number, same Codes, same Port, same Sessions)
+put_named before one Codes same =
+    rw (same Bits, same Parts, same Shards, same Room, same Entries, same Input, same Number, same Codes, same Port, same Sessions)
+put_named before one Port same =
+    rw (same Bits, same Parts, same Shards, same Room, same Entries, same Input, same Number, same Codes, same Port, same Sessions)
+put_named before one Sessions same =
+    rw (same Bits, same Parts, same Shards, same Room, same Entries, same Input, same Number, same Codes, same Port, same Sessions)
+put_named before one Input same =
+    rw (same Bits, same Parts, same Shards, same Room, same Entries, same Input, same Number, same Codes, same Port, same Sessions)
 
 -- an option that may stand after a command is the one that was named
 allowed_is : (allowed : Bool) (found option : CommandOption) → ◌≡◌ {A = Option CommandOption} (cond allowed (Some found) None) (Some option) → found ≡ option

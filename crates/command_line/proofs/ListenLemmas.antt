@@ -3,7 +3,8 @@ use Rattle.std.proofs.Common.{◌≡◌, ℕ, ◌+◌, List, [], ◌∷◌, leng
 use Rattle.command_line.specs.CommandWords.{or_fault, command_of, asked_after, options_asked}
 use Rattle.command_line.specs.ListenWords.{settings_after, settings_asked, listen_of, listen_options}
 use Rattle.command_line.specs.WrittenOptions.{Written, written_options, fault_of_option}
-use Rattle.command_line.specs.Kept.{options_kept, kept_of, given_asked}
+use Rattle.command_line.specs.Kept.{options_kept}
+use Rattle.command_line.specs.ReadWords.{settings_kept, given_asked}
 use Rattle.part_layout.specs.declared.config.Config.{Config}
 use Rattle.command_line.specs.declared.command.Command.{Command}
 use Rattle.command_line.specs.declared.command.CommandWord.{CommandWord}
@@ -32,14 +33,14 @@ asked_settings command end before (one ∷ others) =
 
 -- what is asked for, by what is kept
 by_kept : {A : Type 0} (asks : List Written → Result A ℕ) (found : Result (List Written) ℕ) (given : Given) (asked : Result A ℕ)
-    → Ok given ≡ kept_of found → ((settings : List Written) → given ≡ options_kept settings → asked ≡ asks settings)
+    → Ok given ≡ settings_kept found → ((settings : List Written) → given ≡ options_kept settings → asked ≡ asks settings)
     → asked ≡ asked_by asks found
 by_kept asks (Err place) given asked kept meets = cc
 by_kept asks (Ok settings) given asked kept meets = meets settings (cc)
 
 -- a fault that is kept is told
 by_fault : {A : Type 0} (asks : List Written → Result A ℕ) (found : Result (List Written) ℕ) (place : ℕ)
-    → ◌≡◌ {A = Result Given ℕ} (Err place) (kept_of found) → ◌≡◌ {A = Result A ℕ} (Err place) (asked_by asks found)
+    → ◌≡◌ {A = Result Given ℕ} (Err place) (settings_kept found) → ◌≡◌ {A = Result A ℕ} (Err place) (asked_by asks found)
 by_fault asks (Err other) place kept = cc
 by_fault asks (Ok settings) place kept = cc
 

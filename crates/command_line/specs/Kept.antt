@@ -6,7 +6,6 @@ use Rattle.hamming_model.specs.declared.limits.TheConstants.{BITS_MOST}
 use Rattle.part_layout.specs.Contiguous.{can_be_cut}
 use Rattle.command_line.specs.CommandOptions.{least, greatest}
 use Rattle.command_line.specs.CommandWords.{number_given, or_fault}
-use Rattle.command_line.specs.ListenWords.{settings_asked}
 use Rattle.command_line.specs.WrittenOptions.{Written, given, fault_of_option}
 use Rattle.command_line.specs.declared.command_option.CommandOption.{CommandOption}
 use Rattle.command_line.specs.declared.command_option.CommandOption.TheVariants.{Bits, Parts}
@@ -97,15 +96,6 @@ abbrev pub kept_after : CommandWord → List Written → Written → Result Give
 kept_after command before one =
     or_fault (fault_of_option command before one) (Ok (options_kept (one ∷ before)))
 
--- what is kept of options that have no fault
-abbrev pub kept_of : Result (List Written) ℕ → Result Given ℕ
-kept_of (Err place) = Err place
-kept_of (Ok settings) = Ok (options_kept settings)
-
--- what is kept of the options that the words after a command write, or the first fault
-abbrev pub given_asked : CommandWord → List (List ℕ) → Result Given ℕ
-given_asked command words = kept_of (settings_asked command words)
-
 -- the number of an entry, or else a place
 abbrev pub entry_number_at : ℕ → Option GivenNumber → Result ℕ ℕ
 entry_number_at place entry =
@@ -124,13 +114,3 @@ IsEntryOf option entry =
 -- each entry is one of its option
 pub record AreEntries (given : Given) : Type 0 where
   pub each : (option : CommandOption) → IsEntryOf option (entry_at option given)
-
--- the next word, if there is one
-abbrev pub next_in : List (List ℕ) → Option (List ℕ)
-next_in [] = None
-next_in (word ∷ words) = Some word
-
--- the words after the next one
-abbrev pub after_next : List (List ℕ) → List (List ℕ)
-after_next [] = []
-after_next (word ∷ words) = words

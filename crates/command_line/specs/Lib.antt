@@ -4,3 +4,4 @@ pub mod CommandWords
 pub mod ListenWords
 pub mod Commands
 pub mod Kept
+pub mod ReadWords

@@ -5,7 +5,8 @@ ghost use Rattle.std.specs.Option.{option_map};
 ghost use Rattle.command_line.specs.CommandWords.{asked, options_asked};
 ghost use Rattle.command_line.specs.Commands.{IsCommand};
 ghost use Rattle.command_line.specs.WrittenOptions.{parted};
-ghost use Rattle.command_line.specs.Kept.{next_in, after_next, given_asked, AreEntries};
+ghost use Rattle.command_line.specs.Kept.{AreEntries};
+ghost use Rattle.command_line.specs.ReadWords.{next_in, after_next, given_asked};
 
 use crate::command::{Command, CommandWord};
 use crate::given::Given;

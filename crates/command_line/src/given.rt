@@ -101,48 +101,20 @@ impl Given {
         ensures { result ≡ put option entry self }
     {
         let entry = Some(entry);
+        let mut given = self;
         match option {
-            CommandOption::Bits => Given {
-                bits: entry,
-                ..self
-            },
-            CommandOption::Parts => Given {
-                parts: entry,
-                ..self
-            },
-            CommandOption::Shards => Given {
-                shards: entry,
-                ..self
-            },
-            CommandOption::Room => Given {
-                room: entry,
-                ..self
-            },
-            CommandOption::Entries => Given {
-                entries: entry,
-                ..self
-            },
-            CommandOption::Input => Given {
-                input: entry,
-                ..self
-            },
-            CommandOption::Number => Given {
-                number: entry,
-                ..self
-            },
-            CommandOption::Codes => Given {
-                codes: entry,
-                ..self
-            },
-            CommandOption::Port => Given {
-                port: entry,
-                ..self
-            },
-            CommandOption::Sessions => Given {
-                sessions: entry,
-                ..self
-            },
+            CommandOption::Bits => given.bits = entry,
+            CommandOption::Parts => given.parts = entry,
+            CommandOption::Shards => given.shards = entry,
+            CommandOption::Room => given.room = entry,
+            CommandOption::Entries => given.entries = entry,
+            CommandOption::Input => given.input = entry,
+            CommandOption::Number => given.number = entry,
+            CommandOption::Codes => given.codes = entry,
+            CommandOption::Port => given.port = entry,
+            CommandOption::Sessions => given.sessions = entry,
         }
+        given
     }
 
     // What a command asks for with these options, where none has a fault of its own and the words end before a place.

@@ -10,9 +10,9 @@ use Rattle.part_layout.specs.Laid.{Laid}
 use Rattle.commit_journal.specs.Fronts.{FrontState, live_at}
 use Rattle.session_desk.specs.Calls.{KeepsKnown}
 use Rattle.session_desk.specs.Desks.{DeskState}
-use Rattle.shard_tending.specs.Outcomes.{counted, moves_in, swaps_in, turns_in, wants_in}
+use Rattle.shard_tending.specs.Outcomes.{counted_turn, moves_in, swaps_in, turns_in, wants_in}
 use Rattle.shard_tending.specs.Searched.{is_improvable, is_improved, layout_in, seen_rows, tended_in, tended_layout, tending_cost}
-use Rattle.shard_tending.specs.Tending.{IsRise, KeepsDesk, TendsAlone, improvable_shards, is_among, layout_after}
+use Rattle.shard_tending.specs.Tending.{IsCountRise, KeepsOwnDesk, TendsAlone, improvable_shards, is_among, layout_after}
 use Rattle.shard_tending.specs.Turns.{TurnsAlone}
 use Rattle.shard_tending.specs.declared.limits.TheConstants.{TENDING_ROUNDS}
 use Rattle.shard_tending.specs.declared.outcome.ShardTurn.{ShardTurn}
@@ -73,8 +73,8 @@ among_other (first ∷ others) shard other apart = ap (cond (first == other) tru
 
 -- ---- the counts
 
-pub rise_both : (before one between two after : ℕ) → IsRise before one between → IsRise between two after
-    → IsRise before (one + two) after
+pub rise_both : (before one between two after : ℕ) → IsCountRise before one between → IsCountRise between two after
+    → IsCountRise before (one + two) after
 rise_both before one between two after first second = record {
   exact = λ below. go below (cases_eq between 18446744073709551615);
   full = λ is. second.full (first.full is);
@@ -99,7 +99,7 @@ begins_alone old = record {
   each = λ _ shard low. absurd (omega (arith, low));
 }
 
-module _ (law : CheaperBySwaps) (old now new : DeskState) (tended : Tended) (shard : ℕ) (so_far : TendsAlone old now tended shard) (keeps : KeepsDesk old now)
+module _ (law : CheaperBySwaps) (old now new : DeskState) (tended : Tended) (shard : ℕ) (so_far : TendsAlone old now tended shard) (keeps : KeepsOwnDesk old now)
     (alone : old.alone ≡ true) where
   here : layout_in now shard ≡ layout_in old shard
   here = so_far.layouts shard ∙ ap (λ (b : Bool). cond b (tended_in old shard) (layout_in old shard)) (so_far.own shard (omega arith))
@@ -127,7 +127,7 @@ module _ (law : CheaperBySwaps) (old now new : DeskState) (tended : Tended) (sha
     none_here : wants_in turn ≡ 0 → is_improvable old shard ≡ false
     none_here fine = sym improvable_same ∙ sym (turns.which fine) ∙ ap (λ (n : ℕ). n == 1) not_swapped
 
-    pub stays_alone : TendsAlone old new (counted tended turn) (suc shard)
+    pub stays_alone : TendsAlone old new (counted_turn tended turn) (suc shard)
     stays_alone = record {
       swapped = so_far.swapped;
       number = omega (arith, so_far.number, not_swapped);
@@ -147,7 +147,7 @@ module _ (law : CheaperBySwaps) (old now new : DeskState) (tended : Tended) (sha
             (here ∙ sym (not_improved law (seen_rows old shard) (layout_in old shard) (none_here (omega (arith, fine)))))
 
   -- a shard that was swapped
-  pub swaps_alone : TurnsAlone now new shard Swapped → TendsAlone old new (counted tended Swapped) (suc shard)
+  pub swaps_alone : TurnsAlone now new shard Swapped → TendsAlone old new (counted_turn tended Swapped) (suc shard)
   swaps_alone turns = record {
     swapped = so_far.swapped ++ shard ∷ [];
     number = length-append so_far.swapped (shard ∷ []) ∙ omega (arith, so_far.number);
@@ -181,27 +181,27 @@ module _ (law : CheaperBySwaps) (old now new : DeskState) (tended : Tended) (sha
       last fine other low (inl same) = there other same
       last fine other low (inr apart) = elsewhere other apart ∙ so_far.each (omega (arith, fine)) other (omega (arith, low, apart))
 
-  pub turns_alone : (turn : ShardTurn) → TurnsAlone now new shard turn → TendsAlone old new (counted tended turn) (suc shard)
+  pub turns_alone : (turn : ShardTurn) → TurnsAlone now new shard turn → TendsAlone old new (counted_turn tended turn) (suc shard)
   turns_alone Stays turns = stays_alone Stays turns refl
   turns_alone Swapped turns = swaps_alone turns
   turns_alone Moved turns = stays_alone Moved turns refl
   turns_alone NoMemory turns = stays_alone NoMemory turns refl
 
 -- by the number of the next shard
-pub turns_alone_more : CheaperBySwaps → (old now new : DeskState) (tended : Tended) (shard : ℕ) → TendsAlone old now tended shard → KeepsDesk old now
-    → old.alone ≡ true → (turn : ShardTurn) → TurnsAlone now new shard turn → TendsAlone old new (counted tended turn) (shard + 1)
+pub turns_alone_more : CheaperBySwaps → (old now new : DeskState) (tended : Tended) (shard : ℕ) → TendsAlone old now tended shard → KeepsOwnDesk old now
+    → old.alone ≡ true → (turn : ShardTurn) → TurnsAlone now new shard turn → TendsAlone old new (counted_turn tended turn) (shard + 1)
 turns_alone_more law old now new tended shard so_far keeps alone turn turns =
     let is : shard + 1 ≡ suc shard = omega arith in
-    subst (TendsAlone old new (counted tended turn)) (sym is) (turns_alone law old now new tended shard so_far keeps alone turn turns)
+    subst (TendsAlone old new (counted_turn tended turn)) (sym is) (turns_alone law old now new tended shard so_far keeps alone turn turns)
 
 -- ---- what stays known, and the steps
 
-pub keeps_known : (old now new : DeskState) (first between after : FrontState → Type 0) → KeepsDesk old now → KeepsDesk now new
+pub keeps_known : (old now new : DeskState) (first between after : FrontState → Type 0) → KeepsOwnDesk old now → KeepsOwnDesk now new
     → KeepsKnown now first between → KeepsKnown new between after → KeepsKnown new first after
 keeps_known old now new first between after early late one two front own known =
     two front own (one front (ap (λ live. live_at live front.id) (sym late.fronts) ∙ own) known)
 
-pub counted_few : (tended : Tended) (turn : ShardTurn) (shard : ℕ) → turns_in tended ≤ shard → turns_in (counted tended turn) ≤ shard + 1
+pub counted_few : (tended : Tended) (turn : ShardTurn) (shard : ℕ) → turns_in tended ≤ shard → turns_in (counted_turn tended turn) ≤ shard + 1
 counted_few tended Stays shard few = omega (arith, few)
 counted_few tended Swapped shard few = omega (arith, few)
 counted_few tended Moved shard few = omega (arith, few)

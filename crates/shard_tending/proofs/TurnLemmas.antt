@@ -18,12 +18,12 @@ use Rattle.shard_rebuild.specs.declared.answer.SwapAnswer.TheVariants as answer
 use Rattle.shard_tending.proofs.SampleLemmas.{ap_both}
 use Rattle.shard_tending.specs.Outcomes.{outcome_of}
 use Rattle.shard_tending.specs.Searched.{is_improvable, is_improved, layout_in, seen_rows, tended_in, tended_layout}
-use Rattle.shard_tending.specs.Tending.{IsRise, KeepsDesk}
+use Rattle.shard_tending.specs.Tending.{IsCountRise, KeepsOwnDesk}
 use Rattle.shard_tending.specs.Turns.{PinsShard, TurnsAlone, TurnsShard}
 use Rattle.shard_tending.specs.declared.outcome.ShardTurn.{ShardTurn}
 use Rattle.shard_tending.specs.declared.outcome.ShardTurn.TheVariants.{Stays, Swapped, Moved, NoMemory}
 
-pub keeps_comes : (old new : DeskState) → ComesOn old new → KeepsDesk old new
+pub keeps_comes : (old new : DeskState) → ComesOn old new → KeepsOwnDesk old new
 keeps_comes old new comes = record {
   learns = comes.learns;
   board = comes.board;
@@ -33,7 +33,7 @@ keeps_comes old new comes = record {
   alone = comes.alone;
 }
 
-pub keeps_both : (old mid new : DeskState) → KeepsDesk old mid → KeepsDesk mid new → KeepsDesk old new
+pub keeps_both : (old mid new : DeskState) → KeepsOwnDesk old mid → KeepsOwnDesk mid new → KeepsOwnDesk old new
 keeps_both old mid new first second = record {
   learns = learns_both old mid new.seen first.learns second.learns first.who first.alone;
   board = second.board ∙ first.board;
@@ -44,7 +44,7 @@ keeps_both old mid new first second = record {
 }
 
 -- from a desk with a swap more, or with one that came late
-pub keeps_swap : (mid new : DeskState) (shard : ℕ) (layout : Laid) → ComesOn (with_swap mid shard layout) new → KeepsDesk mid new
+pub keeps_swap : (mid new : DeskState) (shard : ℕ) (layout : Laid) → ComesOn (with_swap mid shard layout) new → KeepsOwnDesk mid new
 keeps_swap mid new shard layout comes = record {
   learns = record { more = comes.learns.more; longer = comes.learns.longer; others = comes.learns.others; all = comes.learns.all };
   board = comes.board;
@@ -54,7 +54,7 @@ keeps_swap mid new shard layout comes = record {
   alone = comes.alone;
 }
 
-pub keeps_late : (mid new : DeskState) → ComesOn (with_late mid) new → KeepsDesk mid new
+pub keeps_late : (mid new : DeskState) → ComesOn (with_late mid) new → KeepsOwnDesk mid new
 keeps_late mid new comes = record {
   learns = record { more = comes.learns.more; longer = comes.learns.longer; others = comes.learns.others; all = comes.learns.all };
   board = comes.board;
@@ -66,13 +66,14 @@ keeps_late mid new comes = record {
 
 -- ---- the counts
 
-pub rise_none : (before after : ℕ) → after ≡ before → IsRise before 0 after
-rise_none before after same = record { exact = λ _. omega (arith, same); full = λ is. same ∙ is; never_back = omega (arith, same); never_more = omega (arith, same) }
+pub rise_none : (before after : ℕ) → after ≡ before → IsCountRise before 0 after
+rise_none before after same =
+    record { exact = λ _. omega (arith, same); full = λ is. same ∙ is; never_back = omega (arith, same); never_more = omega (arith, same) }
 
-pub rise_one : (before after : ℕ) → after ≡ one_more before → IsRise before 1 after
+pub rise_one : (before after : ℕ) → after ≡ one_more before → IsCountRise before 1 after
 rise_one before after more = go (before == 18446744073709551615) refl
   where
-    go : (full : Bool) → (before == 18446744073709551615) ≡ full → IsRise before 1 after
+    go : (full : Bool) → (before == 18446744073709551615) ≡ full → IsCountRise before 1 after
     go true e =
         let same : after ≡ before = more ∙ ap (λ (b : Bool). cond b before (before + 1)) e in
         let is : before ≡ 18446744073709551615 = eqb-true before 18446744073709551615 e in
@@ -84,21 +85,26 @@ rise_one before after more = go (before == 18446744073709551615) refl
         }
     go false e =
         let same : after ≡ before + 1 = more ∙ ap (λ (b : Bool). cond b before (before + 1)) e in
-        record { exact = λ _. same; full = λ is. absurd (eqb-false before 18446744073709551615 e is); never_back = omega (arith, same); never_more = omega (arith, same) }
+        record {
+          exact = λ _. same;
+          full = λ is. absurd (eqb-false before 18446744073709551615 e is);
+          never_back = omega (arith, same);
+          never_more = omega (arith, same);
+        }
 
 -- ---- a desk that is alone
 
-pub seen_same : (old new : DeskState) → KeepsDesk old new → old.alone ≡ true → new.seen ≡ old.seen
+pub seen_same : (old new : DeskState) → KeepsOwnDesk old new → old.alone ≡ true → new.seen ≡ old.seen
 seen_same old new keeps alone =
     keeps.learns.longer ∙ ap (λ (more : List JournalEntry). old.seen ++ more) (keeps.learns.all alone) ∙ append-nil old.seen
 
-pub rows_same : (old new : DeskState) → KeepsDesk old new → old.alone ≡ true → (shard : ℕ) → seen_rows new shard ≡ seen_rows old shard
+pub rows_same : (old new : DeskState) → KeepsOwnDesk old new → old.alone ≡ true → (shard : ℕ) → seen_rows new shard ≡ seen_rows old shard
 rows_same old new keeps alone shard =
     ap (λ (seen : List JournalEntry). shard_rows shard new.config.shards (rows_of (cut_history new.config.bits seen))) (seen_same old new keeps alone)
     ∙ ap (λ config. shard_rows shard config.shards (rows_of (cut_history config.bits old.seen))) keeps.config
 
 module _ (old mid : DeskState) (shard : ℕ) (comes : ComesOn old mid) (version : Contents) (pins : PinsShard old mid shard version) (alone : old.alone ≡ true) where
-  keeps : KeepsDesk old mid
+  keeps : KeepsOwnDesk old mid
   keeps = keeps_comes old mid comes
 
   pub version_rows : version.rows ≡ seen_rows old shard
@@ -140,7 +146,8 @@ turn_memory old new shard comes = record {
   };
 }
 
-pub turn_stays : (old new : DeskState) (shard : ℕ) → ComesOn old new → (old.alone ≡ true → is_improvable old shard ≡ false) → TurnsShard old new shard Stays
+pub turn_stays : (old new : DeskState) (shard : ℕ) → ComesOn old new
+    → (old.alone ≡ true → is_improvable old shard ≡ false) → TurnsShard old new shard Stays
 turn_stays old new shard comes none = record {
   keeps = keeps_comes old new comes;
   done = rise_none old.done new.done comes.done;

@@ -34,8 +34,8 @@ wants_in Moved = 0
 wants_in NoMemory = 1
 
 -- with one shard more
-abbrev pub counted : Tended → ShardTurn → Tended
-counted tended turn = record {
+abbrev pub counted_turn : Tended → ShardTurn → Tended
+counted_turn tended turn = record {
   swapped = tended.swapped + swaps_in turn;
   moved = tended.moved + moves_in turn;
   nomem = tended.nomem + wants_in turn;

@@ -7,7 +7,7 @@ use Rattle.shard_tending.specs.Searched.{is_improvable, layout_in, tended_in}
 use Rattle.shard_tending.specs.declared.tended.Tended.{Tended}
 
 -- others may have added entries, and the desk has its number, board, Config and live fronts
-pub record KeepsDesk (old new : DeskState) : Type 0 where
+pub record KeepsOwnDesk (old new : DeskState) : Type 0 where
   pub learns : Learns old new.seen
   pub board : new.board ≡ old.board
   pub who : new.who ≡ old.who
@@ -16,7 +16,7 @@ pub record KeepsDesk (old new : DeskState) : Type 0 where
   pub alone : new.alone ≡ old.alone
 
 -- a count rose by so much, unless it stands at the greatest number, at which it stays
-pub record IsRise (before number after : ℕ) : Type 0 where
+pub record IsCountRise (before number after : ℕ) : Type 0 where
   pub exact : after ≢ 18446744073709551615 → after ≡ before + number
   pub full : before ≡ 18446744073709551615 → after ≡ 18446744073709551615
   pub never_back : before ≤ after
@@ -49,4 +49,5 @@ pub record TendsAlone (old new : DeskState) (tended : Tended) (shards : ℕ) : T
   pub own : (shard : ℕ) → shards ≤ shard → is_among swapped shard ≡ false
   pub layouts : (shard : ℕ) → layout_in new shard ≡ layout_after old swapped shard
   pub improvable : tended.nomem ≡ 0 → swapped ≡ improvable_shards old shards
-  pub each : tended.nomem ≡ 0 → (shard : ℕ) → shard < shards → layout_in new shard ≡ tended_in old shard
+  pub each : tended.nomem ≡ 0 → (shard : ℕ) → shard < shards
+      → layout_in new shard ≡ tended_in old shard

@@ -8,7 +8,7 @@ use Rattle.session_desk.specs.Desks.{DeskState}
 use Rattle.query_opening.specs.Pinning.{IsPinnedShard}
 use Rattle.shard_tending.specs.Outcomes.{moves_in, swaps_in, wants_in}
 use Rattle.shard_tending.specs.Searched.{is_improvable, is_improved, layout_in, tended_in, tended_layout}
-use Rattle.shard_tending.specs.Tending.{IsRise, KeepsDesk}
+use Rattle.shard_tending.specs.Tending.{IsCountRise, KeepsOwnDesk}
 use Rattle.shard_tending.specs.declared.outcome.ShardTurn.{ShardTurn}
 
 -- a shard was pinned at a position between what was seen before and what is seen after
@@ -29,11 +29,12 @@ pub record TurnsAlone (old new : DeskState) (shard : ℕ) (turn : ShardTurn) : T
   pub never : moves_in turn ≡ 0
   pub which : wants_in turn ≡ 0 → (swaps_in turn == 1) ≡ is_improvable old shard
   pub layouts : (other : ℕ) → layout_in new other
-      ≡ (if (other == shard) && (swaps_in turn == 1) then tended_in old shard else layout_in old other)
+      ≡ (if (other == shard) && (swaps_in turn == 1) then tended_in old shard
+      else layout_in old other)
 
 -- the turn of one shard
 pub record TurnsShard (old new : DeskState) (shard : ℕ) (turn : ShardTurn) : Type 0 where
-  pub keeps : KeepsDesk old new
-  pub done : IsRise old.done (swaps_in turn) new.done
-  pub late : IsRise old.late (moves_in turn) new.late
+  pub keeps : KeepsOwnDesk old new
+  pub done : IsCountRise old.done (swaps_in turn) new.done
+  pub late : IsCountRise old.late (moves_in turn) new.late
   pub alone : old.alone ≡ true → TurnsAlone old new shard turn

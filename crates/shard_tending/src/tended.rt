@@ -1,7 +1,7 @@
 //! What a turn did.
 
 ghost use Rattle.std.specs.Prelude.{◌≡◌, ◌+◌, ◌<◌};
-ghost use Rattle.shard_tending.specs.Outcomes.{counted, turns_in};
+ghost use Rattle.shard_tending.specs.Outcomes.{counted_turn, turns_in};
 
 use crate::outcome::ShardTurn;
 
@@ -17,7 +17,7 @@ impl Tended {
     // With one shard more.
     pub(crate) fn with(self, turn: ShardTurn) -> Tended
         requires { turns_in self + 1 < 4294967296 }
-        ensures { result ≡ counted self turn }
+        ensures { result ≡ counted_turn self turn }
     {
         match turn {
             ShardTurn::Stays => self,

@@ -4,7 +4,7 @@ ghost use Rattle.std.specs.Prelude.{◌≡◌, ◌+◌, ◌*◌, ◌≤◌, true
 ghost use Rattle.session_desk.specs.Calls.{KeepsKnown};
 ghost use Rattle.session_desk.specs.Desks.{IsDesk};
 ghost use Rattle.shard_tending.specs.Outcomes.{turns_in};
-ghost use Rattle.shard_tending.specs.Tending.{IsRise, KeepsDesk, TendsAlone};
+ghost use Rattle.shard_tending.specs.Tending.{IsCountRise, KeepsOwnDesk, TendsAlone};
 
 use crate::tended::Tended;
 use crate::turning::tend_shard;
@@ -23,13 +23,13 @@ pub fn tend<const W: usize, D: Desk<W>, M>(
     upkeep: &mut Steps<M>,
 ) -> Tended
     // The desk stays as it was, but for what it saw of others, its shards and its counts of swaps.
-    ensures keeps { KeepsDesk (D.desk desk.old) (D.desk desk.new) }
+    ensures keeps { KeepsOwnDesk (D.desk desk.old) (D.desk desk.new) }
     ensures known { KeepsKnown (D.desk desk.new) (D.knows desk.old) (D.knows desk.new) }
     ensures desk { IsDesk W (D.desk desk.new) }
     // The counts.
     ensures few { turns_in result ≤ (D.desk desk.old).config.shards }
-    ensures swapped { IsRise (D.desk desk.old).done result.swapped (D.desk desk.new).done }
-    ensures moved { IsRise (D.desk desk.old).late result.moved (D.desk desk.new).late }
+    ensures swapped { IsCountRise (D.desk desk.old).done result.swapped (D.desk desk.new).done }
+    ensures moved { IsCountRise (D.desk desk.old).late result.moved (D.desk desk.new).late }
     // The layouts over a desk that is alone.
     ensures alone { (D.desk desk.old).alone ≡ true →
         TendsAlone (D.desk desk.old) (D.desk desk.new) result (D.desk desk.old).config.shards }

@@ -1,7 +1,7 @@
 use Rattle.std.proofs.Common.{ℕ, ◌+◌, ◌∷◌, length, List, map, string_bytes, option_copied, sym, ap, arith}
 use Rattle.std.proofs.lemmas.Result.{err_from_is_err_and}
 use Rattle.command_line.specs.WrittenOptions.{in_one_word, in_two_words}
-use Rattle.command_line.specs.Kept.{kept_of}
+use Rattle.command_line.specs.ReadWords.{settings_kept}
 use Rattle.command_line.proofs.GivenLemmas.{after_one, after_two, fault_one, fault_two, are_entries}
 use Rattle.command_line.proofs.command_words.read_given.Goals as goal
 
@@ -39,7 +39,7 @@ returns-in_err-given-clause-value c =
     let first = rw c.in-Some-default.is-0 at c.next_word.ensures.next in
     let parts : List ℕ × List ℕ = (c.in-Some.name.now, c.in-Some.value.now) in
     let p = err_from_is_err_and c.from_residual.result c.from_residual.ensures.1 in
-    rw (p.1, p.2) (ap kept_of (fault_one c.args.command held.0 _ c.loop-word.place c.in-Some-default.word.now
+    rw (p.1, p.2) (ap settings_kept (fault_one c.args.command held.0 _ c.loop-word.place c.in-Some-default.word.now
     (map string_bytes c.loop-word.rest.now) parts _ first
     (sym c.in-Some.ensures) (c.in_err-given.ensures.value held.0 held.1) held.2))
 
@@ -50,7 +50,7 @@ returns-in_err-given-2-clause-value c =
     let none = rw c.in_default-parted.is at c.parted.ensures in
     let value = option_copied c.next_word-in-Some-default.result.0 in
     let p = err_from_is_err_and c.from_residual-in_err-given-2.result c.from_residual-in_err-given-2.ensures.1 in
-    rw (p.1, p.2) (ap kept_of (fault_two c.args.command held.0 _ c.loop-word.place c.in-Some-default.word.now
+    rw (p.1, p.2) (ap settings_kept (fault_two c.args.command held.0 _ c.loop-word.place c.in-Some-default.word.now
     (map string_bytes c.loop-word.rest.now)
     (map string_bytes c.next_word.result.1.now) value _ first c.next_word.ensures.after
     c.next_word-in-Some-default.ensures.next (sym none) (c.in_err-given-2.ensures.value held.0 held.1) held.2))

@@ -3,7 +3,7 @@ use Rattle.std.proofs.Common.{◌≡◌, ◌+◌, ◌*◌, ◌≤◌, length, re
 use Rattle.query_opening.proofs.PinLemmas.{learns_length, none_came}
 use Rattle.session_desk.specs.Desks.{DeskState}
 use Rattle.shard_tending.specs.Outcomes.{moves_in, swaps_in, turns_in}
-use Rattle.shard_tending.specs.Tending.{IsRise, TendsAlone}
+use Rattle.shard_tending.specs.Tending.{IsCountRise, TendsAlone}
 use Rattle.shard_tending.proofs.TurnLemmas.{keeps_both, keeps_comes, rise_none}
 use Rattle.shard_tending.proofs.TendLemmas.{begins_alone, bound_more, counted_few, keeps_known, rise_both, turns_alone_more}
 use Rattle.shard_tending.proofs.tending.tend.Goals as goal
@@ -20,7 +20,8 @@ loop-shard-init g c = record {
 }
 
 pub tend_shard-requires : goal.tend_shard-requires
-tend_shard-requires g c = omega (arith, c.shards-shards.ensures.shards, c.loop-shard-test.true, ap (λ config. config.shards) c.loop-shard.invariant.keeps.config)
+tend_shard-requires g c =
+    omega (arith, c.shards-shards.ensures.shards, c.loop-shard-test.true, ap (λ config. config.shards) c.loop-shard.invariant.keeps.config)
 
 pub loop-shard-preserved : goal.loop-shard-preserved
 loop-shard-preserved g c =
@@ -35,9 +36,9 @@ loop-shard-preserved g c =
           so_far.keeps turns.keeps so_far.known c.tend_shard.ensures.known;
       few = subst (λ tended. turns_in tended ≤ c.loop-shard.shard + 1) (sym c.with-tended.ensures)
           (counted_few c.loop-shard.tended c.tend_shard.result c.loop-shard.shard so_far.few);
-      swapped = subst (λ tended. IsRise old.done tended.swapped new.done) (sym c.with-tended.ensures)
+      swapped = subst (λ tended. IsCountRise old.done tended.swapped new.done) (sym c.with-tended.ensures)
           (rise_both old.done c.loop-shard.tended.swapped now.done (swaps_in c.tend_shard.result) new.done so_far.swapped turns.done);
-      moved = subst (λ tended. IsRise old.late tended.moved new.late) (sym c.with-tended.ensures)
+      moved = subst (λ tended. IsCountRise old.late tended.moved new.late) (sym c.with-tended.ensures)
           (rise_both old.late c.loop-shard.tended.moved now.late (moves_in c.tend_shard.result) new.late so_far.moved turns.late);
       alone = λ alone. subst (λ tended. TendsAlone old new tended (c.loop-shard.shard + 1)) (sym c.with-tended.ensures)
           (turns_alone_more c.rounds_never_cost_more.ensures.cheaper old now new c.loop-shard.tended c.loop-shard.shard (so_far.alone alone) so_far.keeps alone
