@@ -3,7 +3,7 @@ use Rattle.std.proofs.Common.{◌≡◌, ℕ, zero, suc, ◌+◌, ◌-◌, ◌�
 use Rattle.command_line.specs.CommandOptions.{option_of, is_value}
 use Rattle.command_line.specs.CommandWords.{asked_after, options_asked, or_fault}
 use Rattle.command_line.specs.WrittenOptions.{Written, parted, in_one_word, in_two_words, written_options, given, value_fault, option_fault, fault_of_option, fault_or, first_fault, IsNoneBut}
-use Rattle.command_line.specs.Kept.{next_in, after_next}
+use Rattle.command_line.specs.ReadWords.{next_in, after_next}
 use Rattle.command_line.specs.declared.command_option.CommandOption.{CommandOption}
 use Rattle.command_line.proofs.GivenLemmas.{written_one, written_two}
 use Rattle.command_line.specs.declared.command.CommandWord.{CommandWord}

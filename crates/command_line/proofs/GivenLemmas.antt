@@ -3,15 +3,16 @@ use Rattle.std.proofs.Common.{◌≡◌, ℕ, ◌+◌, Bool, true, false, cond, 
 use Rattle.std.proofs.lemmas.Bool.{cond-true, cond-false}
 use Rattle.std.specs.Option.{option_map, option_and_then}
 use Rattle.std.specs.Str.{bytes_eq}
-use Rattle.command_line.specs.declared.command.Command.{Command}
 use Rattle.command_line.specs.CommandOptions.{name_of, option_named, option_of, has_option, if_allowed, number, is_value}
-use Rattle.command_line.specs.CommandWords.{or_fault, asked_after}
+use Rattle.command_line.specs.CommandWords.{or_fault}
+use Rattle.command_line.specs.ListenWords.{settings_after}
 use Rattle.command_line.specs.WrittenOptions.{Written, parted, in_one_word, in_two_words, written_options, given, value_fault, option_fault, fault_of_option, first_written, others_written}
-use Rattle.command_line.specs.Kept.{given_option, entry_at, put, options_kept, kept_after, present, size, IsNumberOf, IsEntryOf, AreEntries, next_in, after_next}
+use Rattle.command_line.specs.Kept.{given_option, entry_at, put, options_kept, kept_after, present, size, IsNumberOf, IsEntryOf, AreEntries}
+use Rattle.command_line.specs.ReadWords.{next_in, after_next}
 use Rattle.command_line.proofs.WordLemmas.{from_first}
 use Rattle.command_line.proofs.OptionLemmas.{named_name, number_range}
 use Rattle.command_line.specs.declared.command_option.CommandOption.{CommandOption}
-use Rattle.command_line.specs.declared.command_option.CommandOption.TheVariants.{Bits, Parts, Shards, Room, Entries, Input, Number, Codes}
+use Rattle.command_line.specs.declared.command_option.CommandOption.TheVariants.{Bits, Parts, Shards, Room, Entries, Input, Number, Codes, Port, Sessions}
 use Rattle.command_line.specs.declared.given.GivenNumber.{GivenNumber}
 use Rattle.command_line.specs.declared.given.Given.{Given}
 use Rattle.command_line.specs.declared.command.CommandWord.{CommandWord}
@@ -20,14 +21,26 @@ use Rattle.command_line.specs.declared.command.CommandWord.{CommandWord}
 put_named : (before : List Written) (one : Written) (option : CommandOption)
     → ((other : CommandOption) → bytes_eq one.name (name_of other) ≡ bytes_eq (name_of option) (name_of other))
     → put option (given_option option one) (options_kept before) ≡ options_kept (one ∷ before)
-put_named before one Bits same = rw (same Bits, same Parts, same Shards, same Room, same Entries, same Input, same Number, same Codes)
-put_named before one Parts same = rw (same Bits, same Parts, same Shards, same Room, same Entries, same Input, same Number, same Codes)
-put_named before one Shards same = rw (same Bits, same Parts, same Shards, same Room, same Entries, same Input, same Number, same Codes)
-put_named before one Room same = rw (same Bits, same Parts, same Shards, same Room, same Entries, same Input, same Number, same Codes)
-put_named before one Entries same = rw (same Bits, same Parts, same Shards, same Room, same Entries, same Input, same Number, same Codes)
-put_named before one Number same = rw (same Bits, same Parts, same Shards, same Room, same Entries, same Input, same Number, same Codes)
-put_named before one Codes same = rw (same Bits, same Parts, same Shards, same Room, same Entries, same Input, same Number, same Codes)
-put_named before one Input same = rw (same Bits, same Parts, same Shards, same Room, same Entries, same Input, same Number, same Codes)
+put_named before one Bits same =
+    rw (same Bits, same Parts, same Shards, same Room, same Entries, same Input, same Number, same Codes, same Port, same Sessions)
+put_named before one Parts same =
+    rw (same Bits, same Parts, same Shards, same Room, same Entries, same Input, same Number, same Codes, same Port, same Sessions)
+put_named before one Shards same =
+    rw (same Bits, same Parts, same Shards, same Room, same Entries, same Input, same Number, same Codes, same Port, same Sessions)
+put_named before one Room same =
+    rw (same Bits, same Parts, same Shards, same Room, same Entries, same Input, same Number, same Codes, same Port, same Sessions)
+put_named before one Entries same =
+    rw (same Bits, same Parts, same Shards, same Room, same Entries, same Input, same Number, same Codes, same Port, same Sessions)
+put_named before one Number same =
+    rw (same Bits, same Parts, same Shards, same Room, same Entries, same Input, same Number, same Codes, same Port, same Sessions)
+put_named before one Codes same =
+    rw (same Bits, same Parts, same Shards, same Room, same Entries, same Input, same Number, same Codes, same Port, same Sessions)
+put_named before one Port same =
+    rw (same Bits, same Parts, same Shards, same Room, same Entries, same Input, same Number, same Codes, same Port, same Sessions)
+put_named before one Sessions same =
+    rw (same Bits, same Parts, same Shards, same Room, same Entries, same Input, same Number, same Codes, same Port, same Sessions)
+put_named before one Input same =
+    rw (same Bits, same Parts, same Shards, same Room, same Entries, same Input, same Number, same Codes, same Port, same Sessions)
 
 -- an option that may stand after a command is the one that was named
 allowed_is : (allowed : Bool) (found option : CommandOption) → ◌≡◌ {A = Option CommandOption} (cond allowed (Some found) None) (Some option) → found ≡ option
@@ -61,6 +74,8 @@ at_some before Entries = kept_some Entries (given Entries before)
 at_some before Input = kept_some Input (given Input before)
 at_some before Number = kept_some Number (given Number before)
 at_some before Codes = kept_some Codes (given Codes before)
+at_some before Port = kept_some Port (given Port before)
+at_some before Sessions = kept_some Sessions (given Sessions before)
 
 -- an option of a command has the name
 pub of_named : (command : CommandWord) (name : List ℕ) (option : CommandOption) → option_of command name ≡ Some option → option_named name ≡ Some option
@@ -170,18 +185,18 @@ written_two place word (next ∷ texts) has =
     ∷ others_written found (written_options (place + 1) (next ∷ texts)) (written_options (place + 2) texts)) has
 
 -- the fault of the next option is the first one
-pub step_fault : (command : CommandWord) (end : ℕ) (before : List Written) (one : Written) (others : List Written) (place : ℕ)
+pub step_fault : (command : CommandWord) (before : List Written) (one : Written) (others : List Written) (place : ℕ)
     → Err place ≡ kept_after command before one
-    → asked_after command end before (one ∷ others) ≡ Err place
-step_fault command end before one others place is = fault_first (fault_of_option command before one) place (options_kept (one ∷ before))
-    (asked_after command end (one ∷ before) others) is
+    → settings_after command before (one ∷ others) ≡ Err place
+step_fault command before one others place is = fault_first (fault_of_option command before one) place (options_kept (one ∷ before))
+    (settings_after command (one ∷ before) others) is
 
 -- the next option without a fault
-pub step_on : (command : CommandWord) (end : ℕ) (before : List Written) (one : Written) (others : List Written) (given : Given)
+pub step_on : (command : CommandWord) (before : List Written) (one : Written) (others : List Written) (given : Given)
     → Ok given ≡ kept_after command before one
-    → (given ≡ options_kept (one ∷ before)) × (asked_after command end before (one ∷ others) ≡ asked_after command end (one ∷ before) others)
-step_on command end before one others given is = stands_alone (fault_of_option command before one) given (options_kept (one ∷ before))
-    (asked_after command end (one ∷ before) others) is
+    → (given ≡ options_kept (one ∷ before)) × (settings_after command before (one ∷ others) ≡ settings_after command (one ∷ before) others)
+step_on command before one others given is = stands_alone (fault_of_option command before one) given (options_kept (one ∷ before))
+    (settings_after command (one ∷ before) others) is
 
 -- the number of a value is one of its option
 value_has : (option : CommandOption) (value : Option (List ℕ)) → IfSome (option_and_then (number option) value) (IsNumberOf option)
@@ -203,6 +218,8 @@ entry_has before Entries = kept_has Entries (given Entries before)
 entry_has before Input = kept_has Input (given Input before)
 entry_has before Number = kept_has Number (given Number before)
 entry_has before Codes = kept_has Codes (given Codes before)
+entry_has before Port = kept_has Port (given Port before)
+entry_has before Sessions = kept_has Sessions (given Sessions before)
 
 -- what is kept are entries of their options
 kept_entries : (before : List Written) → AreEntries (options_kept before)
@@ -223,7 +240,7 @@ absent_none None absent = refl
 absent_none (Some entry) absent = cc
 
 -- no more options are given than there are
-pub size_few : (given : Given) → size given ≤ 8
+pub size_few : (given : Given) → size given ≤ 10
 size_few given =
     omega (
       arith,
@@ -235,6 +252,8 @@ size_few given =
       present_few given.input,
       present_few given.number,
       present_few given.codes,
+      present_few given.port,
+      present_few given.sessions,
     )
 
 -- a new option counts for one
@@ -248,76 +267,78 @@ size_more Entries entry given absent = omega (arith, absent_none given.entries a
 size_more Input entry given absent = omega (arith, absent_none given.input absent)
 size_more Number entry given absent = omega (arith, absent_none given.number absent)
 size_more Codes entry given absent = omega (arith, absent_none given.codes absent)
+size_more Port entry given absent = omega (arith, absent_none given.port absent)
+size_more Sessions entry given absent = omega (arith, absent_none given.sessions absent)
 
 -- the words from the first one on write the same
-opened : (command : CommandWord) (end : ℕ) (before : List Written) (place : ℕ) (word : List ℕ) (texts : List (List ℕ)) (whole : Result Command ℕ)
+opened : (command : CommandWord) (before : List Written) (place : ℕ) (word : List ℕ) (texts : List (List ℕ)) (whole : Result (List Written) ℕ)
     → Some word ≡ next_in texts
-    → asked_after command end before (written_options place texts) ≡ whole
-    → asked_after command end before (written_options place (word ∷ after_next texts)) ≡ whole
-opened command end before place word texts whole first same =
-    subst (λ (words : List (List ℕ)). asked_after command end before (written_options place words) ≡ whole) (from_first texts word first) same
+    → settings_after command before (written_options place texts) ≡ whole
+    → settings_after command before (written_options place (word ∷ after_next texts)) ≡ whole
+opened command before place word texts whole first same =
+    subst (λ (words : List (List ℕ)). settings_after command before (written_options place words) ≡ whole) (from_first texts word first) same
 
 -- where the words stand after an option in one word
-pub after_one : (command : CommandWord) (end : ℕ) (before : List Written) (given : Given) (place : ℕ) (word : List ℕ) (texts rest : List (List ℕ))
+pub after_one : (command : CommandWord) (before : List Written) (given : Given) (place : ℕ) (word : List ℕ) (texts rest : List (List ℕ))
     (parts : List ℕ × List ℕ)
-    (whole : Result Command ℕ) → Some word ≡ next_in texts → rest ≡ after_next texts → parted word ≡ Some parts
-    → Ok given ≡ kept_after command before (in_one_word place parts) → asked_after command end before (written_options place texts) ≡ whole
+    (whole : Result (List Written) ℕ) → Some word ≡ next_in texts → rest ≡ after_next texts → parted word ≡ Some parts
+    → Ok given ≡ kept_after command before (in_one_word place parts) → settings_after command before (written_options place texts) ≡ whole
     → (given ≡ options_kept (in_one_word place parts ∷ before)) ×
-    (asked_after command end (in_one_word place parts ∷ before) (written_options (place + 1) rest) ≡ whole)
-after_one command end before values place word texts rest parts whole first left has is same =
+    (settings_after command (in_one_word place parts ∷ before) (written_options (place + 1) rest) ≡ whole)
+after_one command before values place word texts rest parts whole first left has is same =
     let one = in_one_word place parts in
-    let on = step_on command end before one (written_options (place + 1) (after_next texts)) values is in
-    let known = opened command end before place word texts whole first same in
-    let split = ap (λ (settings : List Written). asked_after command end before settings) (written_one place word (after_next texts) parts has) in (
+    let on = step_on command before one (written_options (place + 1) (after_next texts)) values is in
+    let known = opened command before place word texts whole first same in
+    let split = ap (λ (settings : List Written). settings_after command before settings) (written_one place word (after_next texts) parts has) in (
       on.0,
-      subst (λ (words : List (List ℕ)). asked_after command end (one ∷ before) (written_options (place + 1) words) ≡ whole) (sym left)
+      subst (λ (words : List (List ℕ)). settings_after command (one ∷ before) (written_options (place + 1) words) ≡ whole) (sym left)
           (sym on.1 ∙ sym split ∙ known),
     )
 
 -- the fault of an option in one word
-pub fault_one : (command : CommandWord) (end : ℕ) (before : List Written) (fault place : ℕ) (word : List ℕ) (texts : List (List ℕ)) (parts : List ℕ × List ℕ)
-    (whole : Result Command ℕ) → Some word ≡ next_in texts → parted word ≡ Some parts
-    → Err fault ≡ kept_after command before (in_one_word place parts) → asked_after command end before (written_options place texts) ≡ whole → Err fault ≡ whole
-fault_one command end before fault place word texts parts whole first has is same =
-    let known = opened command end before place word texts whole first same in
-    let split = ap (λ (settings : List Written). asked_after command end before settings) (written_one place word (after_next texts) parts has) in
-    sym (step_fault command end before (in_one_word place parts) (written_options (place + 1) (after_next texts)) fault is) ∙ sym split ∙ known
+pub fault_one : (command : CommandWord) (before : List Written) (fault place : ℕ) (word : List ℕ) (texts : List (List ℕ)) (parts : List ℕ × List ℕ)
+    (whole : Result (List Written) ℕ) → Some word ≡ next_in texts → parted word ≡ Some parts
+    → Err fault ≡ kept_after command before (in_one_word place parts) → settings_after command before (written_options place texts) ≡ whole → Err fault ≡ whole
+fault_one command before fault place word texts parts whole first has is same =
+    let known = opened command before place word texts whole first same in
+    let split = ap (λ (settings : List Written). settings_after command before settings) (written_one place word (after_next texts) parts has) in
+    sym (step_fault command before (in_one_word place parts) (written_options (place + 1) (after_next texts)) fault is) ∙ sym split ∙ known
 
 -- an option in two words before the others
-two_split : (command : CommandWord) (end : ℕ) (before : List Written) (place : ℕ) (word : List ℕ) (texts rest later : List (List ℕ)) (value : Option (List ℕ))
+two_split : (command : CommandWord) (before : List Written) (place : ℕ) (word : List ℕ) (texts rest later : List (List ℕ)) (value : Option (List ℕ))
     → rest ≡ after_next texts → value ≡ next_in rest → later ≡ after_next rest → parted word ≡ None
-    → asked_after command end before (written_options place (word ∷ after_next texts))
-    ≡ asked_after command end before (in_two_words place word value ∷ written_options (place + 2) later)
-two_split command end before place word texts rest later value left next last has =
+    → settings_after command before (written_options place (word ∷ after_next texts))
+    ≡ settings_after command before (in_two_words place word value ∷ written_options (place + 2) later)
+two_split command before place word texts rest later value left next last has =
     let Others : List (List ℕ) → List Written =
     λ (rest : List (List ℕ)). in_two_words place word (next_in rest) ∷ written_options (place + 2) (after_next rest) in
     let split : written_options place (word ∷ after_next texts) ≡ Others rest = written_two place word (after_next texts) has ∙ sym (ap Others left) in
     let named : Others rest ≡ in_two_words place word value ∷ written_options (place + 2) later =
     ap (λ (found : Option (List ℕ)). in_two_words place word found ∷ written_options (place + 2) (after_next rest)) (sym next)
     ∙ ap (λ (words : List (List ℕ)). in_two_words place word value ∷ written_options (place + 2) words) (sym last) in
-    ap (λ (settings : List Written). asked_after command end before settings) (split ∙ named)
+    ap (λ (settings : List Written). settings_after command before settings) (split ∙ named)
 
 -- where the words stand after an option in two words
-pub after_two : (command : CommandWord) (end : ℕ) (before : List Written) (given : Given) (place : ℕ) (word : List ℕ)
+pub after_two : (command : CommandWord) (before : List Written) (given : Given) (place : ℕ) (word : List ℕ)
     (texts rest later : List (List ℕ)) (value : Option (List ℕ))
-    (whole : Result Command ℕ) → Some word ≡ next_in texts → rest ≡ after_next texts → value ≡ next_in rest → later ≡ after_next rest
+    (whole : Result (List Written) ℕ) → Some word ≡ next_in texts → rest ≡ after_next texts → value ≡ next_in rest → later ≡ after_next rest
     → parted word ≡ None → Ok given ≡ kept_after command before (in_two_words place word value)
-    → asked_after command end before (written_options place texts) ≡ whole
+    → settings_after command before (written_options place texts) ≡ whole
     → (given ≡ options_kept (in_two_words place word value ∷ before))
-    × (asked_after command end (in_two_words place word value ∷ before) (written_options (place + 2) later) ≡ whole)
-after_two command end before values place word texts rest later value whole first left next last has is same =
+    × (settings_after command (in_two_words place word value ∷ before) (written_options (place + 2) later) ≡ whole)
+after_two command before values place word texts rest later value whole first left next last has is same =
     let one = in_two_words place word value in
-    let on = step_on command end before one (written_options (place + 2) later) values is in
-    let known = opened command end before place word texts whole first same in
-    (on.0, sym on.1 ∙ sym (two_split command end before place word texts rest later value left next last has) ∙ known)
+    let on = step_on command before one (written_options (place + 2) later) values is in
+    let known = opened command before place word texts whole first same in
+    (on.0, sym on.1 ∙ sym (two_split command before place word texts rest later value left next last has) ∙ known)
 
 -- the fault of an option in two words
-pub fault_two : (command : CommandWord) (end : ℕ) (before : List Written) (fault place : ℕ) (word : List ℕ) (texts rest : List (List ℕ))
+pub fault_two : (command : CommandWord) (before : List Written) (fault place : ℕ) (word : List ℕ) (texts rest : List (List ℕ))
     (value : Option (List ℕ))
-    (whole : Result Command ℕ) → Some word ≡ next_in texts → rest ≡ after_next texts → value ≡ next_in rest
+    (whole : Result (List Written) ℕ) → Some word ≡ next_in texts → rest ≡ after_next texts → value ≡ next_in rest
     → parted word ≡ None → Err fault ≡ kept_after command before (in_two_words place word value)
-    → asked_after command end before (written_options place texts) ≡ whole → Err fault ≡ whole
-fault_two command end before fault place word texts rest value whole first left next has is same =
-    let known = opened command end before place word texts whole first same in
-    sym (step_fault command end before (in_two_words place word value) (written_options (place + 2) (after_next rest)) fault is)
-    ∙ sym (two_split command end before place word texts rest (after_next rest) value left next refl has) ∙ known
+    → settings_after command before (written_options place texts) ≡ whole → Err fault ≡ whole
+fault_two command before fault place word texts rest value whole first left next has is same =
+    let known = opened command before place word texts whole first same in
+    sym (step_fault command before (in_two_words place word value) (written_options (place + 2) (after_next rest)) fault is)
+    ∙ sym (two_split command before place word texts rest (after_next rest) value left next refl has) ∙ known

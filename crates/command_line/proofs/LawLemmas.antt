@@ -18,7 +18,7 @@ use Rattle.command_line.specs.declared.command_option.CommandOption.TheVariants.
 use Rattle.command_line.specs.declared.command.Command.{Command}
 use Rattle.command_line.specs.declared.command.Command.TheVariants as ask
 use Rattle.command_line.specs.declared.command.CommandWord.{CommandWord}
-use Rattle.command_line.specs.declared.command.CommandWord.TheVariants.{Run, Load}
+use Rattle.command_line.specs.declared.command.CommandWord.TheVariants.{Run, Load, Listen}
 
 -- an option without its places
 abbrev Bare : Type 0
@@ -94,6 +94,7 @@ abbrev bare_with : CommandWord → List Bare → Config → Option Command
 bare_with Run before config = Some (ask.Run config)
 bare_with Load before config =
     bare_load (config_of_load config) (bare_required Number (bare_given Number before)) (bare_required Codes (bare_given Codes before))
+bare_with Listen before config = None
 
 -- what a command asks for, where the numbers of a session can be had
 abbrev bare_command : CommandWord → List Bare → Option Config → Option Command
@@ -239,6 +240,7 @@ load_bare config (Ok number) (Ok codes) = refl
 with_bare : (command : CommandWord) (end : ℕ) (before : List Written) (config : Config)
     → result_ok (with_config command end before config) ≡ bare_with command (map bare before) config
 with_bare Run end before config = refl
+with_bare Listen end before config = refl
 with_bare Load end before config =
     load_bare (config_of_load config) (required Number end before) (required Codes end before)
     ∙ ap (λ (number : Option ℕ). bare_load (config_of_load config) number (result_ok (required Codes end before))) (required_bare Number end before)
@@ -301,6 +303,7 @@ found_same before other same =
 with_same : (command : CommandWord) (before other : List Bare) (config : Config) → GivesSame before other
     → bare_with command before config ≡ bare_with command other config
 with_same Run before other config same = refl
+with_same Listen before other config same = refl
 with_same Load before other config same =
     ap (λ (found : Option (Option (List ℕ))). bare_load (config_of_load config) (bare_required Number found) (bare_required Codes (bare_given Codes before)))
     (same Number)

@@ -4,3 +4,4 @@ pub mod GivenLemmas
 pub mod ConfigLemmas
 pub mod LawLemmas
 pub mod FirstLemmas
+pub mod ListenLemmas

@@ -9,7 +9,7 @@ use Rattle.line_forms.specs.Forms.{is_decimal, number_of}
 use Rattle.command_line.specs.CommandOptions.{name_of, option_named, number, multiple_of_8, least, greatest}
 use Rattle.command_line.specs.Kept.{IsNumberOf}
 use Rattle.command_line.specs.declared.command_option.CommandOption.{CommandOption}
-use Rattle.command_line.specs.declared.command_option.CommandOption.TheVariants.{Bits, Parts, Shards, Room, Entries, Input, Number, Codes}
+use Rattle.command_line.specs.declared.command_option.CommandOption.TheVariants.{Bits, Parts, Shards, Room, Entries, Input, Number, Codes, Port, Sessions}
 
 -- the option that is found is the first, or one of the others, and passes its test
 found_passes : (first : Bool) (one : CommandOption) (others : Option CommandOption) (option : CommandOption) (test : CommandOption → Bool)
@@ -29,7 +29,9 @@ named_name name option named =
     (found_passes (test Entries) Entries _ option test refl
     (found_passes (test Input) Input _ option test refl
     (found_passes (test Number) Number _ option test refl
-    (found_passes (test Codes) Codes None option test refl (λ none. cc)))))))) named in
+    (found_passes (test Codes) Codes _ option test refl
+    (found_passes (test Port) Port _ option test refl
+    (found_passes (test Sessions) Sessions None option test refl (λ none. cc)))))))))) named in
     (bytes_eq-Decides name (name_of option)).0 passed
 
 -- a number that passes the tests of its range lies in it
@@ -66,3 +68,5 @@ number_range Entries value = number_of_range 20 1 1048576 value
 number_range Input value = number_of_range 20 1 4294967296 value
 number_range Number value = number_of_range 20 0 18446744073709551615 value
 number_range Codes value = number_of_range 20 0 1048576 value
+number_range Port value = number_of_range 20 1 65535 value
+number_range Sessions value = number_of_range 20 1 65536 value

@@ -4,7 +4,7 @@ use Rattle.std.specs.List.{position}
 use Rattle.std.specs.Option.{option_map}
 use Rattle.std.proofs.lemmas.List.{take_rest}
 use Rattle.command_line.specs.WrittenOptions.{parted}
-use Rattle.command_line.specs.Kept.{next_in, after_next}
+use Rattle.command_line.specs.ReadWords.{next_in, after_next}
 
 -- the parts of a word around its first `=`
 pub parted_at : (word : List ℕ) (equals : ℕ) → Some equals ≡ position (λ byte. byte == 61) word

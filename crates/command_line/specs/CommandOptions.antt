@@ -6,14 +6,15 @@ use Rattle.std.specs.Str.{bytes_eq}
 use Rattle.hamming_model.specs.declared.limits.TheConstants.{BITS_MOST, PARTS_MOST, SHARDS_MOST}
 use Rattle.hamming_model.specs.declared.limits.TheConstants.{ROOM_MOST, ENTRIES_MOST}
 use Rattle.part_layout.specs.declared.config.TheConstants.{INPUT_MOST}
+use Rattle.command_line.specs.declared.command_option.TheConstants.{PORT_MOST, SESSIONS_MOST}
 use Rattle.line_forms.specs.Forms.{is_decimal, number_of}
 use Rattle.command_line.specs.declared.command_option.CommandOption.{CommandOption}
 use Rattle.command_line.specs.declared.command_option.CommandOption.TheVariants.{Bits, Parts}
 use Rattle.command_line.specs.declared.command_option.CommandOption.TheVariants.{Shards, Room}
 use Rattle.command_line.specs.declared.command_option.CommandOption.TheVariants.{Entries, Input}
-use Rattle.command_line.specs.declared.command_option.CommandOption.TheVariants.{Number, Codes}
+use Rattle.command_line.specs.declared.command_option.CommandOption.TheVariants.{Number, Codes, Port, Sessions}
 use Rattle.command_line.specs.declared.command.CommandWord.{CommandWord}
-use Rattle.command_line.specs.declared.command.CommandWord.TheVariants.{Run, Load}
+use Rattle.command_line.specs.declared.command.CommandWord.TheVariants.{Run, Load, Listen}
 
 -- the name of an option
 abbrev pub name_of : CommandOption → List ℕ
@@ -25,6 +26,8 @@ name_of Entries = codes "--entries"
 name_of Input = codes "--input"
 name_of Number = codes "--number"
 name_of Codes = codes "--codes"
+name_of Port = codes "--port"
+name_of Sessions = codes "--sessions"
 
 -- the least number that an option may be given
 abbrev pub least : CommandOption → ℕ
@@ -36,6 +39,8 @@ least Entries = 1
 least Input = 1
 least Number = 0
 least Codes = 0
+least Port = 1
+least Sessions = 1
 
 -- the greatest number that an option may be given
 abbrev pub greatest : CommandOption → ℕ
@@ -47,6 +52,8 @@ greatest Entries = ENTRIES_MOST
 greatest Input = INPUT_MOST
 greatest Number = 2 ^ 64 - 1
 greatest Codes = ENTRIES_MOST
+greatest Port = PORT_MOST
+greatest Sessions = SESSIONS_MOST
 
 -- the option that a name names
 abbrev pub option_named : List ℕ → Option CommandOption
@@ -58,9 +65,11 @@ option_named name =
     if bytes_eq name (name_of Entries) then Some Entries else
     if bytes_eq name (name_of Input) then Some Input else
     if bytes_eq name (name_of Number) then Some Number else
-    if bytes_eq name (name_of Codes) then Some Codes else None
+    if bytes_eq name (name_of Codes) then Some Codes else
+    if bytes_eq name (name_of Port) then Some Port else
+    if bytes_eq name (name_of Sessions) then Some Sessions else None
 
--- the command that a word names
+-- the command that a word names, of those that have no call of their own
 abbrev pub command_named : List ℕ → Option CommandWord
 command_named word =
     if bytes_eq word (codes "run") then Some Run else
@@ -70,8 +79,14 @@ command_named word =
 abbrev pub has_option : CommandWord → CommandOption → Bool
 has_option Run Number = false
 has_option Run Codes = false
+has_option Run Port = false
+has_option Run Sessions = false
 has_option Load Entries = false
 has_option Load Input = false
+has_option Load Port = false
+has_option Load Sessions = false
+has_option Listen Number = false
+has_option Listen Codes = false
 has_option command option = true
 
 -- an option, where it may stand after a command

@@ -17,7 +17,7 @@ use Rattle.command_line.specs.declared.command_option.CommandOption.TheVariants.
 use Rattle.command_line.specs.declared.command.Command.{Command}
 use Rattle.command_line.specs.declared.command.Command.TheVariants as ask
 use Rattle.command_line.specs.declared.command.CommandWord.{CommandWord}
-use Rattle.command_line.specs.declared.command.CommandWord.TheVariants.{Run, Load}
+use Rattle.command_line.specs.declared.command.CommandWord.TheVariants.{Run, Load, Listen}
 
 -- the number that an option was given
 abbrev pub number_given : CommandOption → Written → Option ℕ
@@ -81,11 +81,13 @@ load_of config (Err place) codes = Err place
 load_of config (Ok number) (Err place) = Err place
 load_of config (Ok number) (Ok codes) = Ok (ask.Load config number codes)
 
--- what a command asks for with its options, where the words end before a place
+-- what a command asks for with its options, where the words end before a place; `listen` is asked
+-- of a call of its own, and is an unknown command to this one
 abbrev pub with_config : CommandWord → ℕ → List Written → Config → Result Command ℕ
 with_config Run end settings config = Ok (ask.Run config)
 with_config Load end settings config =
     load_of (config_of_load config) (required Number end settings) (required Codes end settings)
+with_config Listen end settings config = Err 1
 
 -- the same, where the numbers of a session are judged first
 abbrev pub command_of : CommandWord → ℕ → List Written → Result Command ℕ

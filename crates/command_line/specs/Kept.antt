@@ -11,7 +11,7 @@ use Rattle.command_line.specs.declared.command_option.CommandOption.{CommandOpti
 use Rattle.command_line.specs.declared.command_option.CommandOption.TheVariants.{Bits, Parts}
 use Rattle.command_line.specs.declared.command_option.CommandOption.TheVariants.{Shards, Room}
 use Rattle.command_line.specs.declared.command_option.CommandOption.TheVariants.{Entries, Input}
-use Rattle.command_line.specs.declared.command_option.CommandOption.TheVariants.{Number, Codes}
+use Rattle.command_line.specs.declared.command_option.CommandOption.TheVariants.{Number, Codes, Port, Sessions}
 use Rattle.command_line.specs.declared.command.CommandWord.{CommandWord}
 use Rattle.command_line.specs.declared.given.GivenNumber.{GivenNumber}
 use Rattle.command_line.specs.declared.given.Given.{Given}
@@ -34,6 +34,8 @@ entry_at Entries given = given.entries
 entry_at Input given = given.input
 entry_at Number given = given.number
 entry_at Codes given = given.codes
+entry_at Port given = given.port
+entry_at Sessions given = given.sessions
 
 -- what is kept once an option is given
 abbrev pub put : CommandOption → GivenNumber → Given → Given
@@ -45,6 +47,8 @@ put Entries entry given = record given { entries = Some entry }
 put Input entry given = record given { input = Some entry }
 put Number entry given = record given { number = Some entry }
 put Codes entry given = record given { codes = Some entry }
+put Port entry given = record given { port = Some entry }
+put Sessions entry given = record given { sessions = Some entry }
 
 -- the number of an entry, or else a default
 abbrev pub entry_number_or : ℕ → Option GivenNumber → ℕ
@@ -70,6 +74,7 @@ abbrev pub size : Given → ℕ
 size given =
     present given.bits + present given.parts + present given.shards + present given.room
     + present given.entries + present given.input + present given.number + present given.codes
+    + present given.port + present given.sessions
 
 -- what is kept of the options
 abbrev pub options_kept : List Written → Given
@@ -82,6 +87,8 @@ options_kept settings = record {
   input = entry_in Input settings;
   number = entry_in Number settings;
   codes = entry_in Codes settings;
+  port = entry_in Port settings;
+  sessions = entry_in Sessions settings;
 }
 
 -- what is kept after one more option, or its fault
@@ -107,13 +114,3 @@ IsEntryOf option entry =
 -- each entry is one of its option
 pub record AreEntries (given : Given) : Type 0 where
   pub each : (option : CommandOption) → IsEntryOf option (entry_at option given)
-
--- the next word, if there is one
-abbrev pub next_in : List (List ℕ) → Option (List ℕ)
-next_in [] = None
-next_in (word ∷ words) = Some word
-
--- the words after the next one
-abbrev pub after_next : List (List ℕ) → List (List ℕ)
-after_next [] = []
-after_next (word ∷ words) = words

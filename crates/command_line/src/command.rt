@@ -28,6 +28,8 @@ pub enum CommandWord {
     Run,
     /// `load`.
     Load,
+    /// `listen`, whose words `listen_words` alone reads.
+    Listen,
 }
 
 impl CommandWord {
@@ -61,8 +63,9 @@ impl CommandWord {
             | CommandOption::Parts
             | CommandOption::Shards
             | CommandOption::Room => true,
-            CommandOption::Entries | CommandOption::Input => matches!(self, CommandWord::Run),
+            CommandOption::Entries | CommandOption::Input => !matches!(self, CommandWord::Load),
             CommandOption::Number | CommandOption::Codes => matches!(self, CommandWord::Load),
+            CommandOption::Port | CommandOption::Sessions => matches!(self, CommandWord::Listen),
         }
     }
 }

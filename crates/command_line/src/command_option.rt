@@ -19,6 +19,12 @@ pub(crate) const SHARDS: u64 = 4;
 /// The hits that may wait in a source where no number is given.
 pub(crate) const ROOM: u64 = 64;
 
+/// The greatest port.
+pub(crate) const PORT_MOST: u64 = 65_535;
+
+/// The most sessions of a `listen`.
+pub(crate) const SESSIONS_MOST: u64 = 65_536;
+
 /// An option that the words may give a value.
 #[derive(Clone, Copy, Debug, PartialEq, Eq)]
 pub enum CommandOption {
@@ -38,6 +44,10 @@ pub enum CommandOption {
     Number,
     /// The codes of a workload.
     Codes,
+    /// The port that sessions come in by.
+    Port,
+    /// How many sessions are served.
+    Sessions,
 }
 
 impl CommandOption {
@@ -69,6 +79,12 @@ impl CommandOption {
         if name == b"--codes".as_slice() {
             return Some(CommandOption::Codes);
         }
+        if name == b"--port".as_slice() {
+            return Some(CommandOption::Port);
+        }
+        if name == b"--sessions".as_slice() {
+            return Some(CommandOption::Sessions);
+        }
         None
     }
 
@@ -85,6 +101,8 @@ impl CommandOption {
             CommandOption::Input => 1,
             CommandOption::Number => 0,
             CommandOption::Codes => 0,
+            CommandOption::Port => 1,
+            CommandOption::Sessions => 1,
         }
     }
 
@@ -101,6 +119,8 @@ impl CommandOption {
             CommandOption::Input => INPUT_MOST,
             CommandOption::Number => u64::MAX,
             CommandOption::Codes => ENTRIES_MOST,
+            CommandOption::Port => PORT_MOST,
+            CommandOption::Sessions => SESSIONS_MOST,
         }
     }
 

@@ -7,7 +7,8 @@ ghost use Rattle.command_line.specs.TraceWords.{trace_asked};
 ghost use Rattle.part_layout.specs.Ranges.{IsConfig};
 ghost use Rattle.command_line.specs.Commands.{IsCommand};
 ghost use Rattle.command_line.specs.WrittenOptions.{parted};
-ghost use Rattle.command_line.specs.Kept.{next_in, after_next};
+ghost use Rattle.command_line.specs.Kept.{AreEntries};
+ghost use Rattle.command_line.specs.ReadWords.{next_in, after_next, given_asked};
 
 use crate::command::{Command, CommandWord};
 use crate::given::Given;
@@ -67,6 +68,15 @@ fn read_options(command: CommandWord, options: &[String]) -> Result<Command, usi
     ensures value { result ≡ options_asked command (map string_bytes options.now) }
     ensures within { IfOk result IsCommand }
 {
+    let given = read_given(command, options)?;
+    given.command(command, options.len() + 2)
+}
+
+// What the words after a command give its options, or the first fault that one of them has by itself.
+pub(crate) fn read_given(command: CommandWord, options: &[String]) -> Result<Given, usize>
+    ensures value { result ≡ given_asked command (map string_bytes options.now) }
+    ensures entries { IfOk result AreEntries }
+{
     let mut given = Given {
         bits: None,
         parts: None,
@@ -76,6 +86,8 @@ fn read_options(command: CommandWord, options: &[String]) -> Result<Command, usi
         input: None,
         number: None,
         codes: None,
+        port: None,
+        sessions: None,
     };
     let mut place = 2;
     let mut rest = options;
@@ -91,7 +103,7 @@ fn read_options(command: CommandWord, options: &[String]) -> Result<Command, usi
         place += 2;
         rest = after;
     }
-    given.command(command, options.len() + 2)
+    Ok(given)
 }
 
 // The name and the value that a word has before and after its first `=`.

@@ -35,6 +35,8 @@ pub(crate) struct Given {
     pub(crate) input: Option<GivenNumber>,
     pub(crate) number: Option<GivenNumber>,
     pub(crate) codes: Option<GivenNumber>,
+    pub(crate) port: Option<GivenNumber>,
+    pub(crate) sessions: Option<GivenNumber>,
 }
 
 impl Given {
@@ -51,7 +53,7 @@ impl Given {
             result ≡ kept_after command before
             (setting name.now place (option_copied value.entry) value_place) }
         ensures more { IfOk result (λ given. size given ≡ size self + 1) }
-        ensures few { IfOk result (λ given. size given ≤ 8) }
+        ensures few { IfOk result (λ given. size given ≤ 10) }
     {
         let Some(option) = command.option(name) else {
             return Err(place);
@@ -89,6 +91,8 @@ impl Given {
             CommandOption::Input => self.input,
             CommandOption::Number => self.number,
             CommandOption::Codes => self.codes,
+            CommandOption::Port => self.port,
+            CommandOption::Sessions => self.sessions,
         }
     }
 
@@ -97,40 +101,20 @@ impl Given {
         ensures { result ≡ put option entry self }
     {
         let entry = Some(entry);
+        let mut given = self;
         match option {
-            CommandOption::Bits => Given {
-                bits: entry,
-                ..self
-            },
-            CommandOption::Parts => Given {
-                parts: entry,
-                ..self
-            },
-            CommandOption::Shards => Given {
-                shards: entry,
-                ..self
-            },
-            CommandOption::Room => Given {
-                room: entry,
-                ..self
-            },
-            CommandOption::Entries => Given {
-                entries: entry,
-                ..self
-            },
-            CommandOption::Input => Given {
-                input: entry,
-                ..self
-            },
-            CommandOption::Number => Given {
-                number: entry,
-                ..self
-            },
-            CommandOption::Codes => Given {
-                codes: entry,
-                ..self
-            },
+            CommandOption::Bits => given.bits = entry,
+            CommandOption::Parts => given.parts = entry,
+            CommandOption::Shards => given.shards = entry,
+            CommandOption::Room => given.room = entry,
+            CommandOption::Entries => given.entries = entry,
+            CommandOption::Input => given.input = entry,
+            CommandOption::Number => given.number = entry,
+            CommandOption::Codes => given.codes = entry,
+            CommandOption::Port => given.port = entry,
+            CommandOption::Sessions => given.sessions = entry,
         }
+        given
     }
 
     // What a command asks for with these options, where none has a fault of its own and the words end before a place.
@@ -157,11 +141,12 @@ impl Given {
                     codes,
                 })
             }
+            CommandWord::Listen => Err(1),
         }
     }
 
     // What the options ask a session to be.
-    fn config(self) -> Result<Config, usize>
+    pub(crate) fn config(self) -> Result<Config, usize>
         requires { AreEntries self }
         ensures value { (settings : List Written) → self ≡ options_kept settings →
             result ≡ config_of settings }
@@ -180,7 +165,7 @@ impl Given {
     }
 
     // The number that a required option was given, or else the place of its word after all others.
-    fn required(self, option: CommandOption, end: usize) -> Result<u64, usize>
+    pub(crate) fn required(self, option: CommandOption, end: usize) -> Result<u64, usize>
         requires { AreEntries self }
         ensures value { result ≡ entry_number_at end (entry_at option self) }
         ensures within { IfOk result (IsNumberOf option) }

@@ -7,6 +7,8 @@ mod faults;
 #[cfg(test)]
 mod lines;
 #[cfg(test)]
+mod listens;
+#[cfg(test)]
 mod loads;
 #[cfg(test)]
 mod protocol;

@@ -1,7 +1,7 @@
 use Rattle.std.proofs.Common.{◌≡◌, ℕ, Option, option_copied, Some, None, sym, ap}
 use Rattle.command_line.specs.WrittenOptions.{setting}
 use Rattle.command_line.specs.declared.given.GivenNumber.{GivenNumber}
-use Rattle.command_line.proofs.GivenLemmas.{kept_with, size_more, repeated, value_at_fault, missing_value, bad_value}
+use Rattle.command_line.proofs.GivenLemmas.{kept_with, size_few, size_more, repeated, value_at_fault, missing_value, bad_value}
 use Rattle.command_line.proofs.given.Given.with.Goals as goal
 
 pub returns-then-is_value-clause-value : goal.returns-then-is_value-clause-value
@@ -34,3 +34,6 @@ returns-else-is_value-clause-value c = λ before same.
     value_at_fault c.args.command before (setting c.args.name.now c.args.place (option_copied c.args.value) c.args.value_place) c.in-Some.option
     c.args.self (sym c.in-Some.ensures) same (cc)
     (bad_value c.in-Some.option c.args.value_place (option_copied c.args.value) c.in-Some-value.value.now stands (cc))
+
+pub returns-then-is_value-clause-few : goal.returns-then-is_value-clause-few
+returns-then-is_value-clause-few c = size_few c.put.result

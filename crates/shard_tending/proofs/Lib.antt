@@ -1,0 +1,4 @@
+pub mod PinnedLemmas
+pub mod SampleLemmas
+pub mod TendLemmas
+pub mod TurnLemmas

@@ -1,0 +1,4 @@
+pub mod Outcomes
+pub mod Searched
+pub mod Tending
+pub mod Turns
