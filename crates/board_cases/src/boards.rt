@@ -47,12 +47,7 @@ fn spelled<R: Abort>(rt: &R, text: &[u8]) -> Code<1>
 }
 
 // Adds a row at a desk.
-fn add_row<R: Abort + Wait + Copy>(
-    rt: &R,
-    desk: &mut SharedDesk<'_, 1, R>,
-    key: u64,
-    code: Code<1>,
-)
+fn add_row<R: Abort + Wait + Copy>(rt: &R, desk: &mut SharedDesk<'_, 1, R>, key: u64, code: Code<1>)
     requires bits { desk.old.config.bits ≡ 8 }
     requires stored { StandsFor 1 8 code (take 8 code) }
     ensures board { desk.new.board ≡ desk.old.board }
