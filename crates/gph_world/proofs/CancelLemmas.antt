@@ -127,7 +127,7 @@ module _ {W : ℕ} (bits room : ℕ) (old new : JournalState) (places : List (Pl
       holds = had.holds;
       limit = had.limit;
     });
-    whole = λ still. absurd (both_ways true refl still);
+    whole = λ still. absurd (both_ways true still refl);
   })
 
   pub cancel_keeps : held.cancelled ≡ false → KeepsWorld bits room new places after
