@@ -1,6 +1,7 @@
 -- A query is cancelled, and its front closed.
 use Rattle.std.proofs.Common.{◌≡◌, inl, inr, ℕ, true, false, List, length, map, Option, Some, None, refl, sym, ap, subst, ◌∙◌}
 use Rattle.std.specs.Prelude.{Ok, slice_get, slice_set}
+use Rattle.std.proofs.lemmas.Bool.{both_ways}
 use Rattle.std.proofs.lemmas.List.{map-set}
 use Rattle.std.proofs.lemmas.Option.{none-some}
 use Rattle.hamming_model.specs.History.{JournalEntry}
@@ -18,7 +19,7 @@ use Rattle.world_model.proofs.Lookups.{get_set}
 use Rattle.world_model.proofs.StepLemmas.{step_sound}
 use Rattle.world_bridge.specs.Held.{HoldsLive}
 use Rattle.world_bridge.proofs.HeldLemmas.{held_closed, held_same}
-use Rattle.world_parts.specs.Cancels.{cancelled, without_held}
+use Rattle.world_parts.specs.Cancels.{IsCancelled, without_held}
 use Rattle.gph_world.specs.Kept.{IsQueryHeld, KeepsWorld, front_at}
 use Rattle.world_parts.specs.Seen.{given_by, query_seen}
 use Rattle.gph_world.specs.Seen.{setting_seen, state_seen}
@@ -55,7 +56,7 @@ module _ (journal : JournalState) where
 
 module _ {W : ℕ} (bits room : ℕ) (old new : JournalState) (places : List (Place W)) (queries : List (Held W))
     (keeps : KeepsWorld bits room old places queries) (number : ℕ) (held : Held W) (there : slice_get queries number ≡ Some held)
-    (journal_is : new ≡ without_held old held.front) (fronts : KeepsFronts old new) where
+    (journal_is : new ≡ without_held old held.front) (fronts : KeepsFronts old new) (gone : Held W) (is_gone : IsCancelled held gone) where
   abbrev z : Setting
   z = setting_seen bits room old places
 
@@ -63,7 +64,7 @@ module _ {W : ℕ} (bits room : ℕ) (old new : JournalState) (places : List (Pl
   s = state_seen bits old places queries
 
   abbrev after : List (Held W)
-  after = slice_set queries number (cancelled held)
+  after = slice_set queries number gone
 
   history_same : new.history ≡ old.history
   history_same = ap (λ (journal : JournalState). journal.history) journal_is ∙ same_history old held.front
@@ -83,31 +84,35 @@ module _ {W : ℕ} (bits room : ℕ) (old new : JournalState) (places : List (Pl
         queries = map (query_seen bits) after;
       } in t) history_same
           ∙ ap (λ (all : List WorldQuery). let t : WorldState = record s { queries = all } in t)
-          (map-set (query_seen bits) queries number (cancelled held));
-      said_is = ap told.Cancelled count_is;
+          (map-set (query_seen bits) queries number gone
+          ∙ ap (λ (one : Held W). slice_set s.queries number (query_seen bits one)) is_gone.rest);
+      said_is = ap told.Cancelled (count_is ∙ ap given_by ((keeps.held number held there).whole open_still).gather);
     },
   )
+
+  gone_front : front_at after number ≡ None
+  gone_front = front_set queries number held gone there ∙ ap (λ (one : Held W). one.front) is_gone.rest
 
   live_now : HoldsLive new (front_at after)
   live_now = subst (λ (journal : JournalState). HoldsLive journal (front_at after)) (sym journal_is) (go held.front refl)
     where
       go : (front : Option FrontState) → held.front ≡ front → HoldsLive (without_held old front) (front_at after)
       go None e = held_same old (front_at queries) (front_at after) number keeps.live
-          (front_set queries number held (cancelled held) there ∙ sym e ∙ sym (front_there queries number held there))
-          (λ other apart. front_other queries number other (cancelled held) apart)
+          (gone_front ∙ sym e ∙ sym (front_there queries number held there))
+          (λ other apart. front_other queries number other gone apart)
       go (Some front) e = held_closed old (front_at queries) (front_at after) number front keeps.live
           (front_there queries number held there ∙ e)
           (subst (KeepsFronts old) (journal_is ∙ ap (without_held old) e) fronts)
-          (front_set queries number held (cancelled held) there)
-          (λ other apart. front_other queries number other (cancelled held) apart)
+          gone_front
+          (λ other apart. front_other queries number other gone apart)
 
   still_held : (other : Held W) → IsQueryHeld z s.history other → IsQueryHeld (setting_seen bits room new places) (cut_history bits new.history) other
   still_held other was =
       subst (λ (limit : ℕ). IsQueryHeld (setting_of bits (length places) room limit) (cut_history bits new.history) other) (sym limit_same)
       (subst (λ (history : List JournalEntry). IsQueryHeld z (cut_history bits history) other) (sym history_same) was)
 
-  cancelled_is_held : IsQueryHeld z s.history (cancelled held)
-  cancelled_is_held = (let was = keeps.held number held there in record {
+  cancelled_is_held : IsQueryHeld z s.history gone
+  cancelled_is_held = subst (IsQueryHeld z s.history) (sym is_gone.rest) (let was = keeps.held number held there in record {
     stored = was.stored;
     front = λ front is_open. absurd (none-some front is_open);
     pins = was.pins;
@@ -122,6 +127,7 @@ module _ {W : ℕ} (bits room : ℕ) (old new : JournalState) (places : List (Pl
       holds = had.holds;
       limit = had.limit;
     });
+    whole = λ still. absurd (both_ways true still refl);
   })
 
   pub cancel_keeps : held.cancelled ≡ false → KeepsWorld bits room new places after
@@ -137,7 +143,7 @@ module _ {W : ℕ} (bits room : ℕ) (old new : JournalState) (places : List (Pl
         (step_sound z s keeps.sound (Cancel number) (Ok (told.Cancelled (given_by held.gather))) (state_seen bits new places after) tt
         (cancel_step open_still (given_by held.gather) refl));
     live = live_now;
-    held = λ n other found. elim (get_set queries number n (cancelled held) other found) [
+    held = λ n other found. elim (get_set queries number n gone other found) [
       | inl both ↦ still_held other (subst (IsQueryHeld z s.history) (sym both.1) cancelled_is_held)
       | inr before ↦ still_held other (keeps.held n other before)
     ];

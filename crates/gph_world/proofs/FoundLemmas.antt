@@ -28,9 +28,12 @@ module _ {W : ℕ} (bits room : ℕ) (journal : JournalState) (places : List (Pl
   still goes_on = ap (λ (each : Held W). each.cancelled) same ∙ goes_on
 
   -- it has the sources that were seen
-  pub found_sources : (g : Gathered (QuerySource W)) → first.gather ≡ Some g → (shards : ℕ) → length places ≡ shards → HasSources held shards
-  found_sources g is shards count = subst (HasSources held) count (has_sources bits room journal places queries keeps number held
-      (found_there queries number held low again) g (ap (λ (each : Held W). each.gather) same ∙ is))
+  pub found_sources : first.cancelled ≡ false → (g : Gathered (QuerySource W)) → first.gather ≡ Some g → (shards : ℕ) → length places ≡ shards
+      → HasSources held shards
+  found_sources goes_on g is shards count =
+      let there = found_there queries number held low again in
+      subst (HasSources held) count (has_sources bits room journal places queries keeps number held there g
+      (sym ((keeps.held number held there).whole (still goes_on)).gather ∙ ap (λ (each : Held W). each.gather) same ∙ is) (still goes_on))
 
   module _ (goes_on : first.cancelled ≡ false) (whole : IsJournal journal) (few : HaveFewRows) (new : Held W) (said : Told) where
     -- it gives its next hit

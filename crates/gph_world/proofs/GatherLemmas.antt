@@ -115,14 +115,17 @@ module _ {W : ℕ} (bits room : ℕ) (journal : JournalState) (places : List (Pl
   query_is = keeps.sound.queries number query is_there
 
   -- a query without a gathering hasn't pinned every shard
-  pub none_gathered : held.gather ≡ None → 0 < unpinned query
-  none_gathered none = go (unpinned query) refl
+  pub none_gathered : held.cancelled ≡ false → held.gather ≡ None → 0 < unpinned query
+  none_gathered goes_on none = go (unpinned query) refl
     where
+      known : held.gathered.value ≡ None
+      known = sym ((keeps.held number held there).whole goes_on).gather ∙ none
+
       go : (left : ℕ) → unpinned query ≡ left → 0 < unpinned query
       go zero e = absurd (omega (
         arith,
         query_is.sourced e,
-        ap (λ gather. length (standings_held gather)) none,
+        ap (λ gather. length (standings_held gather)) known,
         keeps.some_shards,
       ))
       go (suc n) e = omega (arith, e)
@@ -171,7 +174,7 @@ module _ {W : ℕ} (bits room : ℕ) (journal : JournalState) (places : List (Pl
   pub keeps_again : (new : Held W) → new ≡ held → KeepsWorld bits room journal places (slice_set queries number new)
   keeps_again new same = subst (KeepsWorld bits room journal places) (sym (ap (slice_set queries number) same ∙ put_again queries number held there)) keeps
 
-  module _ (g : Gathered (QuerySource W)) (is : held.gather ≡ Some g) where
+  module _ (g : Gathered (QuerySource W)) (is : held.gathered.value ≡ Some g) where
     had : IsGatheringHeld z s.history held g
     had = (keeps.held number held there).gathered g is
 
@@ -194,8 +197,15 @@ module _ {W : ℕ} (bits room : ℕ) (journal : JournalState) (places : List (Pl
     pub number_is : length g.sources ≡ length places
     number_is = sym sources_are ∙ query_is.sourced all_pinned
 
-    pub has_sources : HasSources held (length places)
-    has_sources = record { gather = g; is_there = is; holds = had.holds; number_is = number_is; limit = had.limit }
+    pub has_sources : held.cancelled ≡ false → HasSources held (length places)
+    has_sources goes_on = record {
+      gather = g;
+      is_there = ((keeps.held number held there).whole goes_on).gather ∙ is;
+      is_known = is;
+      holds = had.holds;
+      number_is = number_is;
+      limit = had.limit;
+    }
 
     pub has_gathering : HasGathering z s number query (gathering_seen g)
     has_gathering = record { is_query = is_there; gathers = had.gathers }
@@ -257,11 +267,12 @@ module _ {W : ℕ} (bits room : ℕ) (journal : JournalState) (places : List (Pl
         given = refl;
       }
 
-      pub changed_is_held : IsGathering (gathering_seen changed_gather) → IsQueryHeld z s.history changed_held
-      changed_is_held holds = (let kept = keeps.held number held there in record {
+      pub changed_is_held : held.cancelled ≡ false → IsGathering (gathering_seen changed_gather) → IsQueryHeld z s.history changed_held
+      changed_is_held goes_on holds = (let kept = keeps.held number held there in record {
         stored = kept.stored;
         front = kept.front;
         pins = kept.pins;
         gathered = λ other is_other. subst (IsGatheringHeld z s.history changed_held) (same_Some changed_gather other is_other)
             (record { gathers = still_gathers; holds = holds; limit = had.limit });
+        whole = λ _. record { pins = (kept.whole goes_on).pins; gather = refl };
       })

@@ -1,5 +1,5 @@
 -- The next hit of a query is given.
-use Rattle.std.proofs.Common.{◌≡◌, ◌⊎◌, ℕ, ◌+◌, ◌<◌, ◌≤◌, true, false, List, length, Some, None, refl, sym, ap, subst, ◌∙◌, arith, inl, inr}
+use Rattle.std.proofs.Common.{◌≡◌, ◌⊎◌, ℕ, ◌+◌, ◌<◌, ◌≤◌, true, false, List, length, Option, Some, None, refl, sym, ap, subst, ◌∙◌, arith, inl, inr}
 use Rattle.std.specs.Prelude.{Ok, is_none, slice_get, slice_index_or, slice_set}
 use Rattle.std.specs.List.{list_any}
 use Rattle.std.proofs.lemmas.Option.{get_or_from_slice_get}
@@ -57,7 +57,8 @@ module _ (z : Setting) (s : WorldState) (number : ℕ) where
 -- ---- what it does
 module _ {W : ℕ} (bits room : ℕ) (journal : JournalState) (places : List (Place W)) (queries : List (Held W))
     (keeps : KeepsWorld bits room journal places queries) (number : ℕ) (held : Held W) (there : slice_get queries number ≡ Some held)
-    (whole : IsJournal journal) (few : HaveFewRows) (new : Held W) (said : Told) (gives : GivesHeld held new said) where
+    (whole : IsJournal journal) (few : HaveFewRows) (new : Held W) (said : Told) (gives : GivesHeld held new said)
+    (goes_on : held.cancelled ≡ false) where
   abbrev z : Setting
   z = setting_seen bits room journal places
 
@@ -131,7 +132,7 @@ module _ {W : ℕ} (bits room : ℕ) (journal : JournalState) (places : List (Pl
     held_hit : IsQueryHeld z s.history new
     held_hit = subst (IsQueryHeld z s.history) (sym new_is)
         (changed_is_held bits room journal places queries keeps number held there g gives.was first.shard was popped found.1 asked
-        (g.given + 1) (Some first.hit.dist)
+        (g.given + 1) (Some first.hit.dist) goes_on
         (subst (λ (gather : Gathered (QuerySource W)). IsGathering (gathering_seen gather)) (first.gives.others was) first.holds))
 
   -- none was
@@ -139,6 +140,8 @@ module _ {W : ℕ} (bits room : ℕ) (journal : JournalState) (places : List (Pl
     new_same : new ≡ held
     new_same = gives.now ∙ ap (λ (gather : Gathered (QuerySource W)). with_gather held (Some gather)) back.same
         ∙ ap (with_gather held) (sym gives.was)
+        ∙ ap (λ (gather : Option (Gathered (QuerySource W))). let one : Held W = record held { gather = gather } in one)
+        (sym ((keeps.held number held there).whole goes_on).gather)
 
     same_state : t ≡ s
     same_state = state_again bits room journal places queries keeps number held there new new_same
@@ -184,18 +187,18 @@ module _ {W : ℕ} (bits room : ℕ) (journal : JournalState) (places : List (Pl
     ];
   }
 
-  pub give_step : held.cancelled ≡ false → WorldStep z s (Give number) (Ok said) t
-  give_step goes_on = (
+  pub give_step : WorldStep z s (Give number) (Ok said) t
+  give_step = (
     may_give z s number query (seen_there bits room journal places queries keeps number held there) goes_on
         (all_pinned bits room journal places queries keeps number held there g gives.was),
     gives_next,
   )
 
-  pub give_keeps : held.cancelled ≡ false → KeepsWorld bits room journal places (slice_set queries number new)
-  give_keeps goes_on = elim gives.tells [
+  pub give_keeps : KeepsWorld bits room journal places (slice_set queries number new)
+  give_keeps = elim gives.tells [
     | inl first ↦ query_keeps bits room journal places queries keeps number held there new
         (ap (λ (one : Held W). one.front) (new_is first)) (held_hit first)
-        (step_sound z s keeps.sound (Give number) (Ok said) t tt (give_step goes_on))
+        (step_sound z s keeps.sound (Give number) (Ok said) t tt give_step)
     | inr rest ↦ elim rest [
       | inl end ↦ keeps_again bits room journal places queries keeps number held there new (new_same end.holds_back)
       | inr later ↦ keeps_again bits room journal places queries keeps number held there new (new_same later.holds_back)

@@ -46,6 +46,7 @@ module _ (z : Setting) (old new : List JournalEntry) where
     stored = is.stored;
     front = is.front;
     pins = λ shard version there. is.pins shard version there ∙ ap (prefix_of shard z.shards _) (sym same);
+    whole = is.whole;
     gathered = λ g there. (let was : IsGatheringHeld z old held g = is.gathered g there in record {
       gathers = gathering_same (query_seen z.bits held) _ same was.gathers;
       holds = was.holds;

@@ -30,6 +30,7 @@ use Rattle.world_parts.specs.Seen.{layout_pinned, query_seen}
 use Rattle.gph_world.specs.Seen.{setting_seen, state_seen}
 use Rattle.gph_world.specs.Worlds.{setting_of}
 use Rattle.world_parts.specs.declared.ask.Ask.{Ask}
+use Rattle.world_parts.specs.Whole.{IsWhole}
 use Rattle.world_parts.specs.declared.held.Held.{Held}
 use Rattle.world_parts.specs.declared.place.Place.{Place}
 use Rattle.gph_world.proofs.HeldLemmas.{front_apart, front_last, front_past, stands_live, stands_open}
@@ -66,7 +67,8 @@ module _ {W : ℕ} (bits room : ℕ) (old new : JournalState) (places : List (Pl
     (live : IsLive new front) (knows : KnowsFront new front) (fronts : KeepsFronts old new) (ask : Ask W)
     (formed : IsQuestion bits (ask_seen bits ask)) (stored : IsStoredAsk bits ask) (held : Held W) (ask_is : held.ask ≡ ask)
     (position_is : held.position ≡ position_of front) (front_is : held.front ≡ Some front)
-    (pins_are : held.pins.items ≡ replicate (length places) None) (gather_is : held.gather ≡ None) (goes_on : held.cancelled ≡ false) where
+    (pins_are : held.pinned.value.items ≡ replicate (length places) None) (gather_is : held.gathered.value ≡ None) (goes_on : held.cancelled ≡ false)
+    (whole : IsWhole held) where
   abbrev z : Setting
   z = setting_seen bits room old places
 
@@ -151,6 +153,7 @@ module _ {W : ℕ} (bits room : ℕ) (old new : JournalState) (places : List (Pl
     pins = λ shard version there. absurd (none_there (length places) shard version
         (ap (λ (pins : List (Option (Arc Tabled Global))). slice_get pins shard) (sym pins_are) ∙ there));
     gathered = λ g there. absurd (none-some g (sym gather_is ∙ there));
+    whole = λ _. whole;
   }
 
   held_before : (other : Held W) → IsQueryHeld z s.history other → IsQueryHeld (setting_seen bits room new places) (cut_history bits new.history) other

@@ -14,7 +14,8 @@ use Rattle.world_model.specs.Events.{Pin, Setting}
 use Rattle.world_model.specs.WorldState.{WorldState}
 use Rattle.world_model.specs.WorldStep.{WorldStep}
 use Rattle.world_parts.specs.Calls.{come_to}
-use Rattle.world_parts.specs.Pinned.{MayOpenEach, PinsHeld, missing, pinned_with}
+use Rattle.world_parts.specs.Pinned.{MayOpenEach, PinsHeld, VersionPins, missing, pinned_with}
+use Rattle.world_parts.specs.Whole.{IsWhole}
 use Rattle.world_parts.specs.declared.held.Held.{Held}
 use Rattle.world_parts.specs.declared.place.Place.{Place}
 use Rattle.world_parts.proofs.ListLemmas.{found_there, two_found}
@@ -23,7 +24,7 @@ use Rattle.gph_world.specs.Kept.{KeepsWorld}
 use Rattle.gph_world.specs.Seen.{setting_seen, state_seen}
 use Rattle.gph_world.proofs.AdvanceLemmas.{steps_behind}
 use Rattle.gph_world.proofs.HeldLemmas.{front_is_live}
-use Rattle.gph_world.proofs.PinLemmas.{HasCome, bring_lacks, has_come, lacks_keeps, may_open, pin_free, pins_few}
+use Rattle.gph_world.proofs.PinLemmas.{HasCome, bring_lacks, has_come, lacks_keeps, may_open, is_whole, pin_free, pins_few, pins_there}
 use Rattle.gph_world.proofs.PinnedLemmas.{lacks_step, pin_keeps, pin_setting, pin_step, same_keeps}
 
 module _ {W : ℕ} (bits room : ℕ) (journal : JournalState) (places : List (Place W)) (queries : List (Held W))
@@ -59,7 +60,7 @@ module _ {W : ℕ} (bits room : ℕ) (journal : JournalState) (places : List (Pl
     still_open : held.front ≡ Some front
     still_open = ap (λ (each : Held W). each.front) (sym same) ∙ is_open
 
-    free : slice_get held.pins.items shard ≡ Some None
+    free : slice_get held.pinned.value.items shard ≡ Some None
     free = pin_free bits room journal places queries keeps number held there shard below still pin
         (subst (λ (each : Held W). pin ≡ get_or each.pins.items shard pin) same looked) none
 
@@ -70,10 +71,15 @@ module _ {W : ℕ} (bits room : ℕ) (journal : JournalState) (places : List (Pl
     mid = lacks_keeps bits room journal places queries keeps number held there shard below still free front still_open place stands new (inr moved)
 
     -- the version may be pinned
-    pub found_may : (length held.pins.items ≤ SHARDS_MOST) × (IfSome held.front (IsLive journal) × ((slice_get held.pins.items shard ≡ Some None)
-        × (missing (pinned_with held.pins.items shard version) ≡ 0 → MayOpenEach held.ask (pinned_with held.pins.items shard version))))
-    found_may = (
-      pins_few bits room journal places queries keeps number held there shard below still,
+    abbrev MayPin : VersionPins → Type 0
+    MayPin pins = (length pins ≤ SHARDS_MOST) × (IfSome held.front (IsLive journal) × ((slice_get pins shard ≡ Some None)
+        × (missing (pinned_with pins shard version) ≡ 0 → MayOpenEach held.ask (pinned_with pins shard version))))
+
+    known_may : MayPin held.pinned.value.items
+    known_may = (
+      subst (λ (pins : VersionPins). length pins ≤ SHARDS_MOST)
+          (pins_there bits room journal places queries keeps number held there shard below still)
+          (pins_few bits room journal places queries keeps number held there shard below still),
       (
         front_is_live bits room journal places queries keeps number held there,
         (
@@ -82,6 +88,12 @@ module _ {W : ℕ} (bits room : ℕ) (journal : JournalState) (places : List (Pl
               is,
         ),
       ),
+    )
+
+    pub found_may : IsWhole held × MayPin held.pins.items
+    found_may = (
+      is_whole bits room journal places queries keeps number held there shard below still,
+      subst MayPin (sym (pins_there bits room journal places queries keeps number held there shard below still)) known_may,
     )
 
     module _ (to : JournalState) (after : Held W) where
@@ -96,7 +108,7 @@ module _ {W : ℕ} (bits room : ℕ) (journal : JournalState) (places : List (Pl
       pub found_pins_setting : PinsHeld room journal to held after shard version → setting_seen bits room to (slice_set places shard new) ≡ z
       found_pins_setting pins = pin_setting bits room journal places queries keeps number held there shard new version come mid to after pins
 
-      pub found_pins_step : PinsHeld room journal to held after shard version → (left : ℕ) → left ≡ missing after.pins.items
+      pub found_pins_step : PinsHeld room journal to held after shard version → (left : ℕ) → left ≡ missing after.pinned.value.items
           → WorldStep z s (Pin number shard) (Ok (told.Pinned left)) t
       found_pins_step pins left is_left = pin_step bits room journal places queries keeps number held there shard new version come mid to after pins left
           is_left

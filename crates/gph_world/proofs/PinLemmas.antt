@@ -32,11 +32,13 @@ use Rattle.world_parts.specs.Pinned.{MayOpen, MayOpenEach, missing, pinned_with,
 use Rattle.world_parts.specs.Pinned as pinned
 use Rattle.world_parts.specs.Seen.{layout_pinned, place_seen, query_seen}
 use Rattle.gph_world.specs.Seen.{setting_seen, state_seen}
+use Rattle.world_parts.specs.Whole.{IsWhole}
 use Rattle.world_parts.specs.declared.held.Held.{Held}
 use Rattle.world_parts.specs.declared.place.Place.{Place}
 use Rattle.gph_world.proofs.AdvanceLemmas.{came, comes}
 use Rattle.gph_world.proofs.GatherLemmas.{query_is}
 use Rattle.world_parts.proofs.ListLemmas.{found_there}
+use Rattle.world_parts.proofs.PinLemmas.{PinVec}
 use Rattle.gph_world.proofs.HeldLemmas.{seen_there}
 use Rattle.gph_world.proofs.PlaceLemmas.{place_there, same_state, stepped_keeps}
 use Rattle.gph_world.proofs.RefusalLemmas.{cause_at, cause_if, is_shard, is_query, no_query, refusal_by}
@@ -68,14 +70,14 @@ pub record HasCome {W : ℕ} (bits room : ℕ) (journal : JournalState) (places 
     (held : Held W) (new : Place W) (version : Arc Tabled Global) : Type 0 where
   pub low : shard < length places
   pub goes_on : held.cancelled ≡ false
-  pub free : slice_get held.pins.items shard ≡ Some None
+  pub free : slice_get held.pinned.value.items shard ≡ Some None
   pub advances : Advances (state_seen bits journal places queries) number shard (place_seen new)
       (state_seen bits journal (slice_set places shard new) queries)
   pub one : IsOneOf new.shard held.position (contents_at version)
-  pub each_pinned : (k : ℕ) (pin : Arc Tabled Global) → slice_get (pinned_with held.pins.items shard version) k ≡ Some (Some pin)
+  pub each_pinned : (k : ℕ) (pin : Arc Tabled Global) → slice_get (pinned_with held.pinned.value.items shard version) k ≡ Some (Some pin)
       → contents_at pin ≡ pinned_version (setting_seen bits room journal places) (cut_history bits journal.history) (query_seen bits held) k
       (contents_at pin).layout
-  pub each_laid : (k : ℕ) (pin : Arc Tabled Global) → slice_get (pinned_with held.pins.items shard version) k ≡ Some (Some pin)
+  pub each_laid : (k : ℕ) (pin : Arc Tabled Global) → slice_get (pinned_with held.pinned.value.items shard version) k ≡ Some (Some pin)
       → IsLayoutFor bits (contents_at pin).layout
 
 module _ {W : ℕ} (bits room : ℕ) (journal : JournalState) (places : List (Place W)) (queries : List (Held W))
@@ -100,23 +102,34 @@ module _ {W : ℕ} (bits room : ℕ) (journal : JournalState) (places : List (Pl
   may_pin = pin_not_refused z s number shard query low is_there goes_on
 
   -- ---- as many pins as shards
-  pub pins_few : length held.pins.items ≤ SHARDS_MOST
-  pins_few = omega (arith, own.number, length-map held.pins.items layout_pinned, keeps.few_shards)
+  pub pins_are : length held.pinned.value.items ≡ length places
+  pins_are = sym (length-map held.pinned.value.items layout_pinned) ∙ own.number
 
-  pub pins_are : length held.pins.items ≡ length places
-  pins_are = sym (length-map held.pins.items layout_pinned) ∙ own.number
+  -- those that it has are those that are known
+  pub is_whole : IsWhole held
+  is_whole = (keeps.held number held there).whole goes_on
+
+  pub pins_there : held.pins.items ≡ held.pinned.value.items
+  pins_there = ap (λ (pins : PinVec). pins.items) is_whole.pins
+
+  pub own_are : length held.pins.items ≡ length places
+  own_are = ap length pins_there ∙ pins_are
+
+  pub pins_few : length held.pins.items ≤ SHARDS_MOST
+  pins_few = omega (arith, own_are, keeps.few_shards)
 
   -- a pin that was looked at
-  pub pin_found : (pin : Option (Arc Tabled Global)) → pin ≡ get_or held.pins.items shard pin → slice_get held.pins.items shard ≡ Some pin
-  pin_found pin at = found_there held.pins.items shard pin (omega (arith, pins_are, low)) at
+  pub pin_found : (pin : Option (Arc Tabled Global)) → pin ≡ get_or held.pins.items shard pin → slice_get held.pinned.value.items shard ≡ Some pin
+  pin_found pin at = found_there held.pinned.value.items shard pin (omega (arith, pins_are, low))
+      (at ∙ ap (λ (pins : pinned.VersionPins). get_or pins shard pin) pins_there)
 
   pub pin_free : (pin : Option (Arc Tabled Global)) → pin ≡ get_or held.pins.items shard pin → is_some pin ≡ false
-      → slice_get held.pins.items shard ≡ Some None
+      → slice_get held.pinned.value.items shard ≡ Some None
   pin_free None at none = pin_found None at
   pin_free (Some version) at none = absurd (both_ways true none refl)
 
   -- ---- a shard that is pinned
-  pub pinned_step : (pin : Option (Arc Tabled Global)) → slice_get held.pins.items shard ≡ Some pin → is_some pin ≡ true
+  pub pinned_step : (pin : Option (Arc Tabled Global)) → slice_get held.pinned.value.items shard ≡ Some pin → is_some pin ≡ true
       → (left : ℕ) → left ≡ missing held.pins.items → WorldStep z s (Pin number shard) (Ok (told.Pinned left)) s
   pinned_step None at is left left_is = absurd (both_ways false refl is)
   pinned_step (Some version) at is left left_is = (
@@ -127,18 +140,18 @@ module _ {W : ℕ} (bits room : ℕ) (journal : JournalState) (places : List (Pl
       is_query = is_there;
       pins = inl (record {
         layout = (contents_at version).layout;
-        is_pinned = slice_get-map layout_pinned held.pins.items shard ∙ ap (option_map layout_pinned) at;
+        is_pinned = slice_get-map layout_pinned held.pinned.value.items shard ∙ ap (option_map layout_pinned) at;
         after_is = refl;
         same = refl;
       });
-      said_is = ap told.Pinned (left_is ∙ sym (missing_seen held.pins.items));
+      said_is = ap told.Pinned (left_is ∙ ap missing pins_there ∙ sym (missing_seen held.pinned.value.items));
     },
   )
 
   -- ---- a shard that isn't
-  module _ (free : slice_get held.pins.items shard ≡ Some None) where
+  module _ (free : slice_get held.pinned.value.items shard ≡ Some None) where
     pub not_pinned : slice_get query.pinned shard ≡ Some None
-    not_pinned = slice_get-map layout_pinned held.pins.items shard ∙ ap (option_map layout_pinned) free
+    not_pinned = slice_get-map layout_pinned held.pinned.value.items shard ∙ ap (option_map layout_pinned) free
 
     pub some_left : 0 < unpinned query
     some_left = some_missing query.pinned shard not_pinned
@@ -210,7 +223,7 @@ module _ {W : ℕ} (bits room : ℕ) (journal : JournalState) (places : List (Pl
         layout = (contents_at version).layout
 
         abbrev pins : pinned.VersionPins
-        pins = pinned_with held.pins.items shard version
+        pins = pinned_with held.pinned.value.items shard version
 
         own_rows : contents_at version ≡ pinned_version z s.history query shard layout
         own_rows = version_has_rows z mid number shard query (place_seen new) (contents_at version) mid_sound is_there new_there one_there
@@ -222,7 +235,7 @@ module _ {W : ℕ} (bits room : ℕ) (journal : JournalState) (places : List (Pl
         -- each version that is pinned is the shard's at the query's position
         pub each_pinned : (k : ℕ) (pin : Arc Tabled Global) → slice_get pins k ≡ Some (Some pin)
             → contents_at pin ≡ pinned_version z s.history query k (contents_at pin).layout
-        each_pinned k pin at = elim (get_set held.pins.items shard k (Some version) (Some pin) at) [
+        each_pinned k pin at = elim (get_set held.pinned.value.items shard k (Some version) (Some pin) at) [
           | inr before ↦ (keeps.held number held there).pins k pin before
           | inl both ↦ subst (λ (n : ℕ). contents_at pin ≡ pinned_version z s.history query n (contents_at pin).layout) (sym both.0)
               (subst (λ (v : Arc Tabled Global). contents_at v ≡ pinned_version z s.history query shard (contents_at v).layout)
@@ -230,9 +243,9 @@ module _ {W : ℕ} (bits room : ℕ) (journal : JournalState) (places : List (Pl
         ]
 
         pub each_laid : (k : ℕ) (pin : Arc Tabled Global) → slice_get pins k ≡ Some (Some pin) → IsLayoutFor bits (contents_at pin).layout
-        each_laid k pin at = elim (get_set held.pins.items shard k (Some version) (Some pin) at) [
+        each_laid k pin at = elim (get_set held.pinned.value.items shard k (Some version) (Some pin) at) [
           | inr before ↦ own.layouts k (contents_at pin).layout
-              (slice_get-map layout_pinned held.pins.items k ∙ ap (option_map layout_pinned) before)
+              (slice_get-map layout_pinned held.pinned.value.items k ∙ ap (option_map layout_pinned) before)
           | inl both ↦ subst (λ (v : Arc Tabled Global). IsLayoutFor bits (contents_at v).layout) (sym (same_Some pin version both.1)) own_laid
         ]
 

@@ -42,6 +42,8 @@ use Rattle.world_parts.specs.Seen.{given_by, layout_pinned, place_seen, query_se
 use Rattle.gph_world.specs.Seen.{setting_seen, state_seen}
 use Rattle.world_parts.specs.Sources.{QuerySource, gathering_seen, question_asked, standing_told}
 use Rattle.gph_world.specs.Worlds.{setting_of}
+use Rattle.world_parts.specs.Gathers.{with_gather}
+use Rattle.world_parts.specs.Whole.{IsWhole}
 use Rattle.world_parts.specs.declared.held.Held.{Held}
 use Rattle.world_parts.specs.declared.place.Place.{Place}
 use Rattle.gph_world.proofs.CancelLemmas.{same_history, same_limit}
@@ -75,7 +77,7 @@ module _ {W : ℕ} (bits room : ℕ) (journal : JournalState) (places : List (Pl
   layout = (contents_at version).layout
 
   abbrev pins : pinned.VersionPins
-  pins = pinned_with held.pins.items shard version
+  pins = pinned_with held.pinned.value.items shard version
 
   abbrev pinned_query : WorldQuery
   pinned_query = with_pin query shard layout
@@ -83,10 +85,10 @@ module _ {W : ℕ} (bits room : ℕ) (journal : JournalState) (places : List (Pl
   own : IsQuery z s.history query
   own = query_is bits room journal places queries keeps number held there
 
-  no_gather : held.gather ≡ None
-  no_gather = go held.gather refl
+  no_gather : held.gathered.value ≡ None
+  no_gather = go held.gathered.value refl
     where
-      go : (gather : Option (Gathered (QuerySource W))) → held.gather ≡ gather → held.gather ≡ None
+      go : (gather : Option (Gathered (QuerySource W))) → held.gathered.value ≡ gather → held.gathered.value ≡ None
       go None e = e
       go (Some g) e = absurd (omega (
         arith,
@@ -96,22 +98,22 @@ module _ {W : ℕ} (bits room : ℕ) (journal : JournalState) (places : List (Pl
 
   -- the pins as they are seen
   pins_seen : map layout_pinned pins ≡ slice_set query.pinned shard (Some layout)
-  pins_seen = map-set layout_pinned held.pins.items shard (Some version)
+  pins_seen = map-set layout_pinned held.pinned.value.items shard (Some version)
 
-  module _ (pinned_is : after.pins.items ≡ pins) where
-    layouts_are : map layout_pinned after.pins.items ≡ slice_set query.pinned shard (Some layout)
+  module _ (pinned_is : after.pinned.value.items ≡ pins) where
+    layouts_are : map layout_pinned after.pinned.value.items ≡ slice_set query.pinned shard (Some layout)
     layouts_are = ap (map layout_pinned) pinned_is ∙ pins_seen
 
-    left_is : missing after.pins.items ≡ unpinned pinned_query
-    left_is = sym (missing_seen after.pins.items) ∙ ap (λ (all : List (Option Laid)). length (filter is_none all)) layouts_are
+    left_is : missing after.pinned.value.items ≡ unpinned pinned_query
+    left_is = sym (missing_seen after.pinned.value.items) ∙ ap (λ (all : List (Option Laid)). length (filter is_none all)) layouts_are
 
-    pins_held : (k : ℕ) (pin : Arc Tabled Global) → slice_get after.pins.items k ≡ Some (Some pin)
+    pins_held : (k : ℕ) (pin : Arc Tabled Global) → slice_get after.pinned.value.items k ≡ Some (Some pin)
         → contents_at pin ≡ pinned_version z s.history query k (contents_at pin).layout
     pins_held k pin at = come.each_pinned k pin (subst (λ (all : pinned.VersionPins). slice_get all k ≡ Some (Some pin)) pinned_is at)
 
     -- what the pin does, where the query after it is known
     pinned_step : Completes z s.history pinned_query (query_seen bits after) → t ≡ with_query mid number (query_seen bits after)
-        → (left : ℕ) → left ≡ missing after.pins.items → WorldStep z s (Pin number shard) (Ok (told.Pinned left)) t
+        → (left : ℕ) → left ≡ missing after.pinned.value.items → WorldStep z s (Pin number shard) (Ok (told.Pinned left)) t
     pinned_step completes state_is left count = (
       may_pin bits room journal places queries keeps number held there shard come.low come.goes_on,
       record {
@@ -128,7 +130,7 @@ module _ {W : ℕ} (bits room : ℕ) (journal : JournalState) (places : List (Pl
           completes = completes;
           pinned = state_is;
         });
-        said_is = ap told.Pinned (count ∙ sym (missing_seen after.pins.items));
+        said_is = ap told.Pinned (count ∙ sym (missing_seen after.pinned.value.items));
       },
     )
 
@@ -154,7 +156,7 @@ module _ {W : ℕ} (bits room : ℕ) (journal : JournalState) (places : List (Pl
     more_setting = ap (λ (j : JournalState). setting_seen bits room j (slice_set places shard new)) more.journal
         ∙ setting_stays bits room journal places queries shard new
 
-    pub more_step : (left : ℕ) → left ≡ missing after.pins.items → WorldStep z s (Pin number shard) (Ok (told.Pinned left)) t
+    pub more_step : (left : ℕ) → left ≡ missing after.pinned.value.items → WorldStep z s (Pin number shard) (Ok (told.Pinned left)) t
     more_step left count = pinned_step more.pins completes_more state_more left count
 
     held_more : IsQueryHeld z s.history after
@@ -163,11 +165,12 @@ module _ {W : ℕ} (bits room : ℕ) (journal : JournalState) (places : List (Pl
       front = kept.front;
       pins = pins_held more.pins;
       gathered = λ g is. absurd (none-some g (sym no_gather ∙ is));
+      whole = λ _. subst IsWhole more.rest more.whole;
     })
 
     sound_more : IsSound z (state_seen bits journal (slice_set places shard new) (slice_set queries number after))
     sound_more = subst (λ (j : JournalState). IsSound z (state_seen bits j (slice_set places shard new) (slice_set queries number after))) more.journal
-        (step_sound z s keeps.sound (Pin number shard) (Ok (told.Pinned (missing after.pins.items))) t tt (more_step (missing after.pins.items) refl))
+        (step_sound z s keeps.sound (Pin number shard) (Ok (told.Pinned (missing after.pinned.value.items))) t tt (more_step (missing after.pinned.value.items) refl))
 
     pub more_keeps : KeepsWorld bits room to (slice_set places shard new) (slice_set queries number after)
     more_keeps =
@@ -186,13 +189,13 @@ module _ {W : ℕ} (bits room : ℕ) (journal : JournalState) (places : List (Pl
     all = ap missing (sym last.pins) ∙ last.all
 
     abbrev ended : Held W
-    ended = record held { pins = after.pins; front = None; gather = Some last.gather; limit = after.limit }
+    ended = with_gather (record held { pins = after.pins; pinned = after.pinned; front = None; limit = after.limit }) (Some last.gather)
 
     abbrev ended_query : WorldQuery
     ended_query = record (with_pin query shard layout) { front = None; sources = map standing_told last.gather.sources }
 
     pins_long : length pins ≡ length places
-    pins_long = length-set held.pins.items shard (Some version)
+    pins_long = length-set held.pinned.value.items shard (Some version)
         ∙ pins_are bits room journal places queries keeps number held there shard come.low come.goes_on
 
     none_given : g.given ≡ query.given
@@ -288,7 +291,7 @@ module _ {W : ℕ} (bits room : ℕ) (journal : JournalState) (places : List (Pl
     } in u) history_same
         ∙ ap (λ (now : List WorldQuery). let u : WorldState = record mid { queries = now } in u) (map-set (query_seen bits) queries number after)
 
-    pub last_step : (left : ℕ) → left ≡ missing after.pins.items → WorldStep z s (Pin number shard) (Ok (told.Pinned left)) t
+    pub last_step : (left : ℕ) → left ≡ missing after.pinned.value.items → WorldStep z s (Pin number shard) (Ok (told.Pinned left)) t
     last_step left count = pinned_step last.pins completes_last state_last left count
 
     -- ---- what is kept
@@ -336,6 +339,7 @@ module _ {W : ℕ} (bits room : ℕ) (journal : JournalState) (places : List (Pl
       front = λ front is_open. absurd (none-some front is_open);
       pins = pins_held last.pins;
       gathered = λ other is. subst (IsGatheringHeld z s.history ended) (same_Some g other is) gathering_ended;
+      whole = λ _. subst IsWhole last.rest last.whole;
     })
 
     live_last : HoldsLive to (front_at (slice_set queries number after))
@@ -377,7 +381,7 @@ module _ {W : ℕ} (bits room : ℕ) (journal : JournalState) (places : List (Pl
       small_room = keeps.small_room;
       stored = subst (AreStoredEntries W bits) (sym history_same) keeps.stored;
       sound = subst (λ (y : Setting). IsSound y t) (sym setting_last)
-          (step_sound z s keeps.sound (Pin number shard) (Ok (told.Pinned (missing after.pins.items))) t tt (last_step (missing after.pins.items) refl));
+          (step_sound z s keeps.sound (Pin number shard) (Ok (told.Pinned (missing after.pinned.value.items))) t tt (last_step (missing after.pinned.value.items) refl));
       live = live_last;
       held = λ n other found. elim (get_set queries number n after other found) [
         | inl both ↦ still_held other (subst (IsQueryHeld z s.history) (sym both.1) held_last)
@@ -392,7 +396,7 @@ module _ {W : ℕ} (bits room : ℕ) (journal : JournalState) (places : List (Pl
   pub pin_setting : Pinned → setting_seen bits room to (slice_set places shard new) ≡ z
   pin_setting how = elim how [ inl more ↦ more_setting more | inr last ↦ setting_last last ]
 
-  pub pin_step : Pinned → (left : ℕ) → left ≡ missing after.pins.items → WorldStep z s (Pin number shard) (Ok (told.Pinned left)) t
+  pub pin_step : Pinned → (left : ℕ) → left ≡ missing after.pinned.value.items → WorldStep z s (Pin number shard) (Ok (told.Pinned left)) t
   pin_step how left count = elim how [ inl more ↦ more_step more left count | inr last ↦ last_step last left count ]
 
   pub pin_keeps : Pinned → KeepsWorld bits room to (slice_set places shard new) (slice_set queries number after)

@@ -149,7 +149,7 @@ module _ {W : ℕ} (bits room : ℕ) (journal : JournalState) (places : List (Pl
     (keeps : KeepsWorld bits room journal places queries) (number : ℕ) (held : Held W) (there : slice_get queries number ≡ Some held)
     (whole : IsJournal journal) (few : HaveFewRows) (shard budget : ℕ) (low : shard < length places) (some : 1 ≤ budget) (new : Held W) (from to :
     List ℕ) (said : Told)
-    (polls : PollsHeld budget shard held new from to said) where
+    (polls : PollsHeld budget shard held new from to said) (open_still : held.cancelled ≡ false) where
   abbrev z : Setting
   z = setting_seen bits room journal places
 
@@ -295,7 +295,7 @@ module _ {W : ℕ} (bits room : ℕ) (journal : JournalState) (places : List (Pl
 
     held_polled : IsQueryHeld z s.history new
     held_polled = subst (IsQueryHeld z s.history) (sym new_is)
-        (changed_is_held bits room journal places queries keeps number held there g polls.was shard was polled found.1 asked g.given g.last
+        (changed_is_held bits room journal places queries keeps number held there g polls.was shard was polled found.1 asked g.given g.last open_still
         (one_polled question_asked standing_told g.sources shard was polled g.limit g.given g.last below (sym read_was) asked did.given
         ((keeps.held number held there).gathered g polls.was).holds))
 
@@ -310,6 +310,8 @@ module _ {W : ℕ} (bits room : ℕ) (journal : JournalState) (places : List (Pl
     new_same : new ≡ held
     new_same = polls.now ∙ ap (λ (gather : Gathered (QuerySource W)). with_gather held (Some gather)) none.same
         ∙ ap (with_gather held) (sym polls.was)
+        ∙ ap (λ (gather : Option (Gathered (QuerySource W))). let one : Held W = record held { gather = gather } in one)
+        (sym ((keeps.held number held there).whole open_still).gather)
 
     same_state : t ≡ s
     same_state = state_again bits room journal places queries keeps number held there new new_same
@@ -331,22 +333,22 @@ module _ {W : ℕ} (bits room : ℕ) (journal : JournalState) (places : List (Pl
     ];
   }
 
-  pub poll_step : held.cancelled ≡ false → WorldStep z s (Poll number shard budget) (Ok said) t
-  poll_step open_still = (
+  pub poll_step : WorldStep z s (Poll number shard budget) (Ok said) t
+  poll_step = (
     may_poll z s number shard budget low query is_there open_still
         (all_pinned bits room journal places queries keeps number held there g polls.was),
     polls_at,
   )
 
-  pub poll_keeps : held.cancelled ≡ false → KeepsWorld bits room journal places (slice_set queries number new)
-  poll_keeps open_still = elim polls.polls [
+  pub poll_keeps : KeepsWorld bits room journal places (slice_set queries number new)
+  poll_keeps = elim polls.polls [
     | inl due ↦ query_keeps bits room journal places queries keeps number held there new (ap (λ (one : Held W). one.front) (new_is due)) (held_polled due)
-        (step_sound z s keeps.sound (Poll number shard budget) (Ok said) t some (poll_step open_still))
+        (step_sound z s keeps.sound (Poll number shard budget) (Ok said) t some poll_step)
     | inr none ↦ keeps_again bits room journal places queries keeps number held there new (new_same none)
   ]
 
-  pub poll_rises : held.cancelled ≡ false → RiseByReads s t from to
-  poll_rises open_still = elim polls.polls [
+  pub poll_rises : RiseByReads s t from to
+  poll_rises = elim polls.polls [
     | inr none ↦ none_rise s t from to (same_state none) none.ledgers
     | inl due ↦ record {
       at = λ other. elim (cases_Bool (shard == other)) [
@@ -355,7 +357,7 @@ module _ {W : ℕ} (bits room : ℕ) (journal : JournalState) (places : List (Pl
         | inr apart ↦ omega (
           arith,
           other_ledger from to shard other due.polls.ledgers apart,
-          step_reads z s keeps.sound other (Poll number shard budget) (Ok said) t apart (poll_step open_still),
+          step_reads z s keeps.sound other (Poll number shard budget) (Ok said) t apart poll_step,
         )
       ];
     }

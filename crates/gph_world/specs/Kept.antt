@@ -1,5 +1,5 @@
 -- How a world is kept. No public clause cites this module.
-use Rattle.std.specs.Prelude.{◌≡◌, ℕ, ◌*◌, ◌≤◌, List, length, Option, Some, None, slice_get}
+use Rattle.std.specs.Prelude.{◌≡◌, ℕ, ◌*◌, ◌≤◌, List, length, false, Option, Some, None, slice_get}
 use Rattle.std.specs.declared.alloc.Global.{Global}
 use Rattle.std.specs.declared.sync.Arc.{Arc}
 use Rattle.hamming_model.specs.History.{JournalEntry}
@@ -20,6 +20,7 @@ use Rattle.world_parts.specs.Asks.{IsStoredAsk}
 use Rattle.world_parts.specs.Seen.{query_seen}
 use Rattle.gph_world.specs.Seen.{setting_seen, state_seen}
 use Rattle.world_parts.specs.Sources.{QuerySource, gathering_seen}
+use Rattle.world_parts.specs.Whole.{IsWhole}
 use Rattle.world_parts.specs.declared.held.Held.{Held}
 use Rattle.world_parts.specs.declared.place.Place.{Place}
 
@@ -35,18 +36,19 @@ pub record IsGatheringHeld {W : ℕ} (z : Setting) (history : List JournalEntry)
   pub holds : IsGathering (gathering_seen g)
   pub limit : held.limit ≡ g.limit
 
--- a query stands on words of codes, its front stands at its position, and each version that it
--- pinned is the shard's there
+-- a query stands on words of codes, its front stands at its position, each version that it pinned
+-- is the shard's there, and it has its versions and sources unless it was cancelled
 pub record IsQueryHeld {W : ℕ} (z : Setting) (history : List JournalEntry) (held : Held W)
     : Type 0 where
   pub stored : IsStoredAsk z.bits held.ask
   pub front : (front : FrontState) → held.front ≡ Some front → position_of front ≡ held.position
   pub pins : (shard : ℕ) (version : Arc Tabled Global)
-      → slice_get held.pins.items shard ≡ Some (Some version)
+      → slice_get held.pinned.value.items shard ≡ Some (Some version)
       → contents_at version ≡ pinned_version z history (query_seen z.bits held) shard
       (contents_at version).layout
-  pub gathered : (g : Gathered (QuerySource W)) → held.gather ≡ Some g
+  pub gathered : (g : Gathered (QuerySource W)) → held.gathered.value ≡ Some g
       → IsGatheringHeld z history held g
+  pub whole : held.cancelled ≡ false → IsWhole held
 
 -- what is true of every world: its codes fit the words, its state is sound, the fronts of its
 -- queries are exactly the live ones of its journal, and each query is kept well

@@ -14,9 +14,10 @@ use Rattle.world_model.specs.declared.told.Told.TheVariants as told
 use Rattle.world_parts.specs.Sources.{QuerySource, question_asked, standing_told}
 use Rattle.world_parts.specs.declared.held.Held.{Held}
 
--- the query with this gathering
+-- the query with this gathering, which is known
 abbrev pub with_gather : {W : ℕ} → Held W → Option (Gathered (QuerySource W)) → Held W
-with_gather held gather = record held { gather = gather }
+with_gather held gather =
+    record held { gather = gather; gathered = record held.gathered { value = gather } }
 
 -- every source is lawful
 abbrev pub AreAllLawful : {S : Type 0} → (S → Asked) → (S → Standing) → Type 0
@@ -71,6 +72,7 @@ TellsNext asks stands old new said = GivesReadyHit asks stands old new said
 pub record HasSources {W : ℕ} (held : Held W) (number : ℕ) : Type 0 where
   pub gather : Gathered (QuerySource W)
   pub is_there : held.gather ≡ Some gather
+  pub is_known : held.gathered.value ≡ Some gather
   pub holds : IsGathering (seen question_asked standing_told gather)
   pub number_is : length gather.sources ≡ number
   pub limit : held.limit ≡ gather.limit
@@ -79,7 +81,7 @@ pub record HasSources {W : ℕ} (held : Held W) (number : ℕ) : Type 0 where
 pub record GivesHeld {W : ℕ} (old new : Held W) (said : Told) : Type 0 where
   pub before : Gathered (QuerySource W)
   pub after : Gathered (QuerySource W)
-  pub was : old.gather ≡ Some before
+  pub was : old.gathered.value ≡ Some before
   pub now : new ≡ with_gather old (Some after)
   pub tells : TellsNext question_asked standing_told before after said
   pub lawful : AreAllLawful {S = QuerySource W} question_asked standing_told
@@ -117,7 +119,7 @@ pub record PollsHeld {W : ℕ} (budget shard : ℕ) (old new : Held W) (from to 
     : Type 0 where
   pub before : Gathered (QuerySource W)
   pub after : Gathered (QuerySource W)
-  pub was : old.gather ≡ Some before
+  pub was : old.gathered.value ≡ Some before
   pub now : new ≡ with_gather old (Some after)
   pub polls : PollsTold question_asked standing_told budget shard before after from to said
   pub lawful : AreAllLawful {S = QuerySource W} question_asked standing_told

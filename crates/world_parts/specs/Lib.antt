@@ -9,3 +9,4 @@ pub mod Seen
 pub mod Sources
 pub mod Starts
 pub mod Swaps
+pub mod Whole

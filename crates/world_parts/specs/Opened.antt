@@ -5,6 +5,7 @@ use Rattle.std.specs.declared.sync.Arc.{Arc}
 use Rattle.shard_version.specs.Tables.{Tabled}
 use Rattle.commit_journal.specs.Fronts.{FrontState, position_of}
 use Rattle.world_parts.specs.declared.ask.Ask.{Ask}
+use Rattle.world_parts.specs.Whole.{IsWhole}
 use Rattle.world_parts.specs.declared.held.Held.{Held}
 
 -- a query stands at its front, with these pins, and no source has begun
@@ -15,4 +16,5 @@ pub record IsJustOpened {W : ℕ} (ask : Ask W) (front : FrontState)
   pub front_is : held.front ≡ Some front
   pub pins_are : held.pins.items ≡ pins
   pub no_sources : held.gather ≡ None
+  pub whole : IsWhole held
   pub goes_on : held.cancelled ≡ false

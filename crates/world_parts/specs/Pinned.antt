@@ -14,9 +14,10 @@ use Rattle.scatter_gather.specs.Kept.{IsGathering}
 use Rattle.world_model.specs.Asking.{AsksOf, most_given}
 use Rattle.world_model.specs.Events.{IsQuestion}
 use Rattle.world_parts.specs.Asks.{IsStoredAsk, ask_seen}
-use Rattle.world_parts.specs.Gathers.{AreAllLawful}
+use Rattle.world_parts.specs.Gathers.{AreAllLawful, with_gather}
 use Rattle.world_parts.specs.Cancels.{without_held}
 use Rattle.world_parts.specs.Sources.{QuerySource, gathering_seen, question_asked, standing_told}
+use Rattle.world_parts.specs.Whole.{IsWhole}
 use Rattle.world_parts.specs.declared.ask.Ask.{Ask}
 use Rattle.world_parts.specs.declared.held.Held.{Held}
 
@@ -92,25 +93,27 @@ pub record BeginsGather {W : ℕ} (room : ℕ) (ask : Ask W) (pins : VersionPins
 -- a version was pinned, and some shard isn't
 pub record PinsOneMore {W : ℕ} (from to : JournalState) (old new : Held W) (shard : ℕ)
     (version : Arc Tabled Global) : Type 0 where
-  pub some : 0 < missing new.pins.items
-  pub pins : new.pins.items ≡ pinned_with old.pins.items shard version
-  pub rest : new ≡ record old { pins = new.pins }
+  pub some : 0 < missing new.pinned.value.items
+  pub pins : new.pinned.value.items ≡ pinned_with old.pinned.value.items shard version
+  pub rest : new ≡ record old { pins = new.pins; pinned = new.pinned }
+  pub whole : IsWhole new
   pub journal : to ≡ from
 
 -- the last version was pinned: the sources begin, and the front is closed
 pub record PinsLast {W : ℕ} (room : ℕ) (from to : JournalState) (old new : Held W) (shard rows : ℕ)
     (version : Arc Tabled Global) : Type 0 where
-  pub all : missing new.pins.items ≡ 0
-  pub pins : new.pins.items ≡ pinned_with old.pins.items shard version
+  pub all : missing new.pinned.value.items ≡ 0
+  pub pins : new.pinned.value.items ≡ pinned_with old.pinned.value.items shard version
   pub gather : Gathered (QuerySource W)
-  pub begins : BeginsGather room old.ask (pinned_with old.pins.items shard version) rows gather
-      new.limit
-  pub rest : new ≡ record old {
+  pub begins : BeginsGather room old.ask (pinned_with old.pinned.value.items shard version) rows
+      gather new.limit
+  pub rest : new ≡ with_gather (record old {
     pins = new.pins;
+    pinned = new.pinned;
     front = None;
-    gather = Some gather;
     limit = new.limit;
-  }
+  }) (Some gather)
+  pub whole : IsWhole new
   pub journal : to ≡ without_held from old.front
   pub fronts : KeepsFronts from to
 
@@ -119,4 +122,4 @@ abbrev pub PinsHeld : {W : ℕ} → ℕ → JournalState → JournalState → He
     → Arc Tabled Global → Type 0
 PinsHeld room from to old new shard version = PinsOneMore from to old new shard version
     ⊎ PinsLast room from to old new shard
-    (sum_by rows_pinned (pinned_with old.pins.items shard version)) version
+    (sum_by rows_pinned (pinned_with old.pinned.value.items shard version)) version

@@ -28,15 +28,15 @@ abbrev pub given_by : {W : ℕ} → Option (Gathered (QuerySource W)) → ℕ
 given_by None = 0
 given_by (Some g) = g.given
 
--- a query as it is seen
+-- a query as it is seen, by what is known of its versions and sources
 abbrev pub query_seen : {W : ℕ} → ℕ → Held W → WorldQuery
 query_seen bits held = record {
   ask = ask_seen bits held.ask;
   position = held.position;
   front = option_map (λ front. front.older) held.front;
-  pinned = map layout_pinned held.pins.items;
-  sources = standings_held held.gather;
-  given = given_by held.gather;
+  pinned = map layout_pinned held.pinned.value.items;
+  sources = standings_held held.gathered.value;
+  given = given_by held.gathered.value;
   cancelled = held.cancelled;
 }
 

@@ -10,6 +10,7 @@ ghost use Rattle.world_parts.specs.Gathers.{AreAllLawful, GivesHeld, HasSources,
 use crate::held::Held;
 use hit_source::HitSource;
 use scatter_gather::Gather;
+use std::snapshot::Snapshot;
 use world_model::Told;
 
 /// Gives the next hit of a query that has a source on each of so many shards, where it waits and no other source may have one before it.
@@ -23,7 +24,9 @@ pub fn give_held<const W: usize>(held: &mut Held<W>, shards: usize) -> Told
     let Some(gather) = &mut held.gather else {
         unreachable!()
     };
-    next_told(gather, limit, shards)
+    let said = next_told(gather, limit, shards);
+    held.gathered = Snapshot::of(&held.gather);
+    said
 }
 
 // Gives the next hit of a gathering of so many sources, or tells why there is none.

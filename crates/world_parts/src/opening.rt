@@ -10,6 +10,7 @@ use commit_journal::Front;
 use read_meter::NoMemory;
 use shard_version::Version;
 use std::alloc::Global;
+use std::snapshot::Snapshot;
 use std::sync::Arc;
 
 /// A query at a front, with these versions pinned. No source has begun.
@@ -22,14 +23,19 @@ pub fn new_held<const W: usize>(
     ensures { IsJustOpened ask.entry front.entry pins.entry.items result }
 {
     let position = front.position();
+    let pinned = Snapshot::of(&pins);
+    let gather = None;
+    let gathered = Snapshot::of(&gather);
     Held {
         ask,
         position,
         front: Some(front),
         pins,
-        gather: None,
+        gather,
         limit: 0,
         cancelled: false,
+        pinned,
+        gathered,
     }
 }
 

@@ -4,6 +4,7 @@ ghost use Rattle.std.specs.Prelude.{◌≡◌, ◌≤◌, length, IfOk, IfSome, 
 ghost use Rattle.hamming_model.specs.declared.limits.TheConstants.{ROOM_MOST, SHARDS_MOST, WORDS_MOST};
 ghost use Rattle.commit_journal.specs.Journals.{IsLive};
 ghost use Rattle.world_parts.specs.Pinned.{MayOpenEach, PinsHeld, missing, pinned_with};
+ghost use Rattle.world_parts.specs.Whole.{IsWhole};
 
 use crate::held::Held;
 use crate::sources::begin;
@@ -11,6 +12,7 @@ use commit_journal::Journal;
 use read_meter::NoMemory;
 use shard_version::Version;
 use std::alloc::Global;
+use std::snapshot::Snapshot;
 use std::sync::Arc;
 
 /// Pins a version of a shard that isn't pinned, and tells how many aren't. With the last one a source begins on each version and the front
@@ -30,12 +32,13 @@ pub fn pin_held<const W: usize>(
     requires few_words { W ≤ WORDS_MOST }
     requires some_room { 1 ≤ room }
     requires small_room { room ≤ ROOM_MOST }
+    requires whole { IsWhole held.old }
     requires few { length held.old.pins.items ≤ SHARDS_MOST }
     requires live { IfSome held.old.front (IsLive journal.old) }
     requires not_pinned { slice_get held.old.pins.items shard ≡ Some None }
     requires may { missing (pinned_with held.old.pins.items shard version) ≡ 0 →
         MayOpenEach held.old.ask (pinned_with held.old.pins.items shard version) }
-    ensures left { IfOk result (λ left. left ≡ missing held.new.pins.items) }
+    ensures left { IfOk result (λ left. left ≡ missing held.new.pinned.value.items) }
     ensures pins { OnOk result (PinsHeld room journal.old journal.new held.old held.new
         shard version.entry) }
     ensures held { OnErr result (held.new ≡ held.old) }
@@ -44,11 +47,14 @@ pub fn pin_held<const W: usize>(
     let left = unpinned(&held.pins) - 1;
     if left > 0 {
         held.pins[shard] = Some(version);
+        held.pinned = Snapshot::of(&held.pins);
         return Ok(left);
     }
     let begun = begin(alloc, &held.pins, shard, &version, &held.ask, room)?;
     held.pins[shard] = Some(version);
+    held.pinned = Snapshot::of(&held.pins);
     held.gather = Some(begun.gather);
+    held.gathered = Snapshot::of(&held.gather);
     held.limit = begun.limit;
     if let Some(front) = held.front.take() {
         journal.close_front(front);

@@ -8,6 +8,7 @@ use crate::held::Held;
 use hit_source::HitSource;
 use read_meter::Meters;
 use scatter_gather::Gather;
+use std::snapshot::Snapshot;
 use world_model::Told;
 
 /// Polls the source on a shard of a query that has one on each of so many shards, where it may have the next hit, for at most so many units
@@ -28,7 +29,9 @@ pub fn poll_held<const W: usize, L>(
     let Some(gather) = &mut held.gather else {
         unreachable!()
     };
-    poll_told(gather, shard, budget, meters)
+    let said = poll_told(gather, shard, budget, meters);
+    held.gathered = Snapshot::of(&held.gather);
+    said
 }
 
 // Polls a source of a gathering, if it is due.

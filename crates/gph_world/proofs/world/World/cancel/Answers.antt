@@ -52,10 +52,9 @@ invariant_of-self g c =
     let there = found_there i.queries.items c.args.query held (omega (arith, c.if-number-len.false, c.len.ensures, i.queries.ok.0)) c.index_mut.ensures.value in
     let same = two_found i.queries.items c.args.query c.index-held.result.now held (omega (arith, c.if-number-len.false, c.len.ensures, i.queries.ok.0))
     c.index-held.ensures c.index_mut.ensures.value in
-    subst (λ (after : Held g.row.W). KeepsWorld i.bits i.room c.cancel_query-count.new.journal i.places.items (slice_set i.queries.items c.args.query after))
-    (sym c.cancel_query-count.ensures.cancelled)
-    (cancel_keeps i.bits i.room i.journal c.cancel_query-count.new.journal i.places.items i.queries.items c.self.invariant c.args.query held there
-    c.cancel_query-count.ensures.journal c.cancel_query-count.ensures.fronts (ap (λ (each : Held g.row.W). each.cancelled) (sym same) ∙ c.if-held.false))
+    cancel_keeps i.bits i.room i.journal c.cancel_query-count.new.journal i.places.items i.queries.items c.self.invariant c.args.query held there
+    c.cancel_query-count.ensures.journal c.cancel_query-count.ensures.fronts c.cancel_query-count.new.held
+    c.cancel_query-count.ensures.cancelled (ap (λ (each : Held g.row.W). each.cancelled) (sym same) ∙ c.if-held.false)
 
 pub returns-clause-step : goal.returns-clause-step
 returns-clause-step g c =
@@ -67,10 +66,7 @@ returns-clause-step g c =
     subst (λ (w : WorldView). WorldStep w.setting w.state (Cancel c.args.query) (Ok (told.Cancelled c.cancel_query-count.result))
     (state_seen i.bits c.cancel_query-count.new.journal i.places.items (slice_set i.queries.items c.args.query c.cancel_query-count.new.held)))
     c.self.view_is
-    (subst (λ (after : Held g.row.W). WorldStep (setting_seen i.bits i.room i.journal i.places.items)
-    (state_seen i.bits i.journal i.places.items i.queries.items) (Cancel c.args.query) (Ok (told.Cancelled c.cancel_query-count.result))
-    (state_seen i.bits c.cancel_query-count.new.journal i.places.items (slice_set i.queries.items c.args.query after)))
-    (sym c.cancel_query-count.ensures.cancelled)
     (cancel_step i.bits i.room i.journal c.cancel_query-count.new.journal i.places.items i.queries.items c.self.invariant c.args.query held there
-    c.cancel_query-count.ensures.journal c.cancel_query-count.ensures.fronts (ap (λ (each : Held g.row.W). each.cancelled) (sym same) ∙ c.if-held.false)
-    c.cancel_query-count.result c.cancel_query-count.ensures.given))
+    c.cancel_query-count.ensures.journal c.cancel_query-count.ensures.fronts c.cancel_query-count.new.held
+    c.cancel_query-count.ensures.cancelled (ap (λ (each : Held g.row.W). each.cancelled) (sym same) ∙ c.if-held.false)
+    c.cancel_query-count.result c.cancel_query-count.ensures.given)

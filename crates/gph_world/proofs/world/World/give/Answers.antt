@@ -24,7 +24,8 @@ returns-in_default-clause-step g c =
       give_not_pinned (setting_seen i.bits i.room i.journal i.places.items) (state_seen i.bits i.journal i.places.items i.queries.items) c.args.query
           (query_seen i.bits held) (seen_there i.bits i.room i.journal i.places.items i.queries.items c.self.invariant c.args.query held there)
           c.if-held.false
-          (none_gathered i.bits i.room i.journal i.places.items i.queries.items c.self.invariant c.args.query held there c.in_default.is),
+          (none_gathered i.bits i.room i.journal i.places.items i.queries.items c.self.invariant c.args.query held there c.if-held.false
+          c.in_default.is),
       refl,
     ))
 
@@ -33,7 +34,7 @@ give_held-requires g c =
     let i = c.self.inside in
     let sources = found_sources i.bits i.room i.journal i.places.items i.queries.items c.self.invariant c.args.query c.index-held.result.now
     c.index_mut.result.now (omega (arith, c.if-number-len.false, c.len.ensures, i.queries.ok.0)) c.index-held.ensures c.index_mut.ensures.value
-    c.in-Some._gather c.in-Some.is c.len-shards.result (omega (arith, c.len-shards.ensures, i.places.ok.0)) in
+    c.if-held.false c.in-Some._gather c.in-Some.is c.len-shards.result (omega (arith, c.len-shards.ensures, i.places.ok.0)) in
     (omega (arith, c.self.invariant.few_words), (c.self.invariant.few_words, sources))
 
 pub invariant_of-self : goal.invariant_of-self

@@ -10,6 +10,7 @@ use Rattle.gph_world.specs.Kept.{KeepsWorld}
 use Rattle.gph_world.specs.Seen.{setting_seen, state_seen}
 use Rattle.gph_world.specs.Worlds.{WorldView}
 use Rattle.world_parts.specs.declared.held.Held.{Held}
+use Rattle.world_parts.proofs.PinLemmas.{PinVec}
 use Rattle.gph_world.proofs.OpenLemmas.{open_keeps, open_step}
 use Rattle.gph_world.proofs.world.World.open.Goals as goal
 
@@ -37,6 +38,12 @@ module _ (g : _) (c : goal.In-Ok-push g) where
       let e : c.len.result ≡ length c.self.inside.places.items = omega (arith, c.len.ensures, c.self.inside.places.ok.0) in
       c.in-Ok-no_pins.ensures ∙ ap (λ (n : ℕ). replicate n None) e
 
+  known_pins : held.pinned.value.items ≡ replicate (length c.self.inside.places.items) None
+  known_pins = ap (λ (known : PinVec). known.items) (sym c.new_held-held.ensures.whole.pins) ∙ c.new_held-held.ensures.pins_are ∙ pins
+
+  known_sources : held.gathered.value ≡ None
+  known_sources = sym c.new_held-held.ensures.whole.gather ∙ c.new_held-held.ensures.no_sources
+
 pub invariant_of-self-2 : goal.invariant_of-self-2
 invariant_of-self-2 g c =
     let i = c.self.inside in
@@ -44,7 +51,7 @@ invariant_of-self-2 g c =
     (open_keeps i.bits i.room i.journal c.open_front.new.self i.places.items i.queries.items c.self.invariant c.args.who c.in-Ok-open_front.front
     c.in-Ok-open_front.ensures.opened c.in-Ok-open_front.ensures.live c.in-Ok-open_front.ensures.known c.in-Ok-open_front.ensures.fronts
     c.args.ask (formed g c) (stored g c) (held g c) c.new_held-held.ensures.ask_is c.new_held-held.ensures.position_is c.new_held-held.ensures.front_is
-    (c.new_held-held.ensures.pins_are ∙ pins g c) c.new_held-held.ensures.no_sources c.new_held-held.ensures.goes_on
+    (known_pins g c) (known_sources g c) c.new_held-held.ensures.goes_on c.new_held-held.ensures.whole
     (ap (nat_le 65536) (sym (long g c)) ∙ few g c))
 
 pub returns-clause-step : goal.returns-clause-step
@@ -60,5 +67,5 @@ returns-clause-step g c =
     (open_step i.bits i.room i.journal c.open_front.new.self i.places.items i.queries.items c.self.invariant c.args.who c.in-Ok-open_front.front
     c.in-Ok-open_front.ensures.opened c.in-Ok-open_front.ensures.live c.in-Ok-open_front.ensures.known c.in-Ok-open_front.ensures.fronts
     c.args.ask (formed g c) (stored g c) (held g c) c.new_held-held.ensures.ask_is c.new_held-held.ensures.position_is c.new_held-held.ensures.front_is
-    (c.new_held-held.ensures.pins_are ∙ pins g c) c.new_held-held.ensures.no_sources c.new_held-held.ensures.goes_on
+    (known_pins g c) (known_sources g c) c.new_held-held.ensures.goes_on c.new_held-held.ensures.whole
     c.len-number.result c.position-position.result (long g c) c.position-position.ensures.position (few g c)))

@@ -14,7 +14,7 @@ use Rattle.world_parts.proofs.ListLemmas.{found_there}
 use Rattle.gph_world.proofs.PinCallLemmas.{found_behind, found_lacks_keeps, found_lacks_step, found_may, found_pins_keeps}
 use Rattle.gph_world.proofs.PinCallLemmas.{found_pins_setting, found_pins_step}
 use Rattle.gph_world.proofs.PinLemmas.{bring_lacks, front_open, lacks_keeps}
-use Rattle.gph_world.proofs.PinLemmas.{pin_found, pin_free, pinned_step, pins_are, pins_few, version_comes}
+use Rattle.gph_world.proofs.PinLemmas.{pin_found, pin_free, pinned_step, own_are, pins_few, version_comes}
 use Rattle.gph_world.proofs.world.World.pin.Goals as goal
 
 pub index-requires : goal.index-requires
@@ -27,7 +27,7 @@ index-requires g c =
     omega (
       arith,
       below,
-      pins_are i.bits i.room i.journal i.places.items i.queries.items c.self.invariant c.args.query held there c.args.shard below
+      own_are i.bits i.room i.journal i.places.items i.queries.items c.self.invariant c.args.query held there c.args.shard below
           c.if-held.false,
       held.pins.ok.0,
     )

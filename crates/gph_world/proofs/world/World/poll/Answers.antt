@@ -28,7 +28,8 @@ returns-in_default-clause-step g c =
           c.args.budget below
           (query_seen i.bits held) (seen_there i.bits i.room i.journal i.places.items i.queries.items c.self.invariant c.args.query held there)
           c.if-held.false
-          (none_gathered i.bits i.room i.journal i.places.items i.queries.items c.self.invariant c.args.query held there c.in_default.is),
+          (none_gathered i.bits i.room i.journal i.places.items i.queries.items c.self.invariant c.args.query held there c.if-held.false
+          c.in_default.is),
       refl,
     ))
 
@@ -37,7 +38,7 @@ poll_held-requires g c =
     let i = c.self.inside in
     let sources = found_sources i.bits i.room i.journal i.places.items i.queries.items c.self.invariant c.args.query c.index-held.result.now
     c.index_mut.result.now (omega (arith, c.if-number-len.false, c.len-2.ensures, i.queries.ok.0)) c.index-held.ensures c.index_mut.ensures.value
-    c.in-Some._gather c.in-Some.is c.len-shards.result (omega (arith, c.len-shards.ensures, i.places.ok.0)) in
+    c.if-held.false c.in-Some._gather c.in-Some.is c.len-shards.result (omega (arith, c.len-shards.ensures, i.places.ok.0)) in
     let below : c.args.shard < c.len-shards.result = omega (arith, c.if-place-len.false, c.len.ensures, c.len-shards.ensures) in
     (omega (arith, c.self.invariant.few_words), (c.self.invariant.few_words, (sources, (below, c.requires.budget))))
 
