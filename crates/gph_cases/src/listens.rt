@@ -92,7 +92,10 @@ fn words_of_a_listen_give_its_numbers(rt: HostRuntime) -> Result<(), Fail> {
         } = config;
         assert!(rt; (bits, parts, shards, room) == listen.numbers, "{text}");
         assert!(rt; (entries, input) == listen.limits, "{text}");
-        assert!(rt; (port, sessions) == (listen.port, listen.sessions), "{text}");
+        assert!(rt;
+            (port, sessions) == (listen.port, listen.sessions),
+            "{text}"
+        );
     }
     Ok(())
 }

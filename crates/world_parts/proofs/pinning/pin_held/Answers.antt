@@ -9,8 +9,11 @@ use Rattle.world_parts.proofs.SourceLemmas.{left_after}
 use Rattle.world_parts.proofs.pinning.pin_held.Goals as goal
 
 pub overflow_sub-left : goal.overflow_sub-left
-overflow_sub-left g c = omega (arith, left_after c.args.held.now.pins.items _ c.args.shard c.args.version _ c.unpinned-left.ensures c.deref.ensures.value
-  c.requires.not_pinned)
+overflow_sub-left g c = omega (
+  arith,
+  left_after c.args.held.now.pins.items _ c.args.shard c.args.version _ c.unpinned-left.ensures c.deref.ensures.value
+      c.requires.not_pinned,
+)
 
 pub index_mut-requires : goal.index_mut-requires
 index_mut-requires g c = omega (
@@ -21,13 +24,22 @@ index_mut-requires g c = omega (
 )
 
 pub returns-then-left-gt0-clause-left : goal.returns-then-left-gt0-clause-left
-returns-then-left-gt0-clause-left g c = omega (arith, left_after c.args.held.now.pins.items _ c.args.shard c.args.version _ c.unpinned-left.ensures c.deref.ensures.value
-  c.requires.not_pinned, ap (λ (pins : PinVec). missing pins.items) c.of.ensures)
+returns-then-left-gt0-clause-left g c = omega (
+  arith,
+  left_after c.args.held.now.pins.items _ c.args.shard c.args.version _ c.unpinned-left.ensures c.deref.ensures.value
+      c.requires.not_pinned,
+  ap (λ (pins : PinVec). missing pins.items) c.of.ensures,
+)
 
 pub returns-then-left-gt0-clause-pins : goal.returns-then-left-gt0-clause-pins
 returns-then-left-gt0-clause-pins g c = inl (record {
-  some = omega (arith, c.if-left-gt0.true, left_after c.args.held.now.pins.items _ c.args.shard c.args.version _ c.unpinned-left.ensures c.deref.ensures.value
-  c.requires.not_pinned, ap (λ (pins : PinVec). missing pins.items) c.of.ensures);
+  some = omega (
+    arith,
+    c.if-left-gt0.true,
+    left_after c.args.held.now.pins.items _ c.args.shard c.args.version _ c.unpinned-left.ensures c.deref.ensures.value
+        c.requires.not_pinned,
+    ap (λ (pins : PinVec). missing pins.items) c.of.ensures,
+  );
   pins = ap (λ (pins : PinVec). pins.items) c.of.ensures ∙ known_with c.args.held.now c.args.shard c.args.version c.requires.whole;
   rest = held_is _ _ refl refl refl refl refl refl refl refl refl;
   whole = record { pins = sym c.of.ensures; gather = c.requires.whole.gather };
@@ -37,8 +49,12 @@ returns-then-left-gt0-clause-pins g c = inl (record {
 pub begin-requires : goal.begin-requires
 begin-requires g c =
     let may = begins_on c.args.held.now.ask c.args.held.now.pins.items _ c.args.shard c.args.version c.deref-2.ensures.value c.requires.few
-    c.requires.not_pinned (c.requires.may (omega (arith, c.if-left-gt0.false, left_after c.args.held.now.pins.items _ c.args.shard c.args.version _ c.unpinned-left.ensures c.deref.ensures.value
-  c.requires.not_pinned))) in
+    c.requires.not_pinned (c.requires.may (omega (
+      arith,
+      c.if-left-gt0.false,
+      left_after c.args.held.now.pins.items _ c.args.shard c.args.version _ c.unpinned-left.ensures c.deref.ensures.value
+          c.requires.not_pinned,
+    ))) in
     (search rules, (search rules, (search rules, (c.requires.few_words, (c.requires.some_room, (c.requires.small_room, may))))))
 
 pub index_mut-requires-2 : goal.index_mut-requires-2
@@ -50,15 +66,24 @@ index_mut-requires-2 g c = omega (
 )
 
 pub returns-in-Some-clause-left : goal.returns-in-Some-clause-left
-returns-in-Some-clause-left g c = omega (arith, left_after c.args.held.now.pins.items _ c.args.shard c.args.version _ c.unpinned-left.ensures c.deref.ensures.value
-  c.requires.not_pinned, ap (λ (pins : PinVec). missing pins.items) c.of-2.ensures)
+returns-in-Some-clause-left g c = omega (
+  arith,
+  left_after c.args.held.now.pins.items _ c.args.shard c.args.version _ c.unpinned-left.ensures c.deref.ensures.value
+      c.requires.not_pinned,
+  ap (λ (pins : PinVec). missing pins.items) c.of-2.ensures,
+)
 
 pub returns-in-Some-clause-pins : goal.returns-in-Some-clause-pins
 returns-in-Some-clause-pins g c =
     last_held c.args.room _ _ c.args.held.now _ c.args.shard c.args.version _ c.in_ok-begun.begun.gather
     (c.deref-2.ensures.value ∙ ap (λ (pins : PinVec). pins.items) c.requires.whole.pins)
-    (omega (arith, c.if-left-gt0.false, left_after c.args.held.now.pins.items _ c.args.shard c.args.version _ c.unpinned-left.ensures c.deref.ensures.value
-  c.requires.not_pinned, ap (λ (pins : PinVec). missing pins.items) c.of-2.ensures))
+    (omega (
+      arith,
+      c.if-left-gt0.false,
+      left_after c.args.held.now.pins.items _ c.args.shard c.args.version _ c.unpinned-left.ensures c.deref.ensures.value
+          c.requires.not_pinned,
+      ap (λ (pins : PinVec). missing pins.items) c.of-2.ensures,
+    ))
     (ap (λ (pins : PinVec). pins.items) c.of-2.ensures ∙ known_with c.args.held.now c.args.shard c.args.version c.requires.whole) c.in_ok-begun.ensures
     (held_is _ _ refl refl c.take.ensures.after refl refl refl refl refl c.of-3.ensures)
     (record { pins = sym c.of-2.ensures; gather = sym c.of-3.ensures })
@@ -66,15 +91,24 @@ returns-in-Some-clause-pins g c =
     c.close_front.ensures.fronts
 
 pub returns-in_default-clause-left : goal.returns-in_default-clause-left
-returns-in_default-clause-left g c = omega (arith, left_after c.args.held.now.pins.items _ c.args.shard c.args.version _ c.unpinned-left.ensures c.deref.ensures.value
-  c.requires.not_pinned, ap (λ (pins : PinVec). missing pins.items) c.of-2.ensures)
+returns-in_default-clause-left g c = omega (
+  arith,
+  left_after c.args.held.now.pins.items _ c.args.shard c.args.version _ c.unpinned-left.ensures c.deref.ensures.value
+      c.requires.not_pinned,
+  ap (λ (pins : PinVec). missing pins.items) c.of-2.ensures,
+)
 
 pub returns-in_default-clause-pins : goal.returns-in_default-clause-pins
 returns-in_default-clause-pins g c =
     last_held c.args.room _ _ c.args.held.now _ c.args.shard c.args.version _ c.in_ok-begun.begun.gather
     (c.deref-2.ensures.value ∙ ap (λ (pins : PinVec). pins.items) c.requires.whole.pins)
-    (omega (arith, c.if-left-gt0.false, left_after c.args.held.now.pins.items _ c.args.shard c.args.version _ c.unpinned-left.ensures c.deref.ensures.value
-  c.requires.not_pinned, ap (λ (pins : PinVec). missing pins.items) c.of-2.ensures))
+    (omega (
+      arith,
+      c.if-left-gt0.false,
+      left_after c.args.held.now.pins.items _ c.args.shard c.args.version _ c.unpinned-left.ensures c.deref.ensures.value
+          c.requires.not_pinned,
+      ap (λ (pins : PinVec). missing pins.items) c.of-2.ensures,
+    ))
     (ap (λ (pins : PinVec). pins.items) c.of-2.ensures ∙ known_with c.args.held.now c.args.shard c.args.version c.requires.whole) c.in_ok-begun.ensures
     (held_is _ _ refl refl c.take.ensures.after refl refl refl refl refl c.of-3.ensures)
     (record { pins = sym c.of-2.ensures; gather = sym c.of-3.ensures })
