@@ -99,8 +99,8 @@ begins_alone old = record {
   each = λ _ shard low. absurd (omega (arith, low));
 }
 
-module _ (law : CheaperBySwaps) (old now new : DeskState) (tended : Tended) (shard : ℕ) (so_far : TendsAlone old now tended shard) (keeps : KeepsOwnDesk old now)
-    (alone : old.alone ≡ true) where
+module _ (law : CheaperBySwaps) (old now new : DeskState) (tended : Tended) (shard : ℕ) (so_far : TendsAlone old now tended shard)
+    (keeps : KeepsOwnDesk old now) (alone : old.alone ≡ true) where
   here : layout_in now shard ≡ layout_in old shard
   here = so_far.layouts shard ∙ ap (λ (b : Bool). cond b (tended_in old shard) (layout_in old shard)) (so_far.own shard (omega arith))
 

@@ -103,7 +103,8 @@ rows_same old new keeps alone shard =
     ap (λ (seen : List JournalEntry). shard_rows shard new.config.shards (rows_of (cut_history new.config.bits seen))) (seen_same old new keeps alone)
     ∙ ap (λ config. shard_rows shard config.shards (rows_of (cut_history config.bits old.seen))) keeps.config
 
-module _ (old mid : DeskState) (shard : ℕ) (comes : ComesOn old mid) (version : Contents) (pins : PinsShard old mid shard version) (alone : old.alone ≡ true) where
+module _ (old mid : DeskState) (shard : ℕ) (comes : ComesOn old mid) (version : Contents)
+    (pins : PinsShard old mid shard version) (alone : old.alone ≡ true) where
   keeps : KeepsOwnDesk old mid
   keeps = keeps_comes old mid comes
 

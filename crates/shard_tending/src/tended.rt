@@ -1,6 +1,6 @@
 //! What a turn did.
 
-ghost use Rattle.std.specs.Prelude.{◌≡◌, ◌+◌, ◌<◌};
+ghost use Rattle.std.specs.Prelude.{◌≡◌, ◌+◌, ◌^◌, ◌<◌};
 ghost use Rattle.shard_tending.specs.Outcomes.{counted_turn, turns_in};
 
 use crate::outcome::ShardTurn;
@@ -16,7 +16,7 @@ pub struct Tended {
 impl Tended {
     // With one shard more.
     pub(crate) fn with(self, turn: ShardTurn) -> Tended
-        requires { turns_in self + 1 < 4294967296 }
+        requires { turns_in self + 1 < 2 ^ 32 }
         ensures { result ≡ counted_turn self turn }
     {
         match turn {
