@@ -4,5 +4,6 @@ pub mod MoveLemmas
 pub mod ReleaseLemmas
 pub mod SeatLemmas
 pub mod ShardClaimLemmas
+pub mod ShardMoveLemmas
 pub mod ShardReleaseLemmas
 pub mod TableLemmas

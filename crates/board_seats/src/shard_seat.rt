@@ -19,24 +19,26 @@ use std::sync::{Arc, Wait};
 use std::thread;
 use versioned_shard::{Moved, shards_keep_the_rule};
 
-// Takes a shard, once it is at home.
+// Takes a shard, once it is at home. The answer is its place in the table.
 fn claim_shard<const W: usize, R: Wait>(
     rt: &R,
     place: &Place<W>,
     me: &mut Seen<W>,
-    shard: usize,
-)
+    shard: u32,
+) -> usize
     requires place { me.old.table_id ≡ place.now.table_id }
     requires table { HasShard place.now.table_id shard }
     requires free { IsFree me.old.me }
     ensures table { me.new.table_id ≡ me.old.table_id }
     ensures seat { me.new.id ≡ me.old.id }
+    ensures word { result ≡ suc shard }
     ensures taken { TakesShard (suc shard) me.old.me me.new.me }
 {
+    let word = shard as usize + 1;
     for _ in rt.forever() {
-        let found = place.compare_exchange::<ClaimsShard>(me, shard + 1, 0, 1);
+        let found = place.compare_exchange::<ClaimsShard>(me, word, 0, 1);
         if found == 0 {
-            return;
+            return word;
         }
         thread::yield_now();
     }
@@ -53,7 +55,7 @@ pub fn pin<const W: usize, R: Wait, M>(
     place: &Place<W>,
     me: &mut Seen<W>,
     front: &Front<W>,
-    shard: usize,
+    shard: u32,
     steps: &mut Steps<M>,
 ) -> Result<Arc<Version<W>>, NoMemory>
     requires place { me.old.table_id ≡ place.now.table_id }
@@ -70,9 +72,9 @@ pub fn pin<const W: usize, R: Wait, M>(
 {
     shards_keep_the_rule();
     let _position = front.position();
-    claim_shard(rt, place, me, shard);
-    let version = pin_in(me.slot_mut(place, shard + 1), front, steps);
-    place.store::<LeavesShard>(me, shard + 1, 0);
+    let word = claim_shard(rt, place, me, shard);
+    let version = pin_in(me.slot_mut(place, word), front, steps);
+    place.store::<LeavesShard>(me, word, 0);
     version
 }
 
@@ -81,7 +83,7 @@ pub fn layout_of<const W: usize, R: Wait>(
     rt: &R,
     place: &Place<W>,
     me: &mut Seen<W>,
-    shard: usize,
+    shard: u32,
 ) -> LayoutText
     requires place { me.old.table_id ≡ place.now.table_id }
     requires table { HasShard place.now.table_id shard }
@@ -90,9 +92,9 @@ pub fn layout_of<const W: usize, R: Wait>(
     ensures told { (visit : VisitedShard shard me.old.me me.new.me) × (visit.new ≡ visit.old)
         × (result ≡ layout_text visit.new.current.layout.parts) }
 {
-    claim_shard(rt, place, me, shard);
-    let text = text_in(me.slot_mut(place, shard + 1));
-    place.store::<LeavesShard>(me, shard + 1, 0);
+    let word = claim_shard(rt, place, me, shard);
+    let text = text_in(me.slot_mut(place, word));
+    place.store::<LeavesShard>(me, word, 0);
     text
 }
 
@@ -105,7 +107,7 @@ pub fn swap<const W: usize, R: Wait>(
     rt: &R,
     place: &Place<W>,
     me: &mut Seen<W>,
-    shard: usize,
+    shard: u32,
     prepared: Prepared<W>,
 ) -> Result<(), Moved<W>>
     requires place { me.old.table_id ≡ place.now.table_id }
@@ -119,8 +121,8 @@ pub fn swap<const W: usize, R: Wait>(
     ensures back { IfErr result (λ moved. moved.prepared ≡ prepared.entry) }
 {
     shards_keep_the_rule();
-    claim_shard(rt, place, me, shard);
-    let swapped = swap_in(me.slot_mut(place, shard + 1), prepared);
-    place.store::<LeavesShard>(me, shard + 1, 0);
+    let word = claim_shard(rt, place, me, shard);
+    let swapped = swap_in(me.slot_mut(place, word), prepared);
+    place.store::<LeavesShard>(me, word, 0);
     swapped
 }
