@@ -1,6 +1,6 @@
 -- What each call makes of a shard may be released.
 use Rattle.std.proofs.Common.{◌≡◌, ◌≢◌, inl, inr, ℕ, zero, suc, ◌<◌, ◌≤◌, nat_lt, max, Bool, true, false, cond, List, [], ◌∷◌, ◌++◌, length, take, get_or, refl, sym, ap, subst, ◌∙◌, arith, Option, Some}
-use Rattle.std.specs.Prelude.{IfOk, OnOk}
+use Rattle.std.specs.Prelude.{IfErr, IfOk, OnOk, option_map}
 use Rattle.std.specs.declared.result.Result.{Result}
 use Rattle.std.specs.declared.result.Result.TheVariants.{Ok, Err}
 use Rattle.std.specs.List.{AllByRecursion, IsAmong}
@@ -12,8 +12,8 @@ use Rattle.hamming_model.proofs.RecodedLemmas.{stored_first}
 use Rattle.part_layout.specs.declared.config.Config.{Config}
 use Rattle.part_layout.specs.Laid.{IsLaid, Laid}
 use Rattle.shard_version.specs.Contents.{Contents, IsVersion}
-use Rattle.commit_journal.specs.Fronts.{FrontState, IsFront, position_of, positions_of}
-use Rattle.commit_journal.specs.Journals.{IsKnown, JournalState, KnowsFront}
+use Rattle.commit_journal.specs.Fronts.{FrontState, IsFront, StandsAt, position_of, positions_of}
+use Rattle.commit_journal.specs.Journals.{IsKnown, IsLive, JournalState, KnowsFront}
 use Rattle.versioned_shard.specs.Along.{Follows, version_at}
 use Rattle.versioned_shard.specs.Rule.{IsKeptVersion, KeepsJournalRule, KeepsRule}
 use Rattle.versioned_shard.specs.Shards.{IsOneOf, MayStandIn, ShardState, advanced, further, with_layout}
@@ -178,3 +178,11 @@ pub both_ok : {A B : Type 0} (result : Result A B) (P Q R : A → Type 0) (C : T
     → ((a : A) → P a → Q a → C → R a) → IfOk result R
 both_ok {A} {B} (Ok a) P Q R C one two three f = f a one two three
 both_ok {A} {B} (Err b) P Q R C one two three f = tt
+
+pub at_of : {A B : Type 0} (result : Result A B) (F : B → ℕ) (m n : ℕ) → m ≡ n → IfErr result (λ b. F b ≡ m) → IfErr result (λ b. F b ≡ n)
+at_of {A} {B} (Ok a) F m n same told = tt
+at_of {A} {B} (Err b) F m n same told = told ∙ same
+
+-- a live front's position is a live one
+pub stands_at_live : (journal : JournalState) (front : FrontState) → IsLive journal front → StandsAt (positions_of journal.live) (position_of front)
+stands_at_live journal front live = record { number = front.id; stands = ap (option_map (λ (pair : ℕ × ℕ). pair.1)) live }
