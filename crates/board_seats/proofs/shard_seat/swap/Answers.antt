@@ -22,9 +22,12 @@ swap_in-swapped-requires g c =
       (
         search rules,
         (
-          was ∙ ap (λ z. Cell.Shard (shard_in z)) (sym was),
-          subst (λ s. MayStandIn s version) (sym (ap shard_in was))
-              (made_stands_in t.config t.journal c.args.me.now.me.0 c.args.shard t.shard version t.knows t.stands c.requires.made),
+          search rules,
+          (
+            was ∙ ap (λ z. Cell.Shard (shard_in z)) (sym was),
+            subst (λ s. MayStandIn s version) (sym (ap shard_in was))
+                (made_stands_in t.config t.journal c.args.me.now.me.0 c.args.shard t.shard version t.knows t.stands c.requires.made),
+          ),
         ),
       ),
     )
