@@ -1,5 +1,5 @@
 -- The claim of a shard keeps the rule. No claim of the journal is needed.
-use Rattle.std.proofs.Common.{◌≡◌, ◌≢◌, ℕ, zero, suc, ◌+◌, ◌*◌, ◌<◌, ◌==◌, Bool, true, false, List, [], ◌∷◌, inl, inr, length, set, get_or, sym, refl, ap, ◌∙◌, subst, arith, eq-eqb, Some, None}
+use Rattle.std.proofs.Common.{◌≡◌, ℕ, zero, suc, ◌<◌, ◌==◌, Bool, true, false, List, [], ◌∷◌, inl, inr, length, set, sym, refl, ap, ◌∙◌, subst, arith, eq-eqb, Some, None}
 use mathlib.Core.Option.{some, none, some-injective}
 use mathlib.Core.Logic.{dite}
 use native.Mathlib.Decide.{ℕ_discrete}

@@ -1,5 +1,5 @@
 -- What each call makes of a shard may be released.
-use Rattle.std.proofs.Common.{◌≡◌, ◌≢◌, inl, inr, ℕ, zero, suc, ◌<◌, ◌≤◌, nat_lt, max, Bool, true, false, cond, List, [], ◌∷◌, ◌++◌, length, take, get_or, refl, sym, ap, subst, ◌∙◌, arith, Option, Some}
+use Rattle.std.proofs.Common.{◌≡◌, inl, inr, ℕ, zero, suc, nat_lt, max, Bool, true, false, cond, List, [], ◌∷◌, take, refl, sym, ap, subst, ◌∙◌, arith, Option}
 use Rattle.std.specs.Prelude.{IfErr, IfOk, OnOk, option_map}
 use Rattle.std.specs.declared.result.Result.{Result}
 use Rattle.std.specs.declared.result.Result.TheVariants.{Ok, Err}
@@ -10,7 +10,7 @@ use Rattle.hamming_model.specs.History.{JournalEntry, rows_of, shard_rows}
 use Rattle.hamming_model.specs.Recoded.{AreStoredEntries, cut_entry, cut_history}
 use Rattle.hamming_model.proofs.RecodedLemmas.{stored_first}
 use Rattle.part_layout.specs.declared.config.Config.{Config}
-use Rattle.part_layout.specs.Laid.{IsLaid, Laid}
+use Rattle.part_layout.specs.Laid.{IsLaid}
 use Rattle.shard_version.specs.Contents.{Contents, IsVersion}
 use Rattle.commit_journal.specs.Fronts.{FrontState, IsFront, StandsAt, position_of, positions_of}
 use Rattle.commit_journal.specs.Journals.{IsKnown, IsLive, JournalState, KnowsFront}
@@ -20,8 +20,8 @@ use Rattle.versioned_shard.specs.Shards.{IsOneOf, MayStandIn, ShardState, advanc
 use Rattle.versioned_shard.proofs.AlongLemmas.{follows_longer}
 use Rattle.board_seats.specs.declared.rule.View.{View}
 use Rattle.board_seats.specs.Moves.{ReleasesShard}
-use Rattle.board_seats.specs.Rule.{IsBoardShard, IsJournalOf}
-use Rattle.board_seats.specs.ShardCalls.{CameTo, IsGivenAt, IsMadeApart, TakesLayout}
+use Rattle.board_seats.specs.Rule.{IsBoardShard}
+use Rattle.board_seats.specs.ShardCalls.{CameTo, IsGivenAt, IsMadeApart, SwapsLayout}
 use Rattle.board_seats.specs.Views.{AmongFronts, IsViewOf}
 
 -- ---- the shard as it stood
@@ -149,7 +149,7 @@ made_stands_in {W} config journal view k shard version knows stands made = recor
 
 -- the shard in the layout of such a version, or as it stood
 pub takes_layout : {W : ℕ} (config : Config) (view : View W) (k : ℕ) (old new : ShardState) (version : Contents) (moved : Bool)
-    → TakesLayout old new version moved → MayStandIn old version → IsLaid version.layout
+    → SwapsLayout old new version moved → MayStandIn old version → IsLaid version.layout
     → ((live : ℕ → Option ℕ) (history : List JournalEntry) (each : ShardState) (other : Contents) → KeepsRule live history each → IsLaid other.layout
     → MayStandIn each other → other.at ≡ each.current.at → KeepsRule live history (with_layout each other.layout))
     → ReleasesShard config view k old new
@@ -169,7 +169,7 @@ takes_layout {W} config view k old new version false takes may laid law = elim (
 ]
 
 -- where it stands then is where it stood
-pub takes_at : (old new : ShardState) (version : Contents) (moved : Bool) → TakesLayout old new version moved → new.current.at ≡ old.current.at
+pub takes_at : (old new : ShardState) (version : Contents) (moved : Bool) → SwapsLayout old new version moved → new.current.at ≡ old.current.at
 takes_at old new version true takes = ap (λ (each : ShardState). each.current.at) (takes.stays refl)
 takes_at old new version false takes = ap (λ (each : ShardState). each.current.at) (takes.swapped refl)
 

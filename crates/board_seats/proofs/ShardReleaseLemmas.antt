@@ -1,11 +1,10 @@
 -- The release of a shard keeps the rule.
-use Rattle.std.proofs.Common.{◌≡◌, ◌≢◌, ℕ, zero, suc, ◌+◌, ◌*◌, ◌<◌, ◌≤◌, List, [], ◌∷◌, inl, inr, length, set, get_or, sym, refl, ap, ◌∙◌, subst, arith, Option, Some, None}
+use Rattle.std.proofs.Common.{◌≡◌, ◌≢◌, ℕ, zero, suc, ◌<◌, ◌≤◌, List, [], ◌∷◌, inl, inr, length, set, get_or, sym, refl, ap, ◌∙◌, subst, arith, Option, Some, None}
 use mathlib.Core.Option.{some, none, some-injective}
 use lib.ListN.{get_elem?}
 use Rattle.std.specs.Prelude.{pred}
 use Rattle.std.proofs.lemmas.List.{length-set}
 use Rattle.part_layout.specs.declared.config.Config.{Config}
-use Rattle.commit_journal.specs.Journals.{JournalState}
 use Rattle.versioned_shard.specs.Shards.{ShardState}
 use Rattle.atomic_table.specs.Table.{State, Me, Allows, rest}
 use Rattle.atomic_table.specs.Table.Act.{gives}

@@ -3,4 +3,5 @@ pub mod EndLemmas
 pub mod FrontCalls
 pub mod MapLemmas
 pub mod SharedLemmas
+pub mod ShardVisits
 pub mod StartLemmas

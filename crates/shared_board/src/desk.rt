@@ -1,13 +1,15 @@
 //! A desk of the board.
 
-ghost use Rattle.std.specs.Prelude.{◌≡◌, ◌≢◌, [], ◌∷◌, length, replicate, IfErr, IfOk, OnErr, Some, None};
+ghost use Rattle.std.specs.Prelude.{◌≡◌, ◌≢◌, ◌+◌, ◌-◌, ◌<◌, ◌≤◌, [], ◌∷◌, length, replicate, IfErr, IfOk, OnErr, Some, None};
 ghost use mathlib.Core.List.{IsPrefix};
 ghost use Rattle.hamming_model.specs.History.{code_at, rows_of};
 ghost use Rattle.hamming_model.specs.Recoded.{IsStoredOperation};
 ghost use Rattle.hamming_model.specs.declared.limits.TheConstants.{SESSIONS_MOST};
 ghost use Rattle.entry_log.specs.Entries.{kept_operation};
-ghost use Rattle.session_desk.specs.Calls.{ClosesFront, CommitsAt, OnlyLearns, OpensFront};
-ghost use Rattle.session_desk.specs.Desks.{IsDesk, IsOwnFront};
+ghost use Rattle.commit_journal.specs.Fronts.{position_of};
+ghost use Rattle.versioned_shard.specs.Shards.{contents_at};
+ghost use Rattle.session_desk.specs.Calls.{ClosesFront, Comes, CommitsAt, OnlyLearns, OpensFront, PinsVersion, TellsLayout};
+ghost use Rattle.session_desk.specs.Desks.{IsDesk, IsOwnFront, pinned_at};
 ghost use Rattle.board_seats.specs.Views.{AmongFronts, AreOfOthers, knower, without_id};
 ghost use Rattle.shared_board.specs.Boards.{HasPlaces, IsAskedFor, board_number};
 ghost use Rattle.shared_board.specs.Shared.{fresh_desk, shared_desk};
@@ -18,11 +20,12 @@ use board_seats::{Place, Seen};
 use commit_journal::{Decided, Front};
 use entry_log::Op;
 use gph_codes::Code;
-use part_layout::Config;
-use read_meter::NoMemory;
+use part_layout::{Config, LayoutText};
+use read_meter::{NoMemory, Steps};
+use shard_version::Version;
 use std::alloc::Global;
 use std::marker::Model;
-use std::sync::Wait;
+use std::sync::{Arc, Wait};
 
 /// A session's desk at a board. It waits for the place that a call needs with its own runtime.
 #[derive(Drop)]
@@ -171,6 +174,46 @@ impl<'b, const W: usize, R: Wait + Copy> SharedDesk<'b, W, R> {
         let place = self.place;
         let rt = self.rt;
         board_seats::close_front(&rt, place, &mut self.seat, front);
+    }
+
+    /// The version of a shard at a front of this desk. The shard comes to the front where it is behind, for one step an entry.
+    ///
+    /// # Errors
+    ///
+    /// `NoMemory` where there is none for the versions on the way. The shard may have come to the front.
+    pub fn pin<M>(
+        &mut self,
+        front: &Front<W>,
+        shard: u32,
+        steps: &mut Steps<M>,
+    ) -> Result<Arc<Version<W>>, NoMemory>
+        requires own { AmongFronts self.old.fronts front.now }
+        requires shard { shard < self.old.config.shards }
+        ensures pinned { IfOk result (λ version. PinsVersion (shared_desk self.old)
+            (shared_desk self.new) front.now shard (contents_at version)) }
+        ensures comes { OnErr result (Comes (shared_desk self.old) (shared_desk self.new) shard
+            self.old.pins) }
+        ensures upkeep { steps.new ≤ steps.old +
+            (position_of front.now - pinned_at (shared_desk self.old) shard) }
+        ensures fronts { self.new.fronts ≡ self.old.fronts }
+    {
+        let place = self.place;
+        let rt = self.rt;
+        let version = board_seats::pin(&rt, place, &mut self.seat, front, shard, steps)?;
+        let layout = PinnedLayout::of(&version)?;
+        self.pins[shard as usize] = Some((front.position(), layout));
+        Ok(version)
+    }
+
+    /// The text of a shard's present layout.
+    pub fn layout_of(&mut self, shard: u32) -> LayoutText
+        requires shard { shard < self.old.config.shards }
+        ensures layout { TellsLayout (shared_desk self.old) (shared_desk self.new) shard result }
+        ensures fronts { self.new.fronts ≡ self.old.fronts }
+    {
+        let place = self.place;
+        let rt = self.rt;
+        board_seats::layout_of(&rt, place, &mut self.seat, shard)
     }
 
     /// A new desk at the same board, which has seen what this one has.

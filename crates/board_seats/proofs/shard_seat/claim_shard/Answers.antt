@@ -1,4 +1,4 @@
-use Rattle.std.proofs.Common.{◌≡◌, suc, ◌+◌, rules, ap, ◌∙◌, arith}
+use Rattle.std.proofs.Common.{◌+◌, rules, ap, ◌∙◌, arith}
 use Rattle.board_seats.proofs.ShardClaimLemmas.{claims_place, shard_taken_from}
 use Rattle.board_seats.proofs.shard_seat.claim_shard.Goals as goal
 

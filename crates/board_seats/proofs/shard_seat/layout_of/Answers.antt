@@ -1,4 +1,4 @@
-use Rattle.std.proofs.Common.{◌≡◌, rules, ap, ◌∙◌, refl}
+use Rattle.std.proofs.Common.{rules, ap, ◌∙◌, refl}
 use Rattle.part_layout.specs.Text.{layout_text}
 use Rattle.board_seats.specs.Told.{shard_in}
 use Rattle.board_seats.proofs.ShardMoveLemmas.{as_it_stood}

@@ -1,4 +1,4 @@
-use Rattle.std.proofs.Common.{◌≡◌, ◌<◌, ◌≤◌, rules, ap, ◌∙◌, sym, subst, refl, arith}
+use Rattle.std.proofs.Common.{◌≡◌, ◌<◌, ◌≤◌, rules, ap, ◌∙◌, sym, subst, arith}
 use Rattle.hamming_model.specs.Recoded.{AreStoredEntries}
 use Rattle.shard_version.specs.Contents.{IsVersion}
 use Rattle.commit_journal.specs.Fronts.{position_of, positions_of}
