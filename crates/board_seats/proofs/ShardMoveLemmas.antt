@@ -21,7 +21,7 @@ use Rattle.versioned_shard.proofs.AlongLemmas.{follows_longer}
 use Rattle.board_seats.specs.declared.rule.View.{View}
 use Rattle.board_seats.specs.Moves.{ReleasesShard}
 use Rattle.board_seats.specs.Rule.{IsBoardShard}
-use Rattle.board_seats.specs.ShardCalls.{CameTo, IsGivenAt, IsMadeApart, SwapsLayout}
+use Rattle.board_seats.specs.ShardCalls.{CameTo, IsGivenAt, IsMadeApart, PutsLayout}
 use Rattle.board_seats.specs.Views.{AmongFronts, IsViewOf}
 
 -- ---- the shard as it stood
@@ -149,7 +149,7 @@ made_stands_in {W} config journal view k shard version knows stands made = recor
 
 -- the shard in the layout of such a version, or as it stood
 pub takes_layout : {W : ℕ} (config : Config) (view : View W) (k : ℕ) (old new : ShardState) (version : Contents) (moved : Bool)
-    → SwapsLayout old new version moved → MayStandIn old version → IsLaid version.layout
+    → PutsLayout old new version moved → MayStandIn old version → IsLaid version.layout
     → ((live : ℕ → Option ℕ) (history : List JournalEntry) (each : ShardState) (other : Contents) → KeepsRule live history each → IsLaid other.layout
     → MayStandIn each other → other.at ≡ each.current.at → KeepsRule live history (with_layout each other.layout))
     → ReleasesShard config view k old new
@@ -169,7 +169,7 @@ takes_layout {W} config view k old new version false takes may laid law = elim (
 ]
 
 -- where it stands then is where it stood
-pub takes_at : (old new : ShardState) (version : Contents) (moved : Bool) → SwapsLayout old new version moved → new.current.at ≡ old.current.at
+pub takes_at : (old new : ShardState) (version : Contents) (moved : Bool) → PutsLayout old new version moved → new.current.at ≡ old.current.at
 takes_at old new version true takes = ap (λ (each : ShardState). each.current.at) (takes.stays refl)
 takes_at old new version false takes = ap (λ (each : ShardState). each.current.at) (takes.swapped refl)
 

@@ -35,7 +35,7 @@ pub record IsMadeApart {W : ℕ} (view : View W) (number : ℕ) (version : Conte
 
 -- a shard has the layout of a version that stands at its position; or it stayed, exactly where that
 -- stands at another
-pub record SwapsLayout (old new : ShardState) (version : Contents) (moved : Bool) : Type 0 where
+pub record PutsLayout (old new : ShardState) (version : Contents) (moved : Bool) : Type 0 where
   pub moved_is : moved ≡ true ↔ (version.at ≢ old.current.at)
   pub swapped : moved ≡ false → new ≡ with_layout old version.layout
   pub stays : moved ≡ true → new ≡ old

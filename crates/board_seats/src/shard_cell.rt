@@ -8,7 +8,7 @@ ghost use Rattle.shard_version.specs.Contents.{IsVersion};
 ghost use Rattle.commit_journal.specs.Fronts.{position_of};
 ghost use Rattle.versioned_shard.specs.Along.{Follows};
 ghost use Rattle.versioned_shard.specs.Shards.{HasVersion, IsOneOf, MayStandIn, advanced, contents_at};
-ghost use Rattle.board_seats.specs.ShardCalls.{CameTo, SwapsLayout};
+ghost use Rattle.board_seats.specs.ShardCalls.{CameTo, PutsLayout};
 ghost use Rattle.board_seats.specs.Told.{shard_in};
 
 use crate::rule::Cell;
@@ -71,7 +71,7 @@ pub(crate) fn swap_in<const W: usize>(
     requires may { MayStandIn (shard_in cell.old) (contents_at prepared.version) }
     ensures cell { cell.new ≡ Cell.Shard (shard_in cell.new) }
     ensures laid { IsLaid (contents_at prepared.entry.version).layout }
-    ensures swapped { SwapsLayout (shard_in cell.old) (shard_in cell.new)
+    ensures swapped { PutsLayout (shard_in cell.old) (shard_in cell.new)
         (contents_at prepared.entry.version) (is_err result) }
     ensures at { IfErr result (λ moved. moved.shard_at ≡ (shard_in cell.old).current.at) }
     ensures back { IfErr result (λ moved. moved.prepared ≡ prepared.entry) }

@@ -4,7 +4,7 @@ ghost use Rattle.std.specs.Prelude.{◌≡◌, ◌+◌, ◌-◌, ◌≤◌, suc,
 ghost use Rattle.part_layout.specs.Text.{layout_text};
 ghost use Rattle.commit_journal.specs.Fronts.{position_of};
 ghost use Rattle.versioned_shard.specs.Shards.{contents_at};
-ghost use Rattle.board_seats.specs.ShardCalls.{CameTo, IsGivenAt, IsMadeApart, SwapsLayout};
+ghost use Rattle.board_seats.specs.ShardCalls.{CameTo, IsGivenAt, IsMadeApart, PutsLayout};
 ghost use Rattle.board_seats.specs.Told.{TakesShard};
 ghost use Rattle.board_seats.specs.Views.{AmongFronts};
 ghost use Rattle.board_seats.specs.Visits.{HasShard, IsFree, VisitedShard};
@@ -116,7 +116,7 @@ pub fn swap<const W: usize, R: Wait>(
     requires made { IsMadeApart me.old.me.0 shard (contents_at prepared.version) }
     ensures table { me.new.table_id ≡ me.old.table_id }
     ensures swapped { (visit : VisitedShard shard me.old.me me.new.me)
-        × SwapsLayout visit.old visit.new (contents_at prepared.entry.version) (is_err result)
+        × PutsLayout visit.old visit.new (contents_at prepared.entry.version) (is_err result)
         × IfErr result (λ moved. moved.shard_at ≡ visit.new.current.at) }
     ensures back { IfErr result (λ moved. moved.prepared ≡ prepared.entry) }
 {

@@ -1,5 +1,5 @@
 -- What a visit of a shard makes of its desk.
-use Rattle.std.proofs.Common.{◌≡◌, ◌≢◌, ◌⊎◌, inl, inr, ℕ, zero, suc, ◌+◌, ◌<◌, ◌≤◌, true≢false, List, [], ◌∷◌, ◌++◌, length, get_or, set, take, refl, sym, ap, subst, ◌∙◌, arith, Option, Some, None}
+use Rattle.std.proofs.Common.{◌≡◌, ◌≢◌, ◌⊎◌, inl, inr, ℕ, zero, suc, ◌+◌, ◌-◌, ◌<◌, ◌≤◌, true≢false, List, [], ◌∷◌, ◌++◌, length, get_or, set, take, refl, sym, ap, subst, ◌∙◌, arith, Option, Some, None}
 use Rattle.std.specs.Prelude.{slice_set}
 use Rattle.std.proofs.lemmas.Bool.{cases_eq}
 use Rattle.std.proofs.lemmas.List.{get_or-set_other, get_or-set_same, length-append, length-set}
@@ -29,9 +29,6 @@ padded_put (suc n) zero x [] low = refl
 padded_put (suc n) zero x (y ∷ l) low = refl
 padded_put (suc n) (suc k) x [] low = ap (λ (r : List ℕ). 0 ∷ r) (padded_put n k x [] (omega (arith, low)))
 padded_put (suc n) (suc k) x (y ∷ l) low = ap (λ (r : List ℕ). y ∷ r) (padded_put n k x l (omega (arith, low)))
-
-none_or : (k : ℕ) → get_or [] k 0 ≡ 0
-none_or k = refl
 
 pub padded_at : (n k : ℕ) (l : List ℕ) → k < n → get_or (padded_to n l) k 0 ≡ get_or l k 0
 padded_at zero k l low = absurd (omega (arith, low))
@@ -78,6 +75,12 @@ module _ {W : ℕ} (table seat : TableId) (me : Me (Cell W) (View W)) (who : ℕ
   -- which was pinned no later
   pub pinned_there : pinned_at before k ≤ visit.old.current.at
   pinned_there = omega (arith, old.desk.pinned k low, padded_at config.shards k me.0.left low, visit.left)
+
+  -- so that a call which takes a step an entry from there on takes no more of them than from the pin
+  pub upkeep_from_pin : (position steps steps' : ℕ) → steps' ≤ steps + (position - get_or me.0.left k 0)
+      → steps' ≤ steps + (position - pinned_at (shared_desk now) k)
+  upkeep_from_pin position steps steps' few = subst (λ (s : SharedState). steps' ≤ steps + (position - pinned_at (shared_desk s) k)) is_now
+      (omega (arith, few, old.desk.pinned k low, padded_at config.shards k me.0.left low))
 
   pub pinned_still : (pins' : List (Option Pin)) (done' late' : ℕ) → pinned_at before k ≤ left_at (after pins' done' late') k
   pinned_still pins' done' late' = omega (arith, pinned_there, visit.never_back, left_there pins' done' late')

@@ -2,7 +2,7 @@ use Rattle.std.proofs.Common.{rules, ap, ◌∙◌, sym, subst}
 use Rattle.std.specs.Prelude.{is_err}
 use Rattle.versioned_shard.specs.Shards.{MayStandIn, contents_at}
 use Rattle.board_seats.specs.declared.rule.Cell.{Cell}
-use Rattle.board_seats.specs.ShardCalls.{SwapsLayout}
+use Rattle.board_seats.specs.ShardCalls.{PutsLayout}
 use Rattle.board_seats.specs.Told.{shard_in}
 use Rattle.board_seats.proofs.ShardMoveLemmas.{at_of, made_stands_in, takes_at, takes_layout}
 use Rattle.board_seats.proofs.ShardReleaseLemmas.{has_shard_slot, holder_knows, home_shard, lies_shard, shard_holder, visited_shard}
@@ -39,7 +39,7 @@ store-requires g c =
     let was = lies_shard c.args.me.now.me c.claim_shard-word.new.me.me c.args.shard t c.claim_shard-word.result at c.slot_mut.result.now _ c.slot_mut.ensures.value in
     let version = contents_at c.args.prepared.version in
     let new = shard_in c.swap_in-swapped.new.cell in
-    let takes = subst (λ s. SwapsLayout s new version (is_err c.swap_in-swapped.result)) (ap shard_in was) c.swap_in-swapped.ensures.swapped in
+    let takes = subst (λ s. PutsLayout s new version (is_err c.swap_in-swapped.result)) (ap shard_in was) c.swap_in-swapped.ensures.swapped in
     let moves = takes_layout t.config (shard_holder c.args.me.now.me c.claim_shard-word.new.me.me c.args.shard t) c.args.shard t.shard new version
     (is_err c.swap_in-swapped.result) takes
     (made_stands_in t.config t.journal c.args.me.now.me.0 c.args.shard t.shard version t.knows t.stands c.requires.made)
@@ -57,7 +57,7 @@ returns-clause-swapped g c =
     let was = lies_shard c.args.me.now.me c.claim_shard-word.new.me.me c.args.shard t c.claim_shard-word.result at c.slot_mut.result.now _ c.slot_mut.ensures.value in
     let version = contents_at c.args.prepared.version in
     let new = shard_in c.swap_in-swapped.new.cell in
-    let takes = subst (λ s. SwapsLayout s new version (is_err c.swap_in-swapped.result)) (ap shard_in was) c.swap_in-swapped.ensures.swapped in
+    let takes = subst (λ s. PutsLayout s new version (is_err c.swap_in-swapped.result)) (ap shard_in was) c.swap_in-swapped.ensures.swapped in
     let moves = takes_layout t.config (shard_holder c.args.me.now.me c.claim_shard-word.new.me.me c.args.shard t) c.args.shard t.shard new version
     (is_err c.swap_in-swapped.result) takes
     (made_stands_in t.config t.journal c.args.me.now.me.0 c.args.shard t.shard version t.knows t.stands c.requires.made)
