@@ -133,10 +133,10 @@ module _ {W : ℕ} (table seat : TableId) (me : Me (Cell W) (View W)) (who : ℕ
   pub visited_same : (done' late' : ℕ) → IsSeated table seat' me' (seated_of table who config me'.0 last pins done' late')
   visited_same done' late' = visited_seated pins done' late' refl (λ _ _. refl) (omega (arith, pinned_there, visit.never_back))
 
-  visited_learns : Learns before me'.0.seen
+  pub visited_learns : Learns before me'.0.seen
   visited_learns = subst (Learns before) (sym seen_is) (learns_history table seat me who config last pins done late old now is_now visit.config visit.journal visit.knows)
 
-  visited_after : (pins' : List (Option Pin)) (done' late' : ℕ) → after pins' done' late' ≡ record before {
+  pub visited_after : (pins' : List (Option Pin)) (done' late' : ℕ) → after pins' done' late' ≡ record before {
     seen = me'.0.seen;
     pins = pins';
     left = slice_set before.left k (left_at (after pins' done' late') k);

@@ -1,6 +1,6 @@
 //! A desk of the board.
 
-ghost use Rattle.std.specs.Prelude.{◌≡◌, ◌≢◌, ◌+◌, ◌-◌, ◌<◌, ◌≤◌, [], ◌∷◌, length, replicate, IfErr, IfOk, OnErr, Some, None};
+ghost use Rattle.std.specs.Prelude.{◌≡◌, ◌≢◌, ◌+◌, ◌-◌, ◌<◌, ◌≤◌, [], ◌∷◌, length, replicate, if◌then◌else◌, IfErr, IfOk, OnErr, Some, None, is_err};
 ghost use mathlib.Core.List.{IsPrefix};
 ghost use Rattle.hamming_model.specs.History.{code_at, rows_of};
 ghost use Rattle.hamming_model.specs.Recoded.{IsStoredOperation};
@@ -8,8 +8,9 @@ ghost use Rattle.hamming_model.specs.declared.limits.TheConstants.{SESSIONS_MOST
 ghost use Rattle.entry_log.specs.Entries.{kept_operation};
 ghost use Rattle.commit_journal.specs.Fronts.{position_of};
 ghost use Rattle.versioned_shard.specs.Shards.{contents_at};
-ghost use Rattle.session_desk.specs.Calls.{ClosesFront, Comes, CommitsAt, OnlyLearns, OpensFront, PinsVersion, TellsLayout};
-ghost use Rattle.session_desk.specs.Desks.{IsDesk, IsOwnFront, pinned_at};
+ghost use Rattle.session_desk.specs.Calls.{ClosesFront, Comes, CommitsAt, IsMadeFor, OnlyLearns, OpensFront};
+ghost use Rattle.session_desk.specs.Calls.{PinsVersion, Swaps, TellsLayout, is_late, one_more};
+ghost use Rattle.session_desk.specs.Desks.{IsDesk, IsOwnFront, left_at, pinned_at};
 ghost use Rattle.board_seats.specs.Views.{AmongFronts, AreOfOthers, knower, without_id};
 ghost use Rattle.shared_board.specs.Boards.{HasPlaces, IsAskedFor, board_number};
 ghost use Rattle.shared_board.specs.Shared.{fresh_desk, shared_desk};
@@ -22,10 +23,11 @@ use entry_log::Op;
 use gph_codes::Code;
 use part_layout::{Config, LayoutText};
 use read_meter::{NoMemory, Steps};
-use shard_version::Version;
+use shard_version::{Prepared, Version};
 use std::alloc::Global;
 use std::marker::Model;
 use std::sync::{Arc, Wait};
+use versioned_shard::Moved;
 
 /// A session's desk at a board. It waits for the place that a call needs with its own runtime.
 #[derive(Drop)]
@@ -216,6 +218,36 @@ impl<'b, const W: usize, R: Wait + Copy> SharedDesk<'b, W, R> {
         board_seats::layout_of(&rt, place, &mut self.seat, shard)
     }
 
+    /// Puts a version that was made apart in the place of a shard's present one, which it stands at one position with.
+    ///
+    /// # Errors
+    ///
+    /// `Moved` exactly where the positions differ, with that of the shard; the version is handed back.
+    pub fn swap(&mut self, shard: u32, prepared: Prepared<W>) -> Result<(), Moved<W>>
+        requires shard { shard < self.old.config.shards }
+        requires made { IsMadeFor (shared_desk self.old) shard (contents_at prepared.version) }
+        ensures swapped { Swaps (shared_desk self.old) (shared_desk self.new) shard
+            (contents_at prepared.entry.version) (is_err result) }
+        ensures at { IfErr result (λ moved. moved.shard_at ≡ left_at (shared_desk self.new) shard) }
+        ensures back { IfErr result (λ moved. moved.prepared ≡ prepared.entry) }
+        ensures fronts { self.new.fronts ≡ self.old.fronts }
+    {
+        let place = self.place;
+        let rt = self.rt;
+        let position = prepared.version.at();
+        let swapped = board_seats::swap(&rt, place, &mut self.seat, shard, prepared);
+        match swapped {
+            Ok(()) => {
+                self.done = one_more(self.done);
+                Ok(())
+            }
+            Err(moved) => {
+                self.late = late_after(self.late, self.last, position, moved.shard_at);
+                Err(moved)
+            }
+        }
+    }
+
     /// A new desk at the same board, which has seen what this one has.
     ///
     /// # Errors
@@ -331,6 +363,24 @@ impl<'b, const W: usize, R: Wait + Copy> SharedDesk<'b, W, R> {
         } = self;
         Standing { seat }
     }
+}
+
+// The count of late swaps after one more that was moved.
+fn late_after(late: u64, last: u64, prepared_at: u64, shard_at: u64) -> u64
+    ensures { result ≡ if is_late last prepared_at shard_at then one_more late else late }
+{
+    if prepared_at == last && last < shard_at {
+        one_more(late)
+    } else {
+        late
+    }
+}
+
+// One more, where there is room.
+fn one_more(count: u64) -> u64
+    ensures { result ≡ one_more count }
+{
+    count.saturating_add(1)
 }
 
 // A pin for each of so many shards, of which none gave a version yet.
