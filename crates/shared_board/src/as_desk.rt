@@ -52,8 +52,7 @@ impl<'b, const W: usize, R: Wait + Copy> Desk<W> for SharedDesk<'b, W, R> {
     }
 
     fn length(&mut self) -> u64 {
-        let (_code, length) = self.code_of(0);
-        length
+        self.length()
     }
 
     fn open_front(&mut self) -> Result<Front<W>, NoMemory> {

@@ -144,6 +144,18 @@ impl<'b, const W: usize, R: Wait + Copy> SharedDesk<'b, W, R> {
         board_seats::code_of(&rt, place, &mut self.seat, key)
     }
 
+    /// How many entries there are.
+    pub fn length(&mut self) -> u64
+        ensures length { result ≡ length self.new.seen }
+        ensures learns { OnlyLearns (shared_desk self.old) (shared_desk self.new) }
+        ensures fronts { self.new.fronts ≡ self.old.fronts }
+    {
+        let place = self.place;
+        let rt = self.rt;
+        let (_code, length) = board_seats::code_of(&rt, place, &mut self.seat, 0);
+        length
+    }
+
     /// A front at the length of all that is seen.
     ///
     /// # Errors
