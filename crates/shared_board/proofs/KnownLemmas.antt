@@ -1,12 +1,12 @@
 -- The fronts that a desk knows.
-use Rattle.std.proofs.Common.{◌≡◌, ◌≢◌, ℕ, ◌==◌, Bool, true, false, cond, List, [], ◌∷◌, inl, inr, refl, sym, ap, subst, ◌∙◌, eqb-true, eq-eqb, Option, Some, None}
+use Rattle.std.proofs.Common.{◌≡◌, ◌≢◌, ℕ, ◌==◌, Bool, true, false, cond, List, [], ◌∷◌, inl, inr, refl, sym, ap, subst, ◌∙◌, eqb-true, eq-eqb, Some, None}
 use Rattle.std.specs.Prelude.{IfOk, OnErr}
 use Rattle.std.specs.declared.result.Result.{Result}
 use Rattle.std.specs.declared.result.Result.TheVariants.{Ok, Err}
 use Rattle.std.specs.FinMap as map
 use Rattle.commit_journal.specs.Fronts.{FrontState, position_of}
-use Rattle.session_desk.specs.Calls.{ClosesFront, KeepsKnown}
-use Rattle.session_desk.specs.Desks.{DeskState, IsOwnFront}
+use Rattle.session_desk.specs.Calls.{KeepsKnown}
+use Rattle.session_desk.specs.Desks.{DeskState}
 use Rattle.board_seats.specs.Views.{AmongFronts, without_id}
 use Rattle.board_seats.proofs.FrontLemmas.{map_remove}
 use Rattle.shared_board.specs.Shared.{SharedState, live_map, shared_desk}

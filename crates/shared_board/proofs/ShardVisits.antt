@@ -1,12 +1,11 @@
 -- What a visit of a shard makes of its desk.
-use Rattle.std.proofs.Common.{◌≡◌, ◌≢◌, ◌⊎◌, inl, inr, ℕ, zero, suc, ◌+◌, ◌-◌, ◌<◌, ◌≤◌, true≢false, List, [], ◌∷◌, ◌++◌, length, get_or, set, take, refl, sym, ap, subst, ◌∙◌, arith, Option, Some, None}
+use Rattle.std.proofs.Common.{◌≡◌, ◌≢◌, ◌⊎◌, inl, inr, ℕ, zero, suc, ◌+◌, ◌-◌, ◌<◌, ◌≤◌, true≢false, List, [], ◌∷◌, length, get_or, set, take, refl, sym, ap, subst, ◌∙◌, arith, Option, Some, None}
 use Rattle.std.specs.Prelude.{slice_set}
 use Rattle.std.proofs.lemmas.Bool.{cases_eq}
 use Rattle.std.proofs.lemmas.List.{get_or-set_other, get_or-set_same, length-append, length-set}
 use Rattle.hamming_model.specs.History.{IsLegal, JournalEntry, rows_of, shard_rows}
 use Rattle.hamming_model.specs.Recoded.{AreStoredEntries, cut_history}
 use Rattle.part_layout.specs.declared.config.Config.{Config}
-use Rattle.part_layout.specs.Laid.{Laid}
 use Rattle.part_layout.specs.Text.{layout_text}
 use Rattle.shard_version.specs.Contents.{Contents}
 use Rattle.commit_journal.specs.Fronts.{FrontState, position_of}

@@ -1,6 +1,5 @@
 -- The desk learns the history that it finds at the shard, whose text it tells.
-use Rattle.shared_board.proofs.ShardVisits.{visited_fronts, visited_same, visited_tells}
-use Rattle.std.proofs.Common.{ap, ◌∙◌}
+use Rattle.shared_board.proofs.ShardVisits.{visited_same, visited_tells}
 use Rattle.shared_board.proofs.desk.SharedDesk.layout_of.Goals as goal
 
 pub invariant_of-self : goal.invariant_of-self

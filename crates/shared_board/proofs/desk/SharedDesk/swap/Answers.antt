@@ -1,10 +1,10 @@
 -- The desk learns the history that it finds at the shard, and counts the swap.
-use Rattle.std.proofs.Common.{ap, ◌∙◌, ◌≡◌, refl, rules, arith, true, false, ℕ, sym, subst}
+use Rattle.std.proofs.Common.{ap, ◌∙◌, refl, true, false, ℕ, sym}
 use Rattle.std.specs.Prelude.{if◌then◌else◌}
 use Rattle.shard_version.specs.Tables.{Tabled}
 use Rattle.versioned_shard.specs.Shards.{contents_at}
 use Rattle.session_desk.specs.Calls.{is_late, one_more}
-use Rattle.shared_board.proofs.ShardSwaps.{made_apart, visited_swaps}
+use Rattle.shared_board.proofs.ShardSwaps.{visited_swaps}
 use Rattle.shared_board.proofs.ShardVisits.{left_there, visited_same}
 use Rattle.shared_board.proofs.desk.SharedDesk.swap.Goals as goal
 
