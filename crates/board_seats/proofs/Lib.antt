@@ -3,4 +3,7 @@ pub mod FrontLemmas
 pub mod MoveLemmas
 pub mod ReleaseLemmas
 pub mod SeatLemmas
+pub mod ShardClaimLemmas
+pub mod ShardMoveLemmas
+pub mod ShardReleaseLemmas
 pub mod TableLemmas

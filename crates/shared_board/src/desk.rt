@@ -1,13 +1,16 @@
 //! A desk of the board.
 
-ghost use Rattle.std.specs.Prelude.{◌≡◌, ◌≢◌, [], ◌∷◌, length, replicate, IfErr, IfOk, OnErr, Some, None};
+ghost use Rattle.std.specs.Prelude.{◌≡◌, ◌≢◌, ◌+◌, ◌-◌, ◌<◌, ◌≤◌, [], ◌∷◌, length, replicate, if◌then◌else◌, IfErr, IfOk, OnErr, Some, None, is_err};
 ghost use mathlib.Core.List.{IsPrefix};
 ghost use Rattle.hamming_model.specs.History.{code_at, rows_of};
 ghost use Rattle.hamming_model.specs.Recoded.{IsStoredOperation};
 ghost use Rattle.hamming_model.specs.declared.limits.TheConstants.{SESSIONS_MOST};
 ghost use Rattle.entry_log.specs.Entries.{kept_operation};
-ghost use Rattle.session_desk.specs.Calls.{ClosesFront, CommitsAt, OnlyLearns, OpensFront};
-ghost use Rattle.session_desk.specs.Desks.{IsDesk, IsOwnFront};
+ghost use Rattle.commit_journal.specs.Fronts.{position_of};
+ghost use Rattle.versioned_shard.specs.Shards.{contents_at};
+ghost use Rattle.session_desk.specs.Calls.{ClosesFront, Comes, CommitsAt, IsMadeFor, OnlyLearns, OpensFront};
+ghost use Rattle.session_desk.specs.Calls.{PinsVersion, Swaps, TellsLayout, is_late, one_more};
+ghost use Rattle.session_desk.specs.Desks.{IsDesk, IsOwnFront, left_at, pinned_at};
 ghost use Rattle.board_seats.specs.Views.{AmongFronts, AreOfOthers, knower, without_id};
 ghost use Rattle.shared_board.specs.Boards.{HasPlaces, IsAskedFor, board_number};
 ghost use Rattle.shared_board.specs.Shared.{fresh_desk, shared_desk};
@@ -18,11 +21,13 @@ use board_seats::{Place, Seen};
 use commit_journal::{Decided, Front};
 use entry_log::Op;
 use gph_codes::Code;
-use part_layout::Config;
-use read_meter::NoMemory;
+use part_layout::{Config, LayoutText};
+use read_meter::{NoMemory, Steps};
+use shard_version::{Prepared, Version};
 use std::alloc::Global;
 use std::marker::Model;
-use std::sync::Wait;
+use std::sync::{Arc, Wait};
+use versioned_shard::Moved;
 
 /// A session's desk at a board. It waits for the place that a call needs with its own runtime.
 #[derive(Drop)]
@@ -139,6 +144,18 @@ impl<'b, const W: usize, R: Wait + Copy> SharedDesk<'b, W, R> {
         board_seats::code_of(&rt, place, &mut self.seat, key)
     }
 
+    /// How many entries there are.
+    pub fn length(&mut self) -> u64
+        ensures length { result ≡ length self.new.seen }
+        ensures learns { OnlyLearns (shared_desk self.old) (shared_desk self.new) }
+        ensures fronts { self.new.fronts ≡ self.old.fronts }
+    {
+        let place = self.place;
+        let rt = self.rt;
+        let (_code, length) = board_seats::code_of(&rt, place, &mut self.seat, 0);
+        length
+    }
+
     /// A front at the length of all that is seen.
     ///
     /// # Errors
@@ -171,6 +188,76 @@ impl<'b, const W: usize, R: Wait + Copy> SharedDesk<'b, W, R> {
         let place = self.place;
         let rt = self.rt;
         board_seats::close_front(&rt, place, &mut self.seat, front);
+    }
+
+    /// The version of a shard at a front of this desk. The shard comes to the front where it is behind, for one step an entry.
+    ///
+    /// # Errors
+    ///
+    /// `NoMemory` where there is none for the versions on the way. The shard may have come to the front.
+    pub fn pin<M>(
+        &mut self,
+        front: &Front<W>,
+        shard: u32,
+        steps: &mut Steps<M>,
+    ) -> Result<Arc<Version<W>>, NoMemory>
+        requires own { AmongFronts self.old.fronts front.now }
+        requires shard { shard < self.old.config.shards }
+        ensures pinned { IfOk result (λ version. PinsVersion (shared_desk self.old)
+            (shared_desk self.new) front.now shard (contents_at version)) }
+        ensures comes { OnErr result (Comes (shared_desk self.old) (shared_desk self.new) shard
+            self.old.pins) }
+        ensures upkeep { steps.new ≤ steps.old +
+            (position_of front.now - pinned_at (shared_desk self.old) shard) }
+        ensures fronts { self.new.fronts ≡ self.old.fronts }
+    {
+        let place = self.place;
+        let rt = self.rt;
+        let version = board_seats::pin(&rt, place, &mut self.seat, front, shard, steps)?;
+        let layout = PinnedLayout::of(&version)?;
+        self.pins[shard as usize] = Some((front.position(), layout));
+        Ok(version)
+    }
+
+    /// The text of a shard's present layout.
+    pub fn layout_of(&mut self, shard: u32) -> LayoutText
+        requires shard { shard < self.old.config.shards }
+        ensures layout { TellsLayout (shared_desk self.old) (shared_desk self.new) shard result }
+        ensures fronts { self.new.fronts ≡ self.old.fronts }
+    {
+        let place = self.place;
+        let rt = self.rt;
+        board_seats::layout_of(&rt, place, &mut self.seat, shard)
+    }
+
+    /// Puts a version that was made apart in the place of a shard's present one, which it stands at one position with.
+    ///
+    /// # Errors
+    ///
+    /// `Moved` exactly where the positions differ, with that of the shard; the version is handed back.
+    pub fn swap(&mut self, shard: u32, prepared: Prepared<W>) -> Result<(), Moved<W>>
+        requires shard { shard < self.old.config.shards }
+        requires made { IsMadeFor (shared_desk self.old) shard (contents_at prepared.version) }
+        ensures swapped { Swaps (shared_desk self.old) (shared_desk self.new) shard
+            (contents_at prepared.entry.version) (is_err result) }
+        ensures at { IfErr result (λ moved. moved.shard_at ≡ left_at (shared_desk self.new) shard) }
+        ensures back { IfErr result (λ moved. moved.prepared ≡ prepared.entry) }
+        ensures fronts { self.new.fronts ≡ self.old.fronts }
+    {
+        let place = self.place;
+        let rt = self.rt;
+        let position = prepared.version.at();
+        let swapped = board_seats::swap(&rt, place, &mut self.seat, shard, prepared);
+        match swapped {
+            Ok(()) => {
+                self.done = one_more(self.done);
+                Ok(())
+            }
+            Err(moved) => {
+                self.late = late_after(self.late, self.last, position, moved.shard_at);
+                Err(moved)
+            }
+        }
     }
 
     /// A new desk at the same board, which has seen what this one has.
@@ -288,6 +375,24 @@ impl<'b, const W: usize, R: Wait + Copy> SharedDesk<'b, W, R> {
         } = self;
         Standing { seat }
     }
+}
+
+// The count of late swaps after one more that was moved.
+fn late_after(late: u64, last: u64, prepared_at: u64, shard_at: u64) -> u64
+    ensures { result ≡ if is_late last prepared_at shard_at then one_more late else late }
+{
+    if prepared_at == last && last < shard_at {
+        one_more(late)
+    } else {
+        late
+    }
+}
+
+// One more, where there is room.
+fn one_more(count: u64) -> u64
+    ensures { result ≡ one_more count }
+{
+    count.saturating_add(1)
 }
 
 // A pin for each of so many shards, of which none gave a version yet.

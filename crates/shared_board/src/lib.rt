@@ -2,6 +2,7 @@
 //! speaks of one history, of which each desk has seen the beginning.
 #![tactic(auto)]
 
+mod as_desk;
 mod board;
 mod desk;
 mod pinned_layout;
