@@ -10,7 +10,8 @@
             print(distance, key)
 
 An `Index` is one session of the program, which it starts on a pipe. The rows are held in memory and end with it. It is for one
-thread at a time.
+thread at a time. With `port=N` it is a session of a program that listens on this machine (`gph listen --port N ..`): its rows are
+those of all sessions there, and stay when it ends.
 
 Keys are whole numbers from 0 to 2**64 - 1. Codes have as many bits as the index says, and are given in any of three forms: a whole
 number from 0 to 2**bits - 1, `bits / 8` bytes with the top byte first, or `bits / 4` hexadecimal digits. Distances are in bits.
@@ -29,6 +30,7 @@ import operator
 import os
 import select
 import shutil
+import socket
 import subprocess
 import sys
 import time
@@ -48,6 +50,8 @@ _Request = Tuple[bytes, int]
 
 # the most hits of one `next`, and the most neighbours of one `near`
 TURN, NEAREST = 65_536, 1_048_576
+# the most entries that there may be
+ENTRIES = 1_048_576
 # bytes that a pipe gives or takes at once
 BLOCK = 65_536
 # requests under way in a bulk call: rows in each group that is sent at once, groups, and queries
@@ -98,7 +102,8 @@ class GphError(Exception):
 
 
 class Ended(GphError):
-    """The program has ended, and the rows with it. `status` is its exit status, or less a signal's number where that ended it."""
+    """The program has ended, and the rows with it. `status` is its exit status, or less a signal's number where that ended it; None
+    where it was a connection that ended."""
 
     CAUSES = {
         0: "at the end of its input",
@@ -112,11 +117,13 @@ class Ended(GphError):
         130: "its build was interrupted",
     }
 
-    def __init__(self, status: int) -> None:
+    def __init__(self, status: Optional[int]) -> None:
         super().__init__(status)
         self.status = status
 
     def __str__(self) -> str:
+        if self.status is None:
+            return "the connection has ended"
         cause = f"by signal {-self.status}" if self.status < 0 else self.CAUSES.get(self.status, "see its line on standard error")
         return f"the program ended with status {self.status}: {cause}"
 
@@ -255,15 +262,56 @@ class _Asked:
         self.replies: List[_Reply] = []
 
 
-class _Channel:
-    """The program on two pipes. Requests are answered in the order in which they are sent. Neither pipe is waited for alone, since
-    the program reads on only once its replies are taken in."""
+class _Process:
+    """The program, started on two pipes, by whose descriptors it is asked and answers."""
 
     def __init__(self, words: Sequence[str]) -> None:
-        self._process = subprocess.Popen(words, stdin=subprocess.PIPE, stdout=subprocess.PIPE, bufsize=0)
-        assert self._process.stdin and self._process.stdout
-        self._pipes = self._process.stdin, self._process.stdout
-        self._to, self._from = (pipe.fileno() for pipe in self._pipes)
+        self.process = subprocess.Popen(words, stdin=subprocess.PIPE, stdout=subprocess.PIPE, bufsize=0)
+        assert self.process.stdin and self.process.stdout
+        self._pipes = self.process.stdin, self.process.stdout
+        self.to, self.back = (pipe.fileno() for pipe in self._pipes)
+
+    def stop(self) -> None:
+        self.process.terminate()
+
+    def close(self) -> None:
+        """Closes the pipes, and waits for the program to end."""
+        for pipe in self._pipes:
+            pipe.close()
+        self.process.wait()
+
+    def status(self) -> Optional[int]:
+        return self.process.wait()
+
+
+class _Connection:
+    """A connection to a program that listens, under two descriptors, as if it were two pipes."""
+
+    def __init__(self, port: int) -> None:
+        self._socket = socket.create_connection(("127.0.0.1", port))
+        # a few lines are sent at a time, each time all that there is to send
+        self._socket.setsockopt(socket.IPPROTO_TCP, socket.TCP_NODELAY, 1)
+        self._other = self._socket.dup()
+        self.to, self.back = self._socket.fileno(), self._other.fileno()
+
+    def stop(self) -> None:
+        """A connection is at its end when it is closed."""
+
+    def close(self) -> None:
+        self._socket.close()
+        self._other.close()
+
+    def status(self) -> Optional[int]:
+        return None
+
+
+class _Channel:
+    """The program on two pipes, or on a connection. Requests are answered in the order in which they are sent. Neither pipe is
+    waited for alone, since the program reads on only once its replies are taken in."""
+
+    def __init__(self, program: Union[_Process, _Connection]) -> None:
+        self._program = program
+        self._to, self._from = program.to, program.back
         os.set_blocking(self._to, False)
         self._poll = select.poll()
         self._poll.register(self._from, select.POLLIN)
@@ -276,7 +324,7 @@ class _Channel:
     def ask(self, lines: bytes, number: int) -> _Asked:
         """Sends lines to which so many replies come, as far as the pipe takes them now. Raises `Ended`."""
         if not self._is_open:
-            raise Ended(self._process.wait())
+            raise Ended(self._program.status())
         asked = _Asked(number)
         with self._whole():
             self._waiting.append(asked)
@@ -288,7 +336,7 @@ class _Channel:
         """Waits for the replies to what was asked, and takes in all before them. Raises `Ended`."""
         while asked.left:
             if not self._is_open:
-                raise Ended(self._process.wait())
+                raise Ended(self._program.status())
             self._turn(None)
         return asked.replies
 
@@ -303,15 +351,13 @@ class _Channel:
 
     def stop(self) -> None:
         """Ends the program at once; what it was asked for and hasn't answered is dropped."""
-        self._process.terminate()
+        self._program.stop()
         self._finish()
 
     def _finish(self) -> None:
-        """Closes the pipes, and waits for the program to end."""
+        """Closes both ways, and waits for the program to end where it was started for this."""
         self._is_open = False
-        for pipe in self._pipes:
-            pipe.close()
-        self._process.wait()
+        self._program.close()
 
     def _turn(self, milliseconds: Optional[int]) -> None:
         """Writes and reads what the pipes take and have, after waiting for either for so long; None is without end."""
@@ -340,13 +386,16 @@ class _Channel:
     def _write(self) -> None:
         try:
             sent = os.write(self._to, self._unsent[:BLOCK])
-        except BrokenPipeError:
+        except (BrokenPipeError, ConnectionResetError):
             # the program has ended: what it wrote before is still to be read
             sent = len(self._unsent)
         del self._unsent[:sent]
 
     def _read(self) -> None:
-        block = os.read(self._from, BLOCK)
+        try:
+            block = os.read(self._from, BLOCK)
+        except ConnectionResetError:
+            block = b""
         if not block:
             self._finish()
             return
@@ -488,27 +537,36 @@ class Index:
     """
 
     def __init__(
-        self, bits: int = 64, parts: Optional[int] = None, shards: int = 4, program: Optional[str] = None, entries: int = 1_048_576
+        self, bits: int = 64, parts: Optional[int] = None, shards: int = 4, program: Optional[str] = None, entries: int = 1_048_576,
+        port: Optional[int] = None,
     ) -> None:
-        """Starts the program, and waits until it answers: where the launcher has to build it first that takes minutes.
+        """Starts the program, and waits until it answers: where the launcher has to build it first that takes minutes. Or connects
+        to one that listens on this machine, and waits until it is served there.
 
         bits     of each code: a multiple of 8 from 8 to 256
         parts    that a code is cut into: 1 to 64, none of them over 12 bits; bits / 8 where left out
         shards   that the rows are kept in, by the remainder of the key: 1 to 16
         program  the path of the program or of its launcher; where left out, that beside this file, or else `gph` on the PATH
         entries  the most adds and deletes together: 1 to 1,048,576
+        port     where a program listens whose codes have these bits: 1 to 65,535; the other words are then those that it was
+                 started with, and mean nothing here
 
-        Raises `FileNotFoundError` where there is no program, and `Ended` where it doesn't start.
+        Raises `FileNotFoundError` where there is no program, `ConnectionRefusedError` where none listens, and `Ended` where it doesn't
+        start or serves no further session.
         """
         self.bits = _within(bits, 8, 256, "bits")
         if bits % 8:
             raise ValueError(f"bits is a multiple of 8, not {bits}")
         self.parts = _within(bits // 8 if parts is None else parts, -(-bits // 12), min(bits, 64), "parts")
         self.shards = _within(shards, 1, 16, "shards")
-        words = [program or _launcher(), "run", f"--bits={bits}", f"--parts={self.parts}", f"--shards={shards}"]
-        self._channel = _Channel([*words, f"--entries={_within(entries, 1, 1_048_576, 'entries')}"])
-        # rows that there may be, queries opened so far, and the names of those that nobody refers to any more
-        self._adds = 0
+        _within(entries, 1, ENTRIES, "entries")
+        if port is None:
+            words = [program or _launcher(), "run", f"--bits={bits}", f"--parts={self.parts}", f"--shards={shards}"]
+            self._channel = _Channel(_Process([*words, f"--entries={entries}"]))
+        else:
+            self._channel = _Channel(_Connection(_within(port, 1, 65_535, "port")))
+        # rows that there may be, others' among them, queries opened so far, and the names of those that nobody refers to any more
+        self._adds = 0 if port is None else ENTRIES
         self._opened = 0
         self._dropped: List[bytes] = []
         try:
@@ -527,7 +585,8 @@ class Index:
             self._channel.stop()
 
     def close(self) -> None:
-        """Ends the program, once it has answered what it was asked for. A further `close` does nothing; others raise `Ended`."""
+        """Ends the program, or the connection, once what was asked for is answered. A further `close` does nothing; others raise
+        `Ended`."""
         self._channel.close()
 
     def add(self, key: int, code: Code) -> int:

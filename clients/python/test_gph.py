@@ -318,7 +318,7 @@ class Refusals(unittest.TestCase):
 class Ends(unittest.TestCase):
     def test_a_program_that_is_ended_is_told_and_stays_so(self) -> None:
         with worked() as it:
-            process = it._channel._process.pid
+            process = it._channel._program.process.pid
             os.kill(process, signal.SIGKILL)
             os.waitid(os.P_PID, process, os.WEXITED | os.WNOWAIT)
             for _ in range(2):
@@ -375,7 +375,7 @@ class Ends(unittest.TestCase):
     def test_an_exception_inside_the_with_ends_the_program(self) -> None:
         with self.assertRaises(KeyError):
             with index() as it:
-                process = it._channel._process
+                process = it._channel._program.process
                 raise KeyError
         self.assertEqual(process.returncode, -signal.SIGTERM)
 

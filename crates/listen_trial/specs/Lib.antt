@@ -1,0 +1,2 @@
+pub mod Mock
+pub mod Crews
