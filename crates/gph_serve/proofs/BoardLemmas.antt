@@ -1,6 +1,7 @@
 -- Lemmas on a session at a desk of a board: what it leaves of the desk, however it ended, and that it comes to its end.
 use Rattle.std.proofs.Common.{◌≡◌, ℕ, ◌⊎◌, Option, Some, None, List, [], ◌∷◌, ◌++◌, map}
-use Rattle.std.proofs.Common.{refl, sym, ap, ◌∙◌, subst, inl, inr, map_append}
+use Rattle.std.proofs.Common.{refl, sym, ap, ◌∙◌, inl, inr}
+use Rattle.std.proofs.lemmas.List.{map-append}
 use Rattle.std.specs.FinMap.{get-empty}
 use Rattle.std.specs.FinMap as fin
 use Rattle.std.specs.Ordering.{nat_cmp}
@@ -19,7 +20,7 @@ use Rattle.gph_session.specs.declared.report.Status.{Status}
 use Rattle.gph_session.specs.declared.report.Status.TheVariants.{Done, InputLimit, NoMemory, ReadFault, WriteFault}
 use Rattle.gph_session.specs.Sessions.{EndsBy, IsServed, Told, told_by}
 use Rattle.session_model.specs.Entries.{Exchange}
-use Rattle.shared_board.specs.Shared.{SharedState, live_map, shared_desk}
+use Rattle.shared_board.specs.Shared.{live_map}
 use Rattle.shared_board.proofs.MapLemmas.{own_there}
 use Rattle.gph_serve.specs.BoardSession.{IsCompleteSession, KeepsSeat}
 use Rattle.gph_serve.proofs.CompleteLemmas.{not_within}
@@ -47,7 +48,7 @@ learned old new h = record {
   more = map (cut_entry old.config.bits) h.learns.more;
   longer = ap (λ (c : Config). map (cut_entry c.bits) new.seen) (ap (λ (d : DeskState). d.config) h.after)
       ∙ ap (map (cut_entry old.config.bits)) h.learns.longer
-      ∙ map_append (cut_entry old.config.bits) old.seen h.learns.more;
+      ∙ map-append (cut_entry old.config.bits) old.seen h.learns.more;
 }
 
 -- so is one over which a session was served
@@ -89,5 +90,5 @@ no_front_in (first ∷ fronts) none =
     let never : Some (first.who, position_of first) ≡ None = sym there ∙ gone in
     absurd cc
 
-pub no_fronts_left : (old new : SharedState) → KeepsSeat (shared_desk old) (shared_desk new) → old.fronts ≡ [] → new.fronts ≡ []
-no_fronts_left old new kept none = no_front_in new.fronts (kept.keeps.fronts ∙ ap live_map none)
+pub no_fronts_left : (old new : List FrontState) → live_map new ≡ live_map old → old ≡ [] → new ≡ []
+no_fronts_left old new same none = no_front_in new (same ∙ ap live_map none)
