@@ -12,6 +12,7 @@ use Rattle.command_line.specs.declared.command.Command.TheVariants.{Run, Load}
 use Rattle.gph_serve.specs.declared.outcome.Outcome.{Outcome}
 use Rattle.gph_serve.specs.declared.outcome.Outcome.TheVariants.{Done, Usage, NoMemory}
 use Rattle.gph_serve.specs.declared.outcome.Outcome.TheVariants.{ReadFault, WriteFault, InputLimit}
+use Rattle.session_model.specs.Entries.{Exchange}
 use Rattle.session_model.specs.Ledger.{Rise}
 use Rattle.session_model.specs.Run.{IsRunAlone, has_quit}
 use Rattle.session_model.specs.Outside.{Call, Untouched}
@@ -88,9 +89,9 @@ past_limit config input bytes full goes front (inr quits) =
     let never : true ≡ false = sym quits ∙ ap (λ b. has_quit config (lines b false)) same ∙ goes in
     cc
 
-not_within : (config : Config) (input : List ℕ) (it : Call) (rise : Rise) → it.before.source.bytes ≡ Some input
-    → IsInputLimit IsRunAlone config it rise → IsWithin config input → ⊥
-not_within config input it rise told reached within =
+pub not_within : (Served : Config → List Exchange → Rise → Type 0) (config : Config) (input : List ℕ) (it : Call) (rise : Rise)
+    → it.before.source.bytes ≡ Some input → IsInputLimit Served config it rise → IsWithin config input → ⊥
+not_within Served config input it rise told reached within =
     let left' = it.after.source.bytes in
     let front = front_taken input left' reached.bytes reached.past
     (subst (λ left. Consumes left left' (reached.bytes ++ reached.past ∷ [])) told reached.read) in
@@ -106,7 +107,7 @@ is_complete ReadFault config input it told served within read wrote = absurd (re
 is_complete WriteFault config input it told served within read wrote = absurd (wrote served.ended.rose)
 is_complete NoMemory config input it told served within read wrote = inr refl
 is_complete InputLimit config input it told served within read wrote =
-    absurd (not_within config input it served.rise told served.ended within)
+    absurd (not_within IsRunAlone config input it served.rise told served.ended within)
 
 pub complete_as : (outcome : Outcome) (asked : Result Command ℕ) (command : Command) (it : Call)
     → Ok command ≡ asked → ServedBy outcome command it → IsComplete outcome asked it

@@ -2,3 +2,4 @@ pub mod RunLemmas
 pub mod CompleteLemmas
 pub mod LoadLemmas
 pub mod TraceLemmas
+pub mod BoardLemmas

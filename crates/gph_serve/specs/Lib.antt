@@ -1,3 +1,4 @@
 pub mod TopCall
 pub mod Loads
 pub mod TraceCall
+pub mod BoardSession
