@@ -79,13 +79,13 @@ fn listen_at_width<
     let Ok((board, first)) = Board::<W>::new(alloc, config) else {
         return Listened::NoMemory;
     };
-    let mut desk = board.first(first, *rt);
+    let desk = board.first(first, *rt);
     let address = SocketAddr::new(Ipv4Addr::LOCALHOST.into(), port);
     let Ok(listener) = TcpListener::bind(rt, address) else {
         return Listened::Failed;
     };
     let door = Mutex::new(Door::new(listener, sessions));
-    serve_side_by_side(rt, alloc, config, &door, &THREADS, &mut desk);
+    let desk = serve_side_by_side(rt, alloc, config, &door, THREADS, desk);
     let standing = desk.stand();
     let has_failed = door.into_inner().has_failed();
     match board.close(standing) {

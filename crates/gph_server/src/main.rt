@@ -7,6 +7,7 @@ ghost use Rattle.std.specs.Thread.{IsSync};
 mod connection;
 mod door;
 mod ending;
+mod in_turn;
 mod ledgers;
 mod listen;
 mod parting;
