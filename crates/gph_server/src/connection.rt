@@ -18,15 +18,15 @@ use std::thread::Threads;
 /// Serves the session of a connection at a desk, which it gives back. Where there is no memory for it nothing is answered. What was
 /// written is gathered, and given out before each read and at the end, as on standard output. However it ends, that is the end of
 /// this connection alone.
-pub(crate) fn serve_connection<'b, const W: usize, R: Threads + Wait + Copy + Sync>(
+pub(crate) fn serve_connection<'b, 'r, const W: usize, R: Threads + Wait + Sync>(
     rt: &R,
     alloc: Global,
     config: &Config,
-    desk: SharedDesk<'b, W, R>,
+    desk: SharedDesk<'b, W, &'r R>,
     stream: &TcpStream,
     steps: &mut Steps<Upkeep>,
     meters: &mut Meters<Postings>,
-) -> SharedDesk<'b, W, R>
+) -> SharedDesk<'b, W, &'r R>
     requires sync { IsSync R.row }
     requires config { desk.config ≡ config.now }
     requires fronts { desk.fronts ≡ [] }

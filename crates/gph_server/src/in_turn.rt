@@ -14,13 +14,13 @@ use std::sync::{Mutex, Wait};
 use std::thread::Threads;
 
 /// Serves the connections that are left of a door, each at a desk that comes from this one and leaves into it. It gives the desk back.
-pub(crate) fn serve_in_turn<'b, const W: usize, R: Env + Threads + Wait + Copy + Sync>(
+pub(crate) fn serve_in_turn<'b, 'r, const W: usize, R: Env + Threads + Wait + Sync>(
     rt: &R,
     alloc: Global,
     config: &Config,
     door: &Mutex<Door>,
-    desk: SharedDesk<'b, W, R>,
-) -> SharedDesk<'b, W, R>
+    desk: SharedDesk<'b, W, &'r R>,
+) -> SharedDesk<'b, W, &'r R>
     requires sync { IsSync R.row }
     requires config { desk.config ≡ config.now }
     requires fronts { desk.fronts ≡ [] }

@@ -38,8 +38,6 @@ pub(crate) fn listen<
         + Net<Listener = TcpListener, Stream = TcpStream>
         + Threads
         + Wait
-        + Copy
-        + Send
         + Sync,
 >(
     rt: &R,
@@ -61,8 +59,6 @@ fn listen_at_width<
         + Net<Listener = TcpListener, Stream = TcpStream>
         + Threads
         + Wait
-        + Copy
-        + Send
         + Sync,
 >(
     rt: &R,
@@ -79,7 +75,7 @@ fn listen_at_width<
     let Ok((board, first)) = Board::<W>::new(alloc, config) else {
         return Listened::NoMemory;
     };
-    let desk = board.first(first, *rt);
+    let desk = board.first(first, rt);
     let address = SocketAddr::new(Ipv4Addr::LOCALHOST.into(), port);
     let Ok(listener) = TcpListener::bind(rt, address) else {
         return Listened::Failed;

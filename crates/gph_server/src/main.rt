@@ -56,8 +56,6 @@ fn ending_of<
         + Print
         + Threads
         + Wait
-        + Copy
-        + Send
         + Sync,
 >(
     rt: &R,
@@ -94,8 +92,6 @@ fn ending_of_listen<
         + Print
         + Threads
         + Wait
-        + Copy
-        + Send
         + Sync,
 >(
     rt: &R,

@@ -15,14 +15,14 @@ use std::thread::{Threads, join};
 /// Serves the connections of a door in at most so many threads, each at desks that come from one of its own, which leaves into this
 /// one. Where a thread can't be started this one serves them all. It gives the desk back.
 #[cycle(served)]
-pub(crate) fn serve_side_by_side<'b, const W: usize, R: Env + Threads + Wait + Copy + Send + Sync>(
+pub(crate) fn serve_side_by_side<'b, 'r, const W: usize, R: Env + Threads + Wait + Sync>(
     rt: &R,
     alloc: Global,
     config: &Config,
     door: &Mutex<Door>,
     threads: u32,
-    desk: SharedDesk<'b, W, R>,
-) -> SharedDesk<'b, W, R>
+    desk: SharedDesk<'b, W, &'r R>,
+) -> SharedDesk<'b, W, &'r R>
     requires sync { IsSync R.row }
     requires config { desk.config ≡ config.now }
     requires fronts { desk.fronts ≡ [] }

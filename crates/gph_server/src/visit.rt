@@ -18,12 +18,12 @@ use std::thread::Threads;
 
 /// Serves a connection at a new desk, which then makes a turn of the repartition worker and leaves into this one. Where there is no
 /// memory for a desk or for ledgers the connection is closed unanswered.
-pub(crate) fn serve_visit<const W: usize, R: Env + Threads + Wait + Copy + Sync>(
+pub(crate) fn serve_visit<'b, 'r, const W: usize, R: Env + Threads + Wait + Sync>(
     rt: &R,
     alloc: Global,
     config: &Config,
     stream: TcpStream,
-    desk: &mut SharedDesk<'_, W, R>,
+    desk: &mut SharedDesk<'b, W, &'r R>,
 )
     requires sync { IsSync R.row }
     requires config { desk.old.config ≡ config.now }
