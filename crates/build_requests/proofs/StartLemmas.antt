@@ -107,7 +107,7 @@ module _ {A : Type 0} {W : ℕ} (p : Here W) (after : Option (List ℕ)) (result
       p.stands.settled (samples_here p new s.queries over.samples refl)
       (means_to p new.desk s kept (within_new p new.desk learns) (λ alone. sym (whole_here p new.desk learns alone)) refl refl)
       (subst (λ b. MeansBuild new.desk b s.build) (sym had.build) (subst (MeansBuild {W = W} new.desk None) (sym (none_here had.none)) tt))
-      (leaves p.old.desk new.desk kept) kept.done
+      (leaves p.old.desk new.desk kept) kept.done kept.late
       (subst (λ l. AllKeep p.config p.history l (open_queries s.queries)) (sym over.cursors) p.stands.keep)
       (pinned_still p new s over.pinned refl) (had.position ∙ p.stands.position)
 
@@ -187,7 +187,7 @@ module _ {A : Type 0} {W : ℕ} (p : Here W) (after : Option (List ℕ)) (result
         p.stands.settled (samples_here p new s.queries over.samples refl)
         (means_to p new.desk started kept has.of_shard.within at_whole refl refl)
         (subst (λ b. MeansBuild new.desk b started.build) (sym has.kept) is_kept)
-        (leaves p.old.desk new.desk kept) kept.done
+        (leaves p.old.desk new.desk kept) kept.done kept.late
         (subst (λ l. AllKeep p.config p.history l (open_queries s.queries)) (sym over.cursors) p.stands.keep)
         (pinned_still p new started over.pinned refl) has.position
 
@@ -277,7 +277,7 @@ module _ {A : Type 0} {W : ℕ} (p : Here W) (after : Option (List ℕ)) (result
           layout = found.2.layout;
           left = ap (λ n. n - number) found.2.left;
         })))
-        (leaves old.desk new.desk kept) kept.done
+        (leaves old.desk new.desk kept) kept.done kept.late
         (subst (λ l. AllKeep p.config p.history l (open_queries s.queries))
         (sym (ap (λ (m : Moment W). m.cursors) has.after)) p.stands.keep)
         (pinned_still p new placed (ap (λ (m : Moment W). m.pinned) has.after) refl)

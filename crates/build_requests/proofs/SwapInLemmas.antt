@@ -141,7 +141,7 @@ module _ {A : Type 0} {W : ℕ} (p : Here W) (after : Option (List ℕ)) (result
         (means_to p new.desk s kept (within_new p new.desk learns) (λ alone. sym (whole_here p new.desk learns alone)) refl refl)
         (subst (λ b. MeansBuild new.desk b s.build) (sym has.kept)
         (subst (MeansBuild new.desk (Some (kept_build has.shard has.back))) (sym lacking.1) goes_on))
-        (leaves p.old.desk new.desk kept) kept.done
+        (leaves p.old.desk new.desk kept) kept.done kept.late
         (subst (λ l. AllKeep p.config p.history l (open_queries s.queries)) (sym over.cursors) p.stands.keep)
         (pinned_still p new s over.pinned refl) (has.position ∙ p.stands.position)
 
@@ -269,7 +269,7 @@ module _ {A : Type 0} {W : ℕ} (p : Here W) (after : Option (List ℕ)) (result
           late = λ alone. absurd (has.shared alone);
           alone = comes_late.alone;
         })
-        comes_late.done
+        comes_late.done comes_late.late
         (subst (λ l. AllKeep p.config p.history l (open_queries s.queries)) (sym over.cursors) p.stands.keep)
         (pinned_still p new moved_state over.pinned refl) refl
 
@@ -378,7 +378,7 @@ module _ {A : Type 0} {W : ℕ} (p : Here W) (after : Option (List ℕ)) (result
           late = λ alone. comes.late;
           alone = comes.alone;
         })
-        comes.done
+        comes.done comes.late
         (subst (λ l. AllKeep p.config p.history l (open_queries s.queries)) (sym over.cursors) p.stands.keep)
         (pinned_still p new put_state over.pinned refl) refl
 

@@ -22,7 +22,7 @@ use Rattle.session_model.specs.Outside.{Call}
 use Rattle.session_model.specs.State.{new_session}
 use Rattle.session_model.specs.Step.{AreLayouts}
 use Rattle.session_model.specs.Upkeep.{most_upkeep}
-use Rattle.gph_session.specs.Sessions.{IsServed, IsServedSolo, RisesByCount, Told, state_of}
+use Rattle.gph_session.specs.Sessions.{IsServed, IsServedSolo, RisesByCount, Told, moves_of, state_of}
 use Rattle.open_session.specs.declared.open_session.Session.{Session}
 use Rattle.open_session.specs.declared.shard_build.ShardBuild.{ShardBuild}
 use Rattle.open_session.specs.KeptBuild.{MeansBuild, StandsFrom, left_in}
@@ -119,6 +119,7 @@ begun_session {W} words config now begun is same none opened told no_samples no_
         build = subst (λ b. MeansBuild desk b None) (sym no_build) tt;
         keeps = leaves desk desk (desk_keeps desk);
         done = inl (omega arith);
+        late = inl (omega arith);
         pinned = record { each = tt; opened = opened; told = told };
         requests = requests;
         position = position;
@@ -203,6 +204,7 @@ module _ (config : Config) (before desk desk' : DeskState) (told : Told) (only :
         served.upkeep;
     keeps = leaves_then before desk desk' (leaves before desk (only_keeps before desk only)) served.keeps;
     done = subst (λ n. RisesByCount n desk'.done (swaps_of exchanges)) (ap (λ (d : DeskState). d.done) only.after) served.done;
+    late = subst (λ n. RisesByCount n desk'.late (moves_of exchanges)) (ap (λ (d : DeskState). d.late) only.after) served.late;
     requests = served.requests;
     position = served.position;
     pinned = served.pinned;

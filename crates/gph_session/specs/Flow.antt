@@ -25,7 +25,7 @@ use Rattle.open_session.specs.Pinned.{TellsPinned}
 use Rattle.open_session.specs.KeptBuild.{MeansBuild, StandsFrom, left_in}
 use Rattle.open_session.specs.KeptDesk.{LeavesDesk, layouts_of}
 use Rattle.open_session.specs.Samples.{MeansSamples}
-use Rattle.gph_session.specs.Sessions.{RisesByCount, Told}
+use Rattle.gph_session.specs.Sessions.{RisesByCount, Told, moves_of}
 
 -- what a session began with
 pub record Start : Type 0 where
@@ -75,6 +75,7 @@ pub record HasRun {W : ℕ} (config : Config) (start : Start) (now : Moment W)
   pub build : MeansBuild now.desk now.build state.build
   pub keeps : LeavesDesk start.desk now.desk
   pub done : RisesByCount start.desk.done now.desk.done (swaps_of exchanges)
+  pub late : RisesByCount start.desk.late now.desk.late (moves_of exchanges)
   pub pinned : TellsPinned config.shards now.pinned (pinned_by state.queries)
   pub requests : now.requests ≡ min (requests_of config exchanges) 18446744073709551615
   pub position : now.position ≡ state.position

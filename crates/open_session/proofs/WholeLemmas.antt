@@ -140,6 +140,8 @@ module _ {A : Type 0} {W : ℕ} (p : Here W) (after : Option (List ℕ)) (result
     keeps = leaves p.old.desk new.desk step.keeps;
     done = step.keeps.done
         ∙ sym (ap (λ b. cond b (one_more p.old.desk.done) p.old.desk.done) nothing.tells.swapped);
+    late = step.keeps.late
+        ∙ sym (ap (λ b. cond b (one_more p.old.desk.late) p.old.desk.late) nothing.tells.moved);
     keep = step.keep;
     pinned = step.pinned;
     position = step.position;
@@ -162,10 +164,11 @@ module _ {A : Type 0} {W : ℕ} (p : Here W) (after : Option (List ℕ)) (result
       → Means p.config new.desk (seen_history new.desk) t → MeansBuild new.desk new.build t.build
       → LeavesDesk p.old.desk new.desk
       → new.desk.done ≡ cond (was_swapped replies) (one_more p.old.desk.done) p.old.desk.done
+      → new.desk.late ≡ cond (was_moved replies) (one_more p.old.desk.late) p.old.desk.late
       → AllKeep p.config p.history new.cursors (open_queries t.queries)
       → TellsPinned p.config.shards new.pinned (pinned_by t.queries)
       → new.position ≡ t.position → WholeTo p after result new
-  whole_by learns stays answers unmoved wrote reads spent settled samples means build keeps done keep pinned position =
+  whole_by learns stays answers unmoved wrote reads spent settled samples means build keeps done late keep pinned position =
       let exchange = exchange_here p new replies at in
       let past = seen_history new.desk in
       record {
@@ -191,6 +194,7 @@ module _ {A : Type 0} {W : ℕ} (p : Here W) (after : Option (List ℕ)) (result
         build = build;
         keeps = keeps;
         done = done;
+        late = late;
         keep = on_ok result (AllKeep p.config past new.cursors (open_queries t.queries))
             (keep_learned p new.desk learns keeps.config new.cursors (open_queries t.queries) keep);
         pinned = pinned;
@@ -222,6 +226,7 @@ still_whole p after result asked this is none tells answers wrote =
     p.stands.build
     (record { board = refl; who = refl; config = refl; fronts = refl; late = λ alone. refl; alone = refl })
     (sym (ap (λ b. cond b (one_more old.desk.done) old.desk.done) tells.swapped))
+    (sym (ap (λ b. cond b (one_more old.desk.late) old.desk.late) tells.moved))
     p.stands.keep p.stands.pinned p.stands.position
 
 -- ---- a request that isn't on builds

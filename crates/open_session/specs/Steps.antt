@@ -72,6 +72,8 @@ pub record OneStep {A : Type 0} (W : ℕ) (config : Config) (history : List Jour
   pub keeps : LeavesDesk old.desk new.desk
   pub done : new.desk.done
       ≡ (if was_swapped exchange.replies then one_more old.desk.done else old.desk.done)
+  pub late : new.desk.late
+      ≡ (if was_moved exchange.replies then one_more old.desk.late else old.desk.late)
   pub keep : OnOk result (AllKeep config past new.cursors (open_queries state.queries))
   pub pinned : TellsPinned config.shards new.pinned (pinned_by state.queries)
   pub position : new.position ≡ state.position
