@@ -37,6 +37,7 @@ use Rattle.open_session.proofs.MomentLemmas.{as_long, desk_keeps, learns_nothing
 use Rattle.gph_session.proofs.EndingLemmas.{done_as, input_limit_as, read_fault_as, write_fault_as}
 use Rattle.gph_session.proofs.FlowLemmas.{leaves_then}
 use Rattle.open_session.proofs.DeskLemmas.{are_layouts}
+use Rattle.open_session.proofs.LastPinsLemmas.{tells_no_pins}
 use Rattle.open_session.proofs.WholeLemmas.{leaves}
 
 -- ---- a session before its first byte
@@ -121,6 +122,7 @@ begun_session {W} words config now begun is same none opened told no_samples no_
         done = inl (omega arith);
         late = inl (omega arith);
         pinned = record { each = tt; opened = opened; told = told };
+        pins = tells_no_pins config desk now.pinned.told;
         requests = requests;
         position = position;
       };
@@ -208,6 +210,7 @@ module _ (config : Config) (before desk desk' : DeskState) (told : Told) (only :
     requests = served.requests;
     position = served.position;
     pinned = served.pinned;
+    pins = served.pins;
     alone = λ alone. subst (λ d. IsServedSolo d desk' told config exchanges rise) (learns_nothing before desk alone only)
         (served.alone (same_alone ∙ alone));
   }

@@ -37,6 +37,7 @@ use Rattle.gph_session.specs.Sessions.{IsServed, IsServedSolo, RisesByCount, mov
 use Rattle.open_session.specs.KeptBuild.{StandsFrom, left_in}
 use Rattle.open_session.specs.Growth.{IsAside}
 use Rattle.open_session.specs.KeptDesk.{LeavesDesk, layouts_of, pins_of}
+use Rattle.open_session.specs.LastPins.{LeavesPins}
 use Rattle.open_session.specs.Moments.{Moment}
 use Rattle.open_session.specs.Meaning.{Means, IsSettled, AllKeep}
 use Rattle.session_step.specs.Answering.{OneLine, requests_with}
@@ -44,6 +45,7 @@ use Rattle.gph_session.specs.Flow.{Start, HasRun, GoesOn, begun_state, told_so_f
 use Rattle.gph_session.specs.Pieces.{HasServed, HasEnded, WasRefused}
 use Rattle.open_session.specs.Steps.{Stands}
 use Rattle.gph_session.proofs.GrowthLemmas.{each_more, each_seen_later, own_more, run_as}
+use Rattle.open_session.proofs.LastPinsLemmas.{tells_more}
 use Rattle.open_session.proofs.MomentLemmas.{reads_then, spends_then, others_more, as_long}
 
 -- ---- what a state's queries have read
@@ -181,6 +183,7 @@ module _ {W : ℕ} (config : Config) (start : Start) (now : Moment W) (exchanges
     requests = ran.requests;
     position = ran.position;
     pinned = ran.pinned.told;
+    pins = ran.pins;
     alone = served_solo;
   }
 
@@ -371,6 +374,9 @@ module _ {W : ℕ} (config : Config) (start : Start) (now : Moment W) (exchanges
         ∙ counted_once (is_answered (reading config line)) (requests_of config exchanges)
         ∙ ap (λ n. min n 18446744073709551615) (sym (requests_more config exchanges one.step.exchange line one.step.is_line));
     pinned = one.step.pinned;
+    pins = tells_more config exchanges one.step.exchange now.desk next.desk now.pinned next.pinned one.step.keeps.config ran.pins
+        (subst (λ l. LeavesPins (reading config l) one.step.exchange.replies one.step.exchange.position now.desk next.desk
+        now.pinned next.pinned) (sym one.step.is_line) one.step.pins);
     position = one.step.position;
   }
 

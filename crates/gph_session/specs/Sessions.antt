@@ -5,6 +5,7 @@ use Rattle.hamming_model.specs.History.{JournalEntry}
 use Rattle.part_layout.specs.declared.config.Config.{Config}
 use Rattle.session_desk.specs.Desks.{DeskState, seen_history}
 use Rattle.open_session.specs.KeptDesk.{LeavesDesk, layouts_of, pins_of}
+use Rattle.open_session.specs.LastPins.{TellsLastPins}
 use Rattle.session_model.specs.Builds.{swaps_of, was_moved}
 use Rattle.session_model.specs.State.{State, new_session}
 use Rattle.session_model.specs.Entries.{Exchange}
@@ -88,6 +89,7 @@ pub record IsServed (old new : DeskState) (told : Told) (config : Config)
   pub requests : told.requests ≡ min (requests_of config exchanges) 18446744073709551615
   pub position : told.position ≡ last.position
   pub pinned : told.layouts ≡ layouts_told last.queries
+  pub pins : TellsLastPins config exchanges new told.layouts
   pub alone : old.alone ≡ true → IsServedSolo old new told config exchanges rise
 
 -- a session over a desk, of which this is the report, ended so, by what it has read, written and
