@@ -1,7 +1,7 @@
 -- Lemmas on the last pins: what a line leaves of them, what is told of the query that was opened last, and one exchange more.
 use Rattle.std.proofs.Common.{◌≡◌, ℕ, ◌<◌, ◌&&◌, not, Bool, true, false, cond, Option, Some, None, Ok}
 use Rattle.std.proofs.Common.{List, [], ◌∷◌, ◌++◌, length, reverse, slice_index_or, refl, sym, ap, ◌∙◌, subst, arith, inl, inr}
-use Rattle.std.specs.List.{AllByRecursion, find}
+use Rattle.std.specs.List.{find}
 use Rattle.std.proofs.lemmas.Bool.{and_parts}
 use Rattle.std.proofs.lemmas.List.{reverse-append}
 use Rattle.hamming_model.specs.Scan.{Ask}
@@ -11,7 +11,6 @@ use Rattle.part_layout.specs.declared.config.Config.{Config}
 use Rattle.query_protocol.specs.Requests.{LineReading}
 use Rattle.query_protocol.specs.Lines.{reading}
 use Rattle.query_protocol.specs.Replies.{LineReply}
-use Rattle.session_desk.specs.Calls.{OnlyLearns}
 use Rattle.session_desk.specs.Desks.{DeskState}
 use Rattle.session_model.specs.Entries.{Exchange}
 use Rattle.session_model.specs.Ledger.{layout_at}
@@ -119,9 +118,9 @@ module _ (config : Config) (exchanges : List Exchange) (e : Exchange) where
     pins_by true is last found opened =
         let this = same_exchange e last found in
         let parts = and_parts (may_pin (reading config e.line)) (not (met_bad e.replies)) is in
-        let open : was_opened e.replies ≡ true = ap (λ (x : Exchange). was_opened x.replies) this ∙ opened in
+        let its : was_opened e.replies ≡ true = ap (λ (x : Exchange). was_opened x.replies) this ∙ opened in
         subst (λ (x : Exchange). ArePinsTold new after.told x.position) this
-        (leaves.opened (ap (λ b. b && was_opened e.replies) parts.0 ∙ open))
+        (leaves.opened (ap (λ b. b && was_opened e.replies) parts.0 ∙ its))
     pins_by false is last found opened = λ shard lt.
         let kept = leaves.kept is in
         let it = tells last found opened shard (omega (arith, lt, ap (λ (c : Config). c.shards) same)) in
