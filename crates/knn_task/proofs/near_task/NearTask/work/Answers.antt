@@ -1,6 +1,5 @@
 -- A hit was moved; or the next radius is above the limit; or it can be begun.
-use Rattle.std.proofs.Common.{length, ◌∙◌, arith, inl, inr, sym, rules}
-use Rattle.knn_task.specs.Walked.{search_of}
+use Rattle.std.proofs.Common.{◌∙◌, arith, inl, inr, sym, rules}
 use Rattle.knn_task.specs.ReadyLaw.{ready_few}
 use Rattle.knn_task.proofs.NearWorkLemmas.{full_waits, move_works, awaits}
 use Rattle.knn_task.proofs.NearLemmas.{after_move}
