@@ -1,9 +1,0 @@
--- The words keep the code that the digits spell.
-use Rattle.std.proofs.Common.{subst, sym}
-use Rattle.hamming_model.specs.Codes.{StandsFor, hex_code}
-use Rattle.board_cases.proofs.boards.spelled.Goals as goal
-
-pub returns : goal.returns
-returns g c =
-    subst (StandsFor 1 8 c.in-Ok.code) (sym (c.stored_rows_search_alike.ensures.taken 1 8 c.in-Ok.code (hex_code c.args.text.now) c.in-Ok.ensures.code))
-    c.in-Ok.ensures.code
