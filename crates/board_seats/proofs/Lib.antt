@@ -7,3 +7,4 @@ pub mod ShardClaimLemmas
 pub mod ShardMoveLemmas
 pub mod ShardReleaseLemmas
 pub mod TableLemmas
+pub mod TakenLemmas
