@@ -115,7 +115,9 @@ module _ {W : ℕ} (table seat : TableId) (me : Me (Cell W) (View W)) (who : ℕ
         codes = subst (AreStoredEntries W config.bits) (sym seen) (subst (λ (c : Config). AreStoredEntries W c.bits journal.history) is sound.codes);
         pins = old.desk.pins;
         left = padded_to_length config.shards me'.0.left;
-        pinned = λ shard low. subst (λ (l : List ℕ). pinned_at before shard ≤ get_or (padded_to config.shards l) shard 0) (sym left) (old.desk.pinned shard low);
+        pinned = λ shard low. subst (λ (l : List ℕ).
+            pinned_at before shard ≤ get_or (padded_to config.shards l) shard 0) (sym left)
+            (old.desk.pinned shard low);
         pinned_within = λ shard low. (let was = old.desk.pinned_within shard low in let long = ap length seen in omega arith);
         places = λ e. absurd (true≢false (sym e));
         each = λ e. absurd (true≢false (sym e));

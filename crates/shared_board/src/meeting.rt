@@ -21,7 +21,7 @@ impl<'b, const W: usize, R: Wait + Copy> SharedDesk<'b, W, R> {
     ///
     /// # Errors
     ///
-    /// `Numbers` where all `SESSIONS_MOST` numbers are out, `NoMemory` where there is none for its pins.
+    /// `Numbers` where all `SESSIONS_MOST` numbers are out. `NoMemory` where there is none for its pins; this desk is as before.
     pub fn desk(&mut self) -> Result<SharedDesk<'b, W, R>, DeskFault>
         // The new desk.
         ensures desk { IfOk result (λ desk. desk
@@ -30,9 +30,10 @@ impl<'b, const W: usize, R: Wait + Copy> SharedDesk<'b, W, R> {
         ensures others { IfOk result (λ desk. AreOfOthers (Some desk.who) desk.seen) }
         ensures number { IfOk result (λ desk. (self.new.next ≡ desk.who)
             × (desk.who ≢ SESSIONS_MOST)) }
-        // No number is left.
+        // No number is left, or no memory.
         ensures numbers { IfErr result (λ fault. fault ≡ Numbers
             → self.new.next ≡ SESSIONS_MOST) }
+        ensures no_memory { IfErr result (λ fault. fault ≢ Numbers → self.new ≡ self.old) }
         // This desk.
         ensures learns { OnlyLearns (shared_desk self.old) (shared_desk self.new) }
         ensures board { self.new.board ≡ self.old.board }
