@@ -44,14 +44,44 @@ fn a_list_answers_each_query_on_its_own_prefix(rt: HostRuntime) -> Result<(), Fa
     then(&rt, &world, &mut script, advance, Err(Refused::Unfronted));
     give(&rt, &world, &mut script, 0, Ok(Told::NotYet));
     poll(&rt, &world, &mut script, 0);
-    give(&rt, &world, &mut script, 0, Ok(Told::Gave(Hit { dist: 0, key: 1 })));
-    give(&rt, &world, &mut script, 0, Ok(Told::Gave(Hit { dist: 4, key: 2 })));
+    give(
+        &rt,
+        &world,
+        &mut script,
+        0,
+        Ok(Told::Gave(Hit { dist: 0, key: 1 })),
+    );
+    give(
+        &rt,
+        &world,
+        &mut script,
+        0,
+        Ok(Told::Gave(Hit { dist: 4, key: 2 })),
+    );
     give(&rt, &world, &mut script, 0, Ok(Told::Ended { count: 2 }));
     poll(&rt, &world, &mut script, 1);
-    give(&rt, &world, &mut script, 1, Ok(Told::Gave(Hit { dist: 0, key: 1 })));
-    give(&rt, &world, &mut script, 1, Ok(Told::Gave(Hit { dist: 1, key: 4 })));
+    give(
+        &rt,
+        &world,
+        &mut script,
+        1,
+        Ok(Told::Gave(Hit { dist: 0, key: 1 })),
+    );
+    give(
+        &rt,
+        &world,
+        &mut script,
+        1,
+        Ok(Told::Gave(Hit { dist: 1, key: 4 })),
+    );
     let cancel = Event::Cancel { query: 1 };
-    then(&rt, &world, &mut script, cancel, Ok(Told::Cancelled { count: 2 }));
+    then(
+        &rt,
+        &world,
+        &mut script,
+        cancel,
+        Ok(Told::Cancelled { count: 2 }),
+    );
     give(&rt, &world, &mut script, 1, Err(Refused::Closed));
     give(&rt, &world, &mut script, 2, Err(Refused::NoQuery));
     let swap = Event::Swap { shard: 0 };
@@ -96,7 +126,13 @@ fn add<R: Abort>(rt: &R, world: &World<1>, script: &mut Script, key: u64, text: 
         decision: Decision::Added,
         position: key,
     };
-    then(rt, world, script, Event::Commit { who: 1, op }, Ok(Told::Decided(decided)));
+    then(
+        rt,
+        world,
+        script,
+        Event::Commit { who: 1, op },
+        Ok(Told::Decided(decided)),
+    );
 }
 
 // A session opens a query of a number on all rows so far: those within 8 of the code 00.
@@ -107,7 +143,13 @@ fn open<R: Abort>(rt: &R, world: &World<1>, script: &mut Script, query: u32, pos
 {
     let code = spelled(rt, b"00");
     let ask = Ask::Range { tau: 8, code };
-    then(rt, world, script, Event::Open { who: 2, ask }, Ok(Told::Opened { query, position }));
+    then(
+        rt,
+        world,
+        script,
+        Event::Open { who: 2, ask },
+        Ok(Told::Opened { query, position }),
+    );
 }
 
 // A query pins the version of the only shard.
@@ -115,7 +157,13 @@ fn pin<R: Abort>(rt: &R, world: &World<1>, script: &mut Script, query: u32)
     requires { AllByRecursion (IsEventFor world.now.setting) script.old.events.items }
     ensures { AllByRecursion (IsEventFor world.now.setting) script.new.events.items }
 {
-    then(rt, world, script, Event::Pin { query, shard: 0 }, Ok(Told::Pinned { left: 0 }));
+    then(
+        rt,
+        world,
+        script,
+        Event::Pin { query, shard: 0 },
+        Ok(Told::Pinned { left: 0 }),
+    );
 }
 
 // The source of a query works until it has ended.
