@@ -85,7 +85,7 @@ module _ {W : ℕ} (before me : Me (Cell W) (View W)) (n : ℕ) (t : Takes befor
         → Releases t.config v t.journal new (with_living new v)
     closes front rule own is =
         let rule_of : (shard : ShardState) → KeepsJournalRule t.journal shard → KeepsJournalRule new shard =
-            λ shard kept. subst (λ (j : JournalState). KeepsJournalRule j shard) (sym is) (rule shard kept) in
+        λ shard kept. subst (λ (j : JournalState). KeepsJournalRule j shard) (sym is) (rule shard kept) in
         closed t.config v t.journal t.sound known new sound kept_fronts rule_of front own is
 
     -- with a number drawn

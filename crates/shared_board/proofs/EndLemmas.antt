@@ -24,8 +24,7 @@ module _ {W : ℕ} (id : ℕ) (v : View W) (ws : List ℕ) (xs : List (Cell W)) 
         let desk = final.1.0.1.desks id v final.1.1 in
         let entries = 2 * length board.journal.history in
         let there = ap (λ l. get_elem? l 0) final.2 in
-        let shown = some-injective entries word (sym h.word ∙ there ∙ found) in
-        (
+        let shown = some-injective entries word (sym h.word ∙ there ∙ found) in (
           board.journal,
           some-injective cell (Cell.Journal board.journal) (sym lying ∙ here),
           sym shown,

@@ -88,8 +88,8 @@ living_without old id (first ∷ fronts) all = go (first.id == id) refl (living_
 
     go : (b : Bool) → (first.id == id) ≡ b → (living_fronts (without_front old id) fronts) ≡ without_id id fronts
         → cond (is_some (live_at (map.remove old.live id) first.id))
-            (first ∷ (living_fronts (without_front old id) fronts))
-            (living_fronts (without_front old id) fronts)
+        (first ∷ (living_fronts (without_front old id) fronts))
+        (living_fronts (without_front old id) fronts)
         ≡ cond (first.id == id) (without_id id fronts) (first ∷ without_id id fronts)
     go true e more =
         let dead : is_some (live_at (map.remove old.live id) first.id) ≡ false =

@@ -202,7 +202,7 @@ module _ {W : ℕ} (table seat : TableId) (me : Me (Cell W) (View W)) (who : ℕ
           at = given.at;
           rows = ap (λ (each : Contents). each.rows) given.rows
               ∙ ap (λ (n : ℕ). shard_rows n version.shards (rows_of (take (position_of front)
-                  (cut_history version.layout.bits visit.journal.history)))) given.shard_is
+              (cut_history version.layout.bits visit.journal.history)))) given.shard_is
               ∙ ap (λ (n : ℕ). shard_rows k n (rows_of (take (position_of front) (cut_history version.layout.bits visit.journal.history)))) shards_are
               ∙ ap (λ (n : ℕ). shard_rows k config.shards (rows_of (take (position_of front) (cut_history n visit.journal.history)))) bits_are
               ∙ ap (λ (h : List JournalEntry). shard_rows k config.shards (rows_of (take (position_of front) (cut_history config.bits h)))) (sym seen_is);

@@ -16,7 +16,7 @@ pub close_in-requires : goal.close_in-requires
 close_in-requires g c =
     let taken = c.claim-word.ensures.taken in
     let was = lies c.args.me.now.me c.claim-word.new.me.me _ taken c.slot_mut.result.now _
-        c.slot_mut.ensures.value in (
+    c.slot_mut.ensures.value in (
       search rules,
       (
         search rules,
@@ -36,10 +36,10 @@ store-requires g c =
     let new = journal_in c.close_in.new.cell in
     let front = c.args.front in
     let is = of_taken before me _ t c.slot_mut.result.now _ c.slot_mut.ensures.value
-        (λ j. new ≡ without_front j front.id) c.close_in.ensures.closed in
+    (λ j. new ≡ without_front j front.id) c.close_in.ensures.closed in
     let moves = closes before me _ t c.slot_mut.result.now _ c.slot_mut.ensures.value new
-        c.close_in.ensures.sound c.close_in.ensures.fronts front
-        (c.journals_keep_the_rule.ensures.closes t.journal front.id) c.requires.own is in (
+    c.close_in.ensures.sound c.close_in.ensures.fronts front
+    (c.journals_keep_the_rule.ensures.closes t.journal front.id) c.requires.own is in (
       search rules,
       search rules,
       home before me _ t new c.close_in.new.cell with_living c.close_in.ensures.cell moves
@@ -56,10 +56,10 @@ returns-clause-closed g c =
     let new = journal_in c.close_in.new.cell in
     let front = c.args.front in
     let is = of_taken before me _ t c.slot_mut.result.now _ c.slot_mut.ensures.value
-        (λ j. new ≡ without_front j front.id) c.close_in.ensures.closed in
+    (λ j. new ≡ without_front j front.id) c.close_in.ensures.closed in
     let moves = closes before me _ t c.slot_mut.result.now _ c.slot_mut.ensures.value new
-        c.close_in.ensures.sound c.close_in.ensures.fronts front
-        (c.journals_keep_the_rule.ensures.closes t.journal front.id) c.requires.own is in (
+    c.close_in.ensures.sound c.close_in.ensures.fronts front
+    (c.journals_keep_the_rule.ensures.closes t.journal front.id) c.requires.own is in (
       visited before me _ t new c.close_in.new.cell with_living c.close_in.ensures.cell moves
           c.store.new.seat.me c.store.ensures.2,
       is,

@@ -23,7 +23,7 @@ pub returns-clause-visited : goal.returns-clause-visited
 returns-clause-visited g c =
     let t = c.claim-word.ensures.taken in
     let was = lies c.args.me.now.me c.claim-word.new.me.me _ t c.slot_mut.result.now _
-        c.slot_mut.ensures.value in (
+    c.slot_mut.ensures.value in (
       visited_as_taken c.args.me.now.me c.claim-word.new.me.me _ t c.slot_mut.result.now _
           c.slot_mut.ensures.value c.look_up_in-found.new.cell c.look_up_in-found.ensures.cell
           c.store.new.seat.me c.store.ensures.2,

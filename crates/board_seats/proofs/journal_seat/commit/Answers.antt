@@ -20,11 +20,11 @@ store-requires g c =
     let entry = entry_by c.args.who c.args.op in
     let decided = c.in-Ok.decided in
     let done = of_taken before me _ t c.slot_mut.result.now _ c.slot_mut.ensures.value
-        (λ j. Commits j new entry decided) c.in-Ok.ensures.decided in
+    (λ j. Commits j new entry decided) c.in-Ok.ensures.decided in
     let moves = commits before me _ t c.slot_mut.result.now _ c.slot_mut.ensures.value new
-        c.commit_in.ensures.sound c.commit_in.ensures.fronts entry decided
-        (λ shard kept. c.journals_keep_the_rule.ensures.commits t.journal new entry decided shard
-        kept done) c.requires.number c.requires.stored done in (
+    c.commit_in.ensures.sound c.commit_in.ensures.fronts entry decided
+    (λ shard kept. c.journals_keep_the_rule.ensures.commits t.journal new entry decided shard
+    kept done) c.requires.number c.requires.stored done in (
       search rules,
       search rules,
       home before me _ t new c.commit_in.new.cell settled_view c.commit_in.ensures.cell moves
@@ -40,11 +40,11 @@ returns-in-Ok-clause-decided g c =
     let entry = entry_by c.args.who c.args.op in
     let decided = c.in-Ok.decided in
     let done = of_taken before me _ t c.slot_mut.result.now _ c.slot_mut.ensures.value
-        (λ j. Commits j new entry decided) c.in-Ok.ensures.decided in
+    (λ j. Commits j new entry decided) c.in-Ok.ensures.decided in
     let moves = commits before me _ t c.slot_mut.result.now _ c.slot_mut.ensures.value new
-        c.commit_in.ensures.sound c.commit_in.ensures.fronts entry decided
-        (λ shard kept. c.journals_keep_the_rule.ensures.commits t.journal new entry decided shard
-        kept done) c.requires.number c.requires.stored done in (
+    c.commit_in.ensures.sound c.commit_in.ensures.fronts entry decided
+    (λ shard kept. c.journals_keep_the_rule.ensures.commits t.journal new entry decided shard
+    kept done) c.requires.number c.requires.stored done in (
       visited before me _ t new c.commit_in.new.cell settled_view c.commit_in.ensures.cell moves
           c.store.new.seat.me c.store.ensures.2,
       done,

@@ -19,9 +19,9 @@ store-requires g c =
     let t = c.claim-word.ensures.taken in
     let new = journal_in c.enter_in.new.cell in
     let is = of_taken before me _ t c.slot_mut.result.now _ c.slot_mut.ensures.value
-        (λ j. new ≡ record j { next = j.next + 1 }) c.in-Some.ensures.drawn in
+    (λ j. new ≡ record j { next = j.next + 1 }) c.in-Some.ensures.drawn in
     let moves = draws before me _ t c.slot_mut.result.now _ c.slot_mut.ensures.value new
-        c.enter_in.ensures.sound c.enter_in.ensures.fronts c.requires.number is in (
+    c.enter_in.ensures.sound c.enter_in.ensures.fronts c.requires.number is in (
       search rules,
       search rules,
       home before me _ t new c.enter_in.new.cell with_number c.enter_in.ensures.cell moves
@@ -37,9 +37,9 @@ returns-in-Some-clause-drawn g c =
     let t = c.claim-word.ensures.taken in
     let new = journal_in c.enter_in.new.cell in
     let is = of_taken before me _ t c.slot_mut.result.now _ c.slot_mut.ensures.value
-        (λ j. new ≡ record j { next = j.next + 1 }) c.in-Some.ensures.drawn in
+    (λ j. new ≡ record j { next = j.next + 1 }) c.in-Some.ensures.drawn in
     let moves = draws before me _ t c.slot_mut.result.now _ c.slot_mut.ensures.value new
-        c.enter_in.ensures.sound c.enter_in.ensures.fronts c.requires.number is in (
+    c.enter_in.ensures.sound c.enter_in.ensures.fronts c.requires.number is in (
       visited before me _ t new c.enter_in.new.cell with_number c.enter_in.ensures.cell moves
           c.store.new.seat.me c.store.ensures.2,
       is,

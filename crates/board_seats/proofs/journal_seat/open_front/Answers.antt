@@ -21,13 +21,13 @@ compare_exchange_with-requires g c =
     let front = c.in-Ok.front in
     let v = holder before me _ t in
     let done = of_taken before me _ t c.slot_mut.result.now _ c.slot_mut.ensures.value
-        (λ j. Opens j new c.args.who front) c.in-Ok.ensures.opened in
+    (λ j. Opens j new c.args.who front) c.in-Ok.ensures.opened in
     let moves = opens before me _ t c.slot_mut.result.now _ c.slot_mut.ensures.value new
-        c.open_in.ensures.sound c.open_in.ensures.fronts c.args.who front
-        (λ shard kept. c.journals_keep_the_rule.ensures.opens t.journal new c.args.who front shard
-        kept done) c.requires.number done c.in-Ok.ensures.live c.in-Ok.ensures.known in
+    c.open_in.ensures.sound c.open_in.ensures.fronts c.args.who front
+    (λ shard kept. c.journals_keep_the_rule.ensures.opens t.journal new c.args.who front shard
+    kept done) c.requires.number done c.in-Ok.ensures.live c.in-Ok.ensures.known in
     let said = subst (λ z. Releases t.config v t.journal new (with_said (core.some z) new v))
-        (sym c.said_of-said.ensures) moves in (
+    (sym c.said_of-said.ensures) moves in (
       search rules,
       search rules,
       home_by_exchange before me _ t new c.open_in.new.cell
@@ -46,17 +46,17 @@ returns-in-Ok-clause-opened g c =
     let front = c.in-Ok.front in
     let v = holder before me _ t in
     let done = of_taken before me _ t c.slot_mut.result.now _ c.slot_mut.ensures.value
-        (λ j. Opens j new c.args.who front) c.in-Ok.ensures.opened in
+    (λ j. Opens j new c.args.who front) c.in-Ok.ensures.opened in
     let moves = opens before me _ t c.slot_mut.result.now _ c.slot_mut.ensures.value new
-        c.open_in.ensures.sound c.open_in.ensures.fronts c.args.who front
-        (λ shard kept. c.journals_keep_the_rule.ensures.opens t.journal new c.args.who front shard
-        kept done) c.requires.number done c.in-Ok.ensures.live c.in-Ok.ensures.known in
+    c.open_in.ensures.sound c.open_in.ensures.fronts c.args.who front
+    (λ shard kept. c.journals_keep_the_rule.ensures.opens t.journal new c.args.who front shard
+    kept done) c.requires.number done c.in-Ok.ensures.live c.in-Ok.ensures.known in
     let said = subst (λ z. Releases t.config v t.journal new (with_said (core.some z) new v))
-        (sym c.said_of-said.ensures) moves in
+    (sym c.said_of-said.ensures) moves in
     let same = front_in_same (sym c.said_of-said.ensures ∙ c.front_of.ensures) in
     let visit = visited before me _ t new c.open_in.new.cell
-        (with_said (core.some c.said_of-said.result)) c.open_in.ensures.cell said
-        c.compare_exchange_with.new.seat.me c.compare_exchange_with.ensures.2 in (
+    (with_said (core.some c.said_of-said.result)) c.open_in.ensures.cell said
+    c.compare_exchange_with.new.seat.me c.compare_exchange_with.ensures.2 in (
       record {
         config = t.config;
         old = t.journal;

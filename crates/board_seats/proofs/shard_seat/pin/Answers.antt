@@ -74,10 +74,10 @@ store-requires g c =
     let v = shard_holder before me k t in
     let new = shard_in c.pin_in-version.new.cell in
     let came = taken_so before me k t _ at c.slot_mut.result.now _ c.slot_mut.ensures.value
-        (λ s. CameTo front s new) c.pin_in-version.ensures.came in
+    (λ s. CameTo front s new) c.pin_in-version.ensures.came in
     let moves = comes front t.shard t.config v k new came
-        (advances front t.shard t.config v k c.requires.own c.position-position.ensures.front
-        c.shards_keep_the_rule.ensures.advanced) in (
+    (advances front t.shard t.config v k c.requires.own c.position-position.ensures.front
+    c.shards_keep_the_rule.ensures.advanced) in (
       search rules,
       search rules,
       home_shard before me k t _ at new c.pin_in-version.new.cell c.pin_in-version.ensures.cell
@@ -95,10 +95,10 @@ returns-clause-pinned g c =
     let v = shard_holder before me k t in
     let new = shard_in c.pin_in-version.new.cell in
     let came = taken_so before me k t _ at c.slot_mut.result.now _ c.slot_mut.ensures.value
-        (λ s. CameTo front s new) c.pin_in-version.ensures.came in
+    (λ s. CameTo front s new) c.pin_in-version.ensures.came in
     let moves = comes front t.shard t.config v k new came
-        (advances front t.shard t.config v k c.requires.own c.position-position.ensures.front
-        c.shards_keep_the_rule.ensures.advanced) in
+    (advances front t.shard t.config v k c.requires.own c.position-position.ensures.front
+    c.shards_keep_the_rule.ensures.advanced) in
     let was = shard_was before me k t _ at c.slot_mut.result.now _ c.slot_mut.ensures.value in
     let stands = moves.stands t.journal t.sound (holder_knows before me k t) t.stands in (
       visited_shard before me k t _ at new c.pin_in-version.new.cell
@@ -112,8 +112,12 @@ returns-clause-pinned g c =
           (new ≡ advanced front (shard_in c.slot_mut.result.now)) c.pin_in-version.ensures.given
           c.pin_in-version.ensures.sound c.pin_in-version.ensures.reached
           (λ version one sound far. (
-            omega (arith, ap (λ s. s.current.at)
-                (far ∙ ap (λ z. advanced front (shard_in z)) was), advanced_at front t.shard),
+            omega (
+              arith,
+              ap (λ s. s.current.at)
+                  (far ∙ ap (λ z. advanced front (shard_in z)) was),
+              advanced_at front t.shard,
+            ),
             gives_at t.config t.journal k (position_of front) new (contents_at version) stands one
                 (c.shards_keep_the_rule.ensures.given (positions_of t.journal.live)
                 t.journal.history new (position_of front) (contents_at version) stands.rule one)

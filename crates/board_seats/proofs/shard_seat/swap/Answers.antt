@@ -51,10 +51,10 @@ store-requires g c =
     let new = shard_in c.swap_in-swapped.new.cell in
     let moved = is_err c.swap_in-swapped.result in
     let takes = taken_so before me k t _ at c.slot_mut.result.now _ c.slot_mut.ensures.value
-        (λ s. PutsLayout s new version moved) c.swap_in-swapped.ensures.swapped in
+    (λ s. PutsLayout s new version moved) c.swap_in-swapped.ensures.swapped in
     let moves = takes_layout t.config (shard_holder before me k t) k t.shard new version moved takes
-        (made_stands_in t.config t.journal before.0 k t.shard version t.knows t.stands
-        c.requires.made) c.swap_in-swapped.ensures.laid c.shards_keep_the_rule.ensures.swapped in (
+    (made_stands_in t.config t.journal before.0 k t.shard version t.knows t.stands
+    c.requires.made) c.swap_in-swapped.ensures.laid c.shards_keep_the_rule.ensures.swapped in (
       search rules,
       search rules,
       home_shard before me k t _ at new c.swap_in-swapped.new.cell c.swap_in-swapped.ensures.cell
@@ -72,10 +72,10 @@ returns-clause-swapped g c =
     let new = shard_in c.swap_in-swapped.new.cell in
     let moved = is_err c.swap_in-swapped.result in
     let takes = taken_so before me k t _ at c.slot_mut.result.now _ c.slot_mut.ensures.value
-        (λ s. PutsLayout s new version moved) c.swap_in-swapped.ensures.swapped in
+    (λ s. PutsLayout s new version moved) c.swap_in-swapped.ensures.swapped in
     let moves = takes_layout t.config (shard_holder before me k t) k t.shard new version moved takes
-        (made_stands_in t.config t.journal before.0 k t.shard version t.knows t.stands
-        c.requires.made) c.swap_in-swapped.ensures.laid c.shards_keep_the_rule.ensures.swapped in
+    (made_stands_in t.config t.journal before.0 k t.shard version t.knows t.stands
+    c.requires.made) c.swap_in-swapped.ensures.laid c.shards_keep_the_rule.ensures.swapped in
     let was = shard_was before me k t _ at c.slot_mut.result.now _ c.slot_mut.ensures.value in
     let stands = moves.stands t.journal t.sound (holder_knows before me k t) t.stands in (
       visited_shard before me k t _ at new c.swap_in-swapped.new.cell

@@ -1,5 +1,5 @@
 -- The table begins with the journal and its first shards.
-use Rattle.std.proofs.Common.{◌≡◌, [], suc, length, ap, ◌∙◌, sym, subst, arith}
+use Rattle.std.proofs.Common.{◌≡◌, suc, length, ap, ◌∙◌, sym, subst, arith}
 use Rattle.atomic_table.specs.Table.{opening}
 use Rattle.commit_journal.specs.Journals.{IsJournal}
 use Rattle.part_layout.specs.Laid.{IsLaid}
@@ -37,7 +37,7 @@ pub invariant_of-result : goal.invariant_of-result
 invariant_of-result g c =
     let asked : Opening = record { config = c.args.config.now; number = c.args.first } in
     let all : c.loop-number.number ≡ c.args.config.now.shards =
-        omega (arith, c.loop-number-test.false, c.loop-number.auto.number-end) in
+    omega (arith, c.loop-number-test.false, c.loop-number.auto.number-end) in
     record {
       words = c.in-Ok.ensures.ok.0 ∙ ap length c.deref.ensures.value
           ∙ laid_words asked c.loop-number.number c.loop-number.words.items
