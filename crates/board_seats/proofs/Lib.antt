@@ -6,4 +6,6 @@ pub mod SeatLemmas
 pub mod ShardClaimLemmas
 pub mod ShardMoveLemmas
 pub mod ShardReleaseLemmas
+pub mod ShardTakenLemmas
 pub mod TableLemmas
+pub mod TakenLemmas

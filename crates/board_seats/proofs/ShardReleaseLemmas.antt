@@ -109,7 +109,8 @@ module _ {W : ℕ} (s : State (Cell W) (View W)) (id : ℕ) (v : View W) (k : �
           (set_else s.words (suc k) 0 0 (λ z. omega arith)) (set_else s.homes (suc k) 0 (some (Cell.Shard new)) (λ z. omega arith))
           (λ c e. absurd (holds_none None 0 c refl e))
           (λ c e. absurd (let z = other_place (suc k) 0 (Cell.Shard old) c (sym holds ∙ e) in omega arith)) kept.1.journal;
-      places = each_shard (λ j shard. ShowsCell (suc j) (Cell.Shard shard) (record { words = set s.words (suc k) 0; homes = homes; views = set s.views id after }))
+      places = each_shard (λ j shard. ShowsCell (suc j) (Cell.Shard shard)
+          (record { words = set s.words (suc k) 0; homes = homes; views = set s.views id after }))
           (inl (record {
             word = set_there s.words (suc k) 0 1 out.word;
             home = set_there s.homes (suc k) (some (Cell.Shard new)) none out.home;
@@ -162,7 +163,8 @@ module _ {W : ℕ} (before me : Me (Cell W) (View W)) (k : ℕ) (t : TakesShard 
       pub home_shard : (slots id : ℕ) → suc k < slots → Allows IsShown slots id (me.0, (place, cell) ∷ rest me.1) place (λ _. 0)
           (λ _ me'. me' ≡ (left_shard (pred place) (shard_in cell) me.0, []))
       home_shard slots id there =
-          subst (λ (q : ℕ). Allows IsShown slots id (me.0, (q, cell) ∷ rest me.1) q (λ _. 0) (λ _ me'. me' ≡ (left_shard (pred q) (shard_in cell) me.0, []))) (sym is)
+          subst (λ (q : ℕ). Allows IsShown slots id (me.0, (q, cell) ∷ rest me.1) q (λ _. 0)
+          (λ _ me'. me' ≡ (left_shard (pred q) (shard_in cell) me.0, []))) (sym is)
           (subst (λ (m : Me (Cell W) (View W)). Allows IsShown slots id (m.0, (suc k, cell) ∷ rest m.1) (suc k) (λ _. 0)
           (λ _ me'. me' ≡ (left_shard k (shard_in cell) m.0, []))) (sym t.me_is)
           (subst (λ z. Allows IsShown slots id (shard_holder, (suc k, z) ∷ []) (suc k) (λ _. 0)

@@ -1,5 +1,5 @@
 -- What a seat of the board knows of the journal.
-use Rattle.std.specs.Prelude.{◌≡◌, ◌≢◌, ℕ, zero, suc, ◌<◌, ◌==◌, ◌⊎◌, List, [], ◌∷◌, ◌++◌, if◌then◌else◌, Option, Some, None, is_some}
+use Rattle.std.specs.Prelude.{◌≡◌, ◌≢◌, ℕ, zero, suc, ◌+◌, ◌<◌, ◌==◌, ◌⊎◌, List, [], ◌∷◌, ◌++◌, if◌then◌else◌, Option, Some, None, is_some}
 use mathlib.Core.List.{IsPrefix}
 use Rattle.std.specs.List.{AllByRecursion}
 use Rattle.hamming_model.specs.History.{JournalEntry}
@@ -8,6 +8,7 @@ use Rattle.commit_journal.specs.Fronts.{FrontState, live_at}
 use Rattle.commit_journal.specs.Journals.{IsLive, JournalState, KnowsFront}
 use Rattle.versioned_shard.specs.Shards.{ShardState}
 use Rattle.board_seats.specs.declared.rule.Cell.{Cell}
+use Rattle.board_seats.specs.declared.rule.Opening.{Opening}
 use Rattle.board_seats.specs.declared.rule.View.{View}
 
 -- no entry of these is of this session, where there is one
@@ -68,6 +69,11 @@ knower number seen next config fronts = record {
   held = None;
   left = [];
 }
+
+-- the view of a board's first seat, which has found the next number
+abbrev pub first_view : {W : ℕ} → Opening → View W
+first_view opening =
+    knower (Some opening.number) [] (opening.number + 1) (Some opening.config) []
 
 -- the view of a seat that was split off: it has no number and no front, and has seen the same
 abbrev pub note_of : {W : ℕ} → View W → View W

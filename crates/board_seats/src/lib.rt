@@ -9,5 +9,5 @@ mod shard_cell;
 mod shard_seat;
 
 pub use journal_seat::{close_front, code_of, commit, draw, find, meet, note, open_front};
-pub use rule::{Cell, Keeps, Past, Place, Seen, View};
+pub use rule::{Cell, Keeps, Opening, Past, Place, Seen, View};
 pub use shard_seat::{layout_of, pin, swap};

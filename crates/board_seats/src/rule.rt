@@ -1,7 +1,6 @@
 //! What holds between any two steps on the board, and the kinds of its steps.
 
-ghost use Rattle.std.specs.Prelude.{Some, []};
-ghost use Rattle.board_seats.specs.Views.{knower, note_of, spent_view};
+ghost use Rattle.board_seats.specs.Views.{first_view, note_of, spent_view};
 
 use atomic_table::{Join, Play, Seat, Shared, Split, TableRule};
 use commit_journal::{Front, Journal};
@@ -54,21 +53,28 @@ pub struct View<const W: usize> {
     pub left: LinkedList<u64>,
 }
 
-/// The rule of the board, with its Config as the key.
+/// What a board is made for, and the number of its first desk.
+#[derive(Clone, Copy)]
+pub struct Opening {
+    pub config: Config,
+    pub number: u32,
+}
+
+/// The rule of the board, with its opening as the key.
 pub struct Keeps<const W: usize>;
 
 /// The board, as its seats share it.
-pub type Place<const W: usize> = Shared<Cell<W>, View<W>, Config, Keeps<W>>;
+pub type Place<const W: usize> = Shared<Cell<W>, View<W>, Opening, Keeps<W>>;
 
 /// A seat at the board.
 pub type Seen<const W: usize> = Seat<Cell<W>, View<W>>;
 
-impl<const W: usize> TableRule<Cell<W>, View<W>, Config> for Keeps<W> {
+impl<const W: usize> TableRule<Cell<W>, View<W>, Opening> for Keeps<W> {
     ghost use Rattle.board_seats.specs.Rule.{IsShown};
 
     ghost holds = { λ _ s. IsShown s };
 
-    ghost first = { λ config. knower (Some 0) [] 1 (Some config) [] };
+    ghost first = { first_view };
 }
 
 /// A load that tells nothing.

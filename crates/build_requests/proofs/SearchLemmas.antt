@@ -33,6 +33,7 @@ use Rattle.build_requests.specs.Searching.{HasSearched, LacksSearch, SearchesOve
 use Rattle.open_session.proofs.DeskLemmas.{IsHere, fewer_beyond, here_same, keeps, layout_there, pin_within, same_layouts, with_layout}
 use Rattle.open_session.proofs.Here.{Here, StepTo, asked_here, front_of, inside_of, keep_learned, layout_here, means_to, on_ok, pinned_still}
 use Rattle.open_session.proofs.Here.{quiet_by, samples_here, settled_learned, whole_here, within_here, within_new, writes_one}
+use Rattle.open_session.proofs.LastPinsLemmas.{pins_moved}
 use Rattle.open_session.proofs.MomentLemmas.{reads_still, seen_longer, seen_whole}
 use Rattle.build_requests.proofs.StartLemmas.{beyond_one, shards_here}
 
@@ -92,7 +93,9 @@ module _ {A : Type 0} {W : ℕ} (p : Here W) (after : Option (List ℕ)) (result
       (means_to p new.desk s (kept over) (within_new p new.desk learns)
       (λ alone. sym (whole_here p new.desk learns alone)) refl refl)
       (kept over) (keep_new over)
-      (pinned_still p new s over.over.pinned refl) (lacks.position ∙ p.stands.position)
+      (pinned_still p new s over.over.pinned refl)
+      (pins_moved (Ok (Some (Search shard rounds))) replies s.position p.old.desk new.desk p.old.pinned new.pinned refl refl)
+      (lacks.position ∙ p.stands.position)
 
   -- ---- a layout was found
 
@@ -197,4 +200,6 @@ module _ {A : Type 0} {W : ℕ} (p : Here W) (after : Option (List ℕ)) (result
         (settled_new over) (samples_here p new s.queries over.over.samples refl)
         (means_to p new.desk then (kept over) has.finds.within at_whole refl refl)
         (kept over) (keep_new over)
-        (pinned_still p new then over.over.pinned refl) has.position
+        (pinned_still p new then over.over.pinned refl)
+        (pins_moved (Ok (Some (Search shard rounds))) (said ∷ []) at p.old.desk new.desk p.old.pinned new.pinned refl refl)
+        has.position

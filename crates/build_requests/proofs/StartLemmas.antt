@@ -28,6 +28,7 @@ use Rattle.open_session.proofs.Here.{Here, asked_here, exchange_here, front_of, 
 use Rattle.open_session.proofs.Here.{within_here, within_new, writes_one}
 use Rattle.open_session.proofs.MomentLemmas.{only_keeps, reads_still, seen_longer, seen_whole}
 use Rattle.open_session.proofs.DeskLemmas.{beyond_less, fewer_beyond, keeps, only_still, pin_within}
+use Rattle.open_session.proofs.LastPinsLemmas.{pins_moved, pins_still}
 use Rattle.open_session.proofs.WholeLemmas.{WholeTo, leaves, no_build, some_build, still_whole, whole_by}
 
 -- ---- one shard was pinned further
@@ -70,7 +71,7 @@ module _ {A : Type 0} {W : ℕ} (p : Here W) (after : Option (List ℕ)) (result
       let found = some_build p.old.desk kept p.s.build (subst (λ b. MeansBuild p.old.desk b p.s.build) has p.stands.build) in
       subst (λ m. WholeTo p after result m) (sym was.same)
       (still_whole p after result (Ok (Some (Repart shard layout.parts))) (reply.Bad (bad 10)) is refl
-      (record { steps = λ told. refl; at = λ told. refl; moved = refl; swapped = refl })
+      (record { steps = λ told. refl; at = λ told. refl; moved = refl; swapped = refl }) refl
       (λ later. subst (λ b. Starting b (p.history ++ later) (exchange_here p p.old (reply.Bad (bad 10) ∷ []) p.s.position) p.s)
       (sym found.1) (record { said_is = refl; position = refl; same = refl }))
       (subst (λ r. Writes p.before after result (reply_line r)) was.told wrote))
@@ -107,9 +108,11 @@ module _ {A : Type 0} {W : ℕ} (p : Here W) (after : Option (List ℕ)) (result
       p.stands.settled (samples_here p new s.queries over.samples refl)
       (means_to p new.desk s kept (within_new p new.desk learns) (λ alone. sym (whole_here p new.desk learns alone)) refl refl)
       (subst (λ b. MeansBuild new.desk b s.build) (sym had.build) (subst (MeansBuild {W = W} new.desk None) (sym (none_here had.none)) tt))
-      (leaves p.old.desk new.desk kept) kept.done
+      (leaves p.old.desk new.desk kept) kept.done kept.late
       (subst (λ l. AllKeep p.config p.history l (open_queries s.queries)) (sym over.cursors) p.stands.keep)
-      (pinned_still p new s over.pinned refl) (had.position ∙ p.stands.position)
+      (pinned_still p new s over.pinned refl)
+      (pins_moved (Ok (Some (Repart shard layout.parts))) replies s.position p.old.desk new.desk p.old.pinned new.pinned refl refl)
+      (had.position ∙ p.stands.position)
 
   module _ (has : HasStarted W p.old new shard layout this) where
     abbrev build : Unfinished
@@ -187,9 +190,11 @@ module _ {A : Type 0} {W : ℕ} (p : Here W) (after : Option (List ℕ)) (result
         p.stands.settled (samples_here p new s.queries over.samples refl)
         (means_to p new.desk started kept has.of_shard.within at_whole refl refl)
         (subst (λ b. MeansBuild new.desk b started.build) (sym has.kept) is_kept)
-        (leaves p.old.desk new.desk kept) kept.done
+        (leaves p.old.desk new.desk kept) kept.done kept.late
         (subst (λ l. AllKeep p.config p.history l (open_queries s.queries)) (sym over.cursors) p.stands.keep)
-        (pinned_still p new started over.pinned refl) has.position
+        (pinned_still p new started over.pinned refl)
+        (pins_moved (Ok (Some (Repart shard layout.parts))) replies at p.old.desk new.desk p.old.pinned new.pinned refl refl)
+        has.position
 
   pub start_step : StartsAs W p.old new shard layout this → WholeTo p after result new
   start_step (inl other) = other_start other.0 other.1 other.2
@@ -210,7 +215,7 @@ module _ {A : Type 0} {W : ℕ} (p : Here W) (after : Option (List ℕ)) (result
       let missing = no_build W p.old.desk p.s.build (subst (λ b. MeansBuild p.old.desk b p.s.build) none p.stands.build) in
       subst (λ m. WholeTo p after result m) (sym was.same)
       (still_whole p after result (Ok (Some (request.Build number))) (reply.Bad (bad 10)) is refl
-      (record { steps = λ told. refl; at = λ told. refl; moved = refl; swapped = refl })
+      (record { steps = λ told. refl; at = λ told. refl; moved = refl; swapped = refl }) refl
       (λ later. subst (λ b. Placing b (exchange_here p p.old (reply.Bad (bad 10) ∷ []) p.s.position) p.s)
       (sym missing) (record { said_is = refl; position = refl; same = refl }))
       (subst (λ r. Writes p.before after result (reply_line r)) was.told wrote))
@@ -277,10 +282,12 @@ module _ {A : Type 0} {W : ℕ} (p : Here W) (after : Option (List ℕ)) (result
           layout = found.2.layout;
           left = ap (λ n. n - number) found.2.left;
         })))
-        (leaves old.desk new.desk kept) kept.done
+        (leaves old.desk new.desk kept) kept.done kept.late
         (subst (λ l. AllKeep p.config p.history l (open_queries s.queries))
         (sym (ap (λ (m : Moment W). m.cursors) has.after)) p.stands.keep)
         (pinned_still p new placed (ap (λ (m : Moment W). m.pinned) has.after) refl)
+        (pins_still (Ok (Some (request.Build number))) (said ∷ []) s.position old.desk new.desk old.pinned new.pinned refl
+        (ap (λ (d : DeskState). d.pins) desk_same) (ap (λ (m : Moment W). m.pinned) has.after))
         (ap (λ (m : Moment W). m.position) has.after ∙ p.stands.position)
 
   pub place_step : PlacesAs W p.old new number this → WholeTo p after result new

@@ -34,6 +34,7 @@ use Rattle.open_session.proofs.Here.{within_here, within_new, writes_one}
 use Rattle.open_session.proofs.MomentLemmas.{as_long, reads_still, seen_longer, seen_whole}
 use Rattle.open_session.proofs.DeskLemmas.{fewer_beyond, keeps, same_list, with_layout}
 use Rattle.build_requests.proofs.StartLemmas.{beyond_one}
+use Rattle.open_session.proofs.LastPinsLemmas.{pins_moved}
 use Rattle.open_session.proofs.WholeLemmas.{WholeTo, leaves, no_build, some_build, still_whole, whole_by}
 
 -- ---- rows left
@@ -65,7 +66,7 @@ module _ {A : Type 0} {W : ℕ} (p : Here W) (after : Option (List ℕ)) (result
       let missing = no_build W p.old.desk p.s.build (subst (λ b. MeansBuild p.old.desk b p.s.build) none p.stands.build) in
       subst (λ m. WholeTo p after result m) (sym was.same)
       (still_whole p after result (Ok (Some Swap)) (reply.Bad (bad 10)) is refl
-      (record { steps = λ told. refl; at = λ told. refl; moved = refl; swapped = refl })
+      (record { steps = λ told. refl; at = λ told. refl; moved = refl; swapped = refl }) refl
       (λ later. subst (λ b. Swapping b (p.history ++ later) (exchange_here p p.old (reply.Bad (bad 10) ∷ []) p.s.position) p.s)
       (sym missing) (record { said_is = refl; position = refl; same = refl }))
       (subst (λ r. Writes p.before after result (reply_line r)) was.told wrote))
@@ -83,7 +84,7 @@ module _ {A : Type 0} {W : ℕ} (p : Here W) (after : Option (List ℕ)) (result
       left_by found.0.left (nat_lt 0 found.0.left) refl (omega (arith, had.left, found.2.left)) in
       subst (λ m. WholeTo p after result m) (sym had.same)
       (still_whole p after result (Ok (Some Swap)) (reply.Bad (bad 11)) is refl
-      (record { steps = λ told. refl; at = λ told. refl; moved = refl; swapped = refl })
+      (record { steps = λ told. refl; at = λ told. refl; moved = refl; swapped = refl }) refl
       (λ later. judged found.0 true found.1 some (p.history ++ later)
       (exchange_here p p.old (reply.Bad (bad 11) ∷ []) p.s.position) p.s
       (record { said_is = refl; position = refl; same = refl }))
@@ -141,9 +142,11 @@ module _ {A : Type 0} {W : ℕ} (p : Here W) (after : Option (List ℕ)) (result
         (means_to p new.desk s kept (within_new p new.desk learns) (λ alone. sym (whole_here p new.desk learns alone)) refl refl)
         (subst (λ b. MeansBuild new.desk b s.build) (sym has.kept)
         (subst (MeansBuild new.desk (Some (kept_build has.shard has.back))) (sym lacking.1) goes_on))
-        (leaves p.old.desk new.desk kept) kept.done
+        (leaves p.old.desk new.desk kept) kept.done kept.late
         (subst (λ l. AllKeep p.config p.history l (open_queries s.queries)) (sym over.cursors) p.stands.keep)
-        (pinned_still p new s over.pinned refl) (has.position ∙ p.stands.position)
+        (pinned_still p new s over.pinned refl)
+        (pins_moved (Ok (Some Swap)) replies s.position p.old.desk new.desk p.old.pinned new.pinned refl refl)
+        (has.position ∙ p.stands.position)
 
   -- ---- a build and its shard came to a front
 
@@ -269,9 +272,10 @@ module _ {A : Type 0} {W : ℕ} (p : Here W) (after : Option (List ℕ)) (result
           late = λ alone. absurd (has.shared alone);
           alone = comes_late.alone;
         })
-        comes_late.done
+        comes_late.done comes_late.late
         (subst (λ l. AllKeep p.config p.history l (open_queries s.queries)) (sym over.cursors) p.stands.keep)
-        (pinned_still p new moved_state over.pinned refl) refl
+        (pinned_still p new moved_state over.pinned refl)
+        (pins_moved (Ok (Some Swap)) (said ∷ []) at p.old.desk new.desk p.old.pinned new.pinned refl refl) refl
 
   -- ---- a build that is put in place
 
@@ -378,9 +382,10 @@ module _ {A : Type 0} {W : ℕ} (p : Here W) (after : Option (List ℕ)) (result
           late = λ alone. comes.late;
           alone = comes.alone;
         })
-        comes.done
+        comes.done comes.late
         (subst (λ l. AllKeep p.config p.history l (open_queries s.queries)) (sym over.cursors) p.stands.keep)
-        (pinned_still p new put_state over.pinned refl) refl
+        (pinned_still p new put_state over.pinned refl)
+        (pins_moved (Ok (Some Swap)) (said ∷ []) at p.old.desk new.desk p.old.pinned new.pinned refl refl) refl
 
   pub swap_step : SwapsInAs W p.old new this → WholeTo p after result new
   swap_step (inl none) = no_swap none.0 none.1

@@ -1,5 +1,5 @@
 -- Lemmas on `add` and `del`: what becomes of an operation is a step of a session.
-use Rattle.std.proofs.Common.{◌≡◌, ℕ, ◌+◌, ◌-◌, nat_le, Bool, true, false, cond}
+use Rattle.std.proofs.Common.{◌≡◌, ℕ, ◌+◌, ◌-◌, ◌&&◌, nat_le, Bool, true, false, cond}
 use Rattle.std.proofs.Common.{List, [], ◌∷◌, ◌++◌, length, take, map, slice_get, Option, Some, is_some}
 use Rattle.std.proofs.Common.{Result, Ok, refl, sym, ap, ◌∙◌, subst, arith, inl, inr}
 use Rattle.std.proofs.Common.{append_assoc, append-nil, length-append}
@@ -27,11 +27,13 @@ use Rattle.open_queries.specs.Writing.{Writes}
 use Rattle.session_model.specs.Ledger.{Ledgers}
 use Rattle.open_session.specs.Growth.{HistoryGrows}
 use Rattle.open_session.specs.KeptDesk.{KeepsDesk, pins_of}
+use Rattle.open_session.specs.LastPins.{LeavesPins, may_pin, was_opened}
 use Rattle.open_session.specs.Moments.{Moment, ReadsTo, Spends}
 use Rattle.open_session.specs.Meaning.{AllKeep, Means}
 use Rattle.desk_requests.specs.Commits.{CommitsAs, IsDecided, HadNoMemory, decided_reply}
 use Rattle.open_session.proofs.MomentLemmas.{as_long, reads_still, seen_longer, spends_seen}
 use Rattle.open_session.proofs.BoundLemmas.{all_settled_later}
+use Rattle.open_session.proofs.LastPinsLemmas.{opens_none, pins_still}
 use Rattle.open_session.proofs.QueryLemmas.{keep_later}
 use Rattle.open_session.proofs.Here.{Here, StepTo, asked_here, exchange_here, grows_by, inside_of, keep_learned, on_ok}
 use Rattle.open_session.proofs.Here.{pinned_still, prefix_of, quiet, quiet_learns, samples_here, settled_learned, whole_here, within_new, writes_one}
@@ -49,7 +51,8 @@ module _ {A : Type 0} {W : ℕ} (p : Here W) (after : Option (List ℕ)) (result
     (is : asked_here p ≡ Ok (Some asked)) (cursors : new.cursors ≡ p.old.cursors)
     (pinned : new.pinned ≡ p.old.pinned) (ledgers : new.ledgers ≡ p.old.ledgers) (samples : new.samples ≡ p.old.samples)
     (keeps : KeepsDesk p.old.desk new.desk)
-    (pins : pins_of new.desk ≡ pins_of p.old.desk)
+    (pins : pins_of new.desk ≡ pins_of p.old.desk) (last_pins : new.desk.pins ≡ p.old.desk.pins)
+    (none_opened : (may_pin (Ok (Some asked)) && was_opened (this ∷ [])) ≡ false)
     (mid : DeskState) (learns : Learns p.old.desk mid.seen) (same : mid.config ≡ p.old.desk.config) where
   -- the entry of this session
   abbrev entry : ℕ → JournalEntry
@@ -169,6 +172,8 @@ module _ {A : Type 0} {W : ℕ} (p : Here W) (after : Option (List ℕ)) (result
               (keep_later p.config before further p.old.cursors (open_queries p.s.queries)
               (keep_learned p mid learns same p.old.cursors (open_queries p.s.queries) p.stands.keep)));
           pinned = pinned_still p new moved pinned refl;
+          pins = subst (λ r. LeavesPins r (this ∷ []) number p.old.desk new.desk p.old.pinned new.pinned) (sym is)
+              (pins_still (Ok (Some asked)) (this ∷ []) number p.old.desk new.desk p.old.pinned new.pinned none_opened last_pins pinned);
           position = position;
         }
 
@@ -228,7 +233,8 @@ module _ {A : Type 0} {W : ℕ} (p : Here W) (after : Option (List ℕ)) (result
       (exchange_here p new (reply.NoMemory ∷ []) p.s.position) p.s)
       → HadNoMemory p.old.desk new.desk p.old.position new.position this → StepTo p after result new
   refused asked is none answers no_memory =
-      quiet p after result new (Ok (Some asked)) (reply.NoMemory ∷ []) is none no_memory.learns ledgers pinned
+      quiet p after result new (Ok (Some asked)) (reply.NoMemory ∷ []) is none
+      (opens_none (Ok (Some asked)) (reply.NoMemory ∷ []) refl) no_memory.learns ledgers pinned
       no_memory.position_is samples keep_still answers
       (writes_one p.before after result reply.NoMemory
       (subst (λ r. Writes p.before after result (reply_line r)) no_memory.told wrote))
@@ -268,6 +274,9 @@ module _ {A : Type 0} {W : ℕ} (p : Here W) (after : Option (List ℕ)) (result
 
     pins : pins_of new.desk ≡ pins_of p.old.desk
     pins = ap pins_of commits.after
+
+    last_pins : new.desk.pins ≡ p.old.desk.pins
+    last_pins = ap (λ (d : DeskState). d.pins) commits.after
 
     -- the entries that were seen, by whether the operation was accepted
     seen_by : (accepts : Bool) → is_accepted kind ≡ accepts
@@ -315,10 +324,11 @@ module _ {A : Type 0} {W : ℕ} (p : Here W) (after : Option (List ℕ)) (result
 
     declined_step : (asked : LineRequest) (said : LineReply) → asked_here p ≡ Ok (Some asked) → this ≡ said
         → is_accepted kind ≡ false → accepted (Ok (Some asked)) (said ∷ []) ≡ []
+        → (may_pin (Ok (Some asked)) && was_opened (said ∷ [])) ≡ false
         → ((later : List JournalEntry) → Answers (Ok (Some asked)) p.config (seen_history new.desk ++ later) p.s
         (exchange_here p new (said ∷ []) (length new.desk.seen)) (moved_on p new))
         → StepTo p after result new
-    declined_step asked said is told no_entry none answers =
+    declined_step asked said is told no_entry none none_opened answers =
         let s = p.s in
         let only = only_here no_entry in
         quiet_learns p after result new (Ok (Some asked)) (said ∷ []) (moved_on p new) is none (length new.desk.seen)
@@ -330,7 +340,7 @@ module _ {A : Type 0} {W : ℕ} (p : Here W) (after : Option (List ℕ)) (result
         (ap (λ (l : Ledgers). l.upkeep) ledgers)
         p.stands.settled (samples_here p new s.queries samples refl) refl refl refl
         (on_ok result (AllKeep p.config p.history new.cursors (open_queries s.queries)) keep_still)
-        (pinned_still p new (moved_on p new) pinned refl) position_is
+        (pinned_still p new (moved_on p new) pinned refl) pinned none_opened position_is
 
     -- the reply to one that isn't accepted, at the end of what was seen
     told_at_end : (reply_at : ℕ → LineReply) → this ≡ reply_at new.position → this ≡ reply_at (length new.desk.seen)
@@ -346,7 +356,7 @@ module _ {A : Type 0} {W : ℕ} (p : Here W) (after : Option (List ℕ)) (result
           let taken : is_accepted kind ≡ true = ap is_accepted added in
           let entry : Operation → JournalEntry = λ o. record { who = p.s.who; operation = o } in
           accepted_step p after result new (journal.Add key code) journal.Added (Add key code)
-          (reply.Added key (length (seen_history mid) + 1)) is cursors pinned ledgers samples keeps pins mid commits.learns
+          (reply.Added key (length (seen_history mid) + 1)) is cursors pinned ledgers samples keeps pins last_pins refl mid commits.learns
           refl refl
           (ap (λ o. seen_history mid ++ entry o ∷ []) (sym is_add) ∙ history_more taken) (position_more taken)
           (ap (decision_on (seen_history mid) p.config.entries) (sym is_add) ∙ decided_here ∙ added)
@@ -368,7 +378,7 @@ module _ {A : Type 0} {W : ℕ} (p : Here W) (after : Option (List ℕ)) (result
           let taken : kind ≡ journal.Taken = ap decision_of same in
           let no_entry : is_accepted kind ≡ false = ap is_accepted taken in
           declined_step (Add key code) (reply.Taken key (length new.desk.seen)) is (told_at_end (reply.Taken key) told)
-          no_entry refl
+          no_entry refl refl
           (λ later. inr (inr (inl (declined p new (journal.Add key code) journal.Taken
           (reply.Taken key (length new.desk.seen)) later (only_here no_entry).learns (add_why journal.Taken taken no_entry)))))
       add_by Deleted same told =
@@ -382,7 +392,7 @@ module _ {A : Type 0} {W : ℕ} (p : Here W) (after : Option (List ℕ)) (result
       add_by Full same told =
           let full : kind ≡ journal.Full = ap decision_of same in
           let no_entry : is_accepted kind ≡ false = ap is_accepted full in
-          declined_step (Add key code) (reply.Full (length new.desk.seen)) is (told_at_end reply.Full told) no_entry refl
+          declined_step (Add key code) (reply.Full (length new.desk.seen)) is (told_at_end reply.Full told) no_entry refl refl
           (λ later. inr (inr (inr (declined p new (journal.Add key code) journal.Full
           (reply.Full (length new.desk.seen)) later (only_here no_entry).learns (add_why journal.Full full no_entry)))))
 
@@ -395,7 +405,7 @@ module _ {A : Type 0} {W : ℕ} (p : Here W) (after : Option (List ℕ)) (result
           let taken : is_accepted kind ≡ true = ap is_accepted deleted in
           let entry : Operation → JournalEntry = λ o. record { who = p.s.who; operation = o } in
           accepted_step p after result new (journal.Delete key) journal.Deleted (Del key)
-          (reply.Deleted key (length (seen_history mid) + 1)) is cursors pinned ledgers samples keeps pins mid commits.learns
+          (reply.Deleted key (length (seen_history mid) + 1)) is cursors pinned ledgers samples keeps pins last_pins refl mid commits.learns
           refl refl
           (ap (λ o. seen_history mid ++ entry o ∷ []) (sym is_delete) ∙ history_more taken) (position_more taken)
           (ap (decision_on (seen_history mid) p.config.entries) (sym is_delete) ∙ decided_here ∙ deleted)
@@ -417,7 +427,7 @@ module _ {A : Type 0} {W : ℕ} (p : Here W) (after : Option (List ℕ)) (result
           let absent : kind ≡ journal.Absent = ap decision_of same in
           let no_entry : is_accepted kind ≡ false = ap is_accepted absent in
           declined_step (Del key) (reply.Absent key (length new.desk.seen)) is (told_at_end (reply.Absent key) told)
-          no_entry refl
+          no_entry refl refl
           (λ later. inr (inr (inl (declined p new (journal.Delete key) journal.Absent
           (reply.Absent key (length new.desk.seen)) later (only_here no_entry).learns (delete_why journal.Absent absent no_entry)))))
       delete_by Added same told =
@@ -431,7 +441,7 @@ module _ {A : Type 0} {W : ℕ} (p : Here W) (after : Option (List ℕ)) (result
       delete_by Full same told =
           let full : kind ≡ journal.Full = ap decision_of same in
           let no_entry : is_accepted kind ≡ false = ap is_accepted full in
-          declined_step (Del key) (reply.Full (length new.desk.seen)) is (told_at_end reply.Full told) no_entry refl
+          declined_step (Del key) (reply.Full (length new.desk.seen)) is (told_at_end reply.Full told) no_entry refl refl
           (λ later. inr (inr (inr (declined p new (journal.Delete key) journal.Full
           (reply.Full (length new.desk.seen)) later (only_here no_entry).learns (delete_why journal.Full full no_entry)))))
 

@@ -26,6 +26,7 @@ use Rattle.open_session.specs.KeptDesk.{KeepsDesk, pins_of}
 use Rattle.open_session.specs.Moments.{Moment, ReadsTo, Spends}
 use Rattle.open_session.specs.Meaning.{AllKeep}
 use Rattle.open_session.proofs.DeskLemmas.{layout_there, same_layouts, with_layout}
+use Rattle.open_session.proofs.LastPinsLemmas.{pins_still}
 use Rattle.open_session.proofs.MomentLemmas.{reads_still, seen_longer, spends_seen}
 use Rattle.open_session.proofs.Here.{Here, StepTo, asked_here, inside_of, keep_learned, layout_here, means_to, on_ok, pinned_still, prefix_of}
 use Rattle.open_session.proofs.Here.{quiet_by, quiet_learns, samples_here, settled_learned, whole_here, within_new, writes_one}
@@ -90,7 +91,7 @@ module _ {A : Type 0} {W : ℕ} (p : Here W) (after : Option (List ℕ)) (result
         (ap (λ (l : Ledgers). l.upkeep) ledgers)
         p.stands.settled (samples_here p new s.queries samples refl) refl refl refl
         (on_ok result (AllKeep p.config p.history new.cursors (open_queries s.queries)) keep_still)
-        (pinned_still p new then pinned refl) position
+        (pinned_still p new then pinned refl) pinned refl position
 
   -- ---- `layout`
 
@@ -150,4 +151,7 @@ module _ {A : Type 0} {W : ℕ} (p : Here W) (after : Option (List ℕ)) (result
         keeps
         (on_ok result (AllKeep p.config (seen_history new.desk) new.cursors (open_queries s.queries))
         (keep_learned p new.desk learns keeps.config new.cursors (open_queries s.queries) keep_still))
-        (pinned_still p new s pinned refl) (position ∙ p.stands.position)
+        (pinned_still p new s pinned refl)
+        (pins_still (Ok (Some (Layout shard))) (this ∷ []) s.position p.old.desk new.desk p.old.pinned new.pinned refl
+        (ap (λ (d : DeskState). d.pins) tells.after) pinned)
+        (position ∙ p.stands.position)

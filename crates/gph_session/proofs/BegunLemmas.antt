@@ -22,7 +22,7 @@ use Rattle.session_model.specs.Outside.{Call}
 use Rattle.session_model.specs.State.{new_session}
 use Rattle.session_model.specs.Step.{AreLayouts}
 use Rattle.session_model.specs.Upkeep.{most_upkeep}
-use Rattle.gph_session.specs.Sessions.{IsServed, IsServedSolo, RisesByCount, Told, state_of}
+use Rattle.gph_session.specs.Sessions.{IsServed, IsServedSolo, RisesByCount, Told, moves_of, state_of}
 use Rattle.open_session.specs.declared.open_session.Session.{Session}
 use Rattle.open_session.specs.declared.shard_build.ShardBuild.{ShardBuild}
 use Rattle.open_session.specs.KeptBuild.{MeansBuild, StandsFrom, left_in}
@@ -37,6 +37,7 @@ use Rattle.open_session.proofs.MomentLemmas.{as_long, desk_keeps, learns_nothing
 use Rattle.gph_session.proofs.EndingLemmas.{done_as, input_limit_as, read_fault_as, write_fault_as}
 use Rattle.gph_session.proofs.FlowLemmas.{leaves_then}
 use Rattle.open_session.proofs.DeskLemmas.{are_layouts}
+use Rattle.open_session.proofs.LastPinsLemmas.{tells_no_pins}
 use Rattle.open_session.proofs.WholeLemmas.{leaves}
 
 -- ---- a session before its first byte
@@ -119,7 +120,9 @@ begun_session {W} words config now begun is same none opened told no_samples no_
         build = subst (λ b. MeansBuild desk b None) (sym no_build) tt;
         keeps = leaves desk desk (desk_keeps desk);
         done = inl (omega arith);
+        late = inl (omega arith);
         pinned = record { each = tt; opened = opened; told = told };
+        pins = tells_no_pins config desk now.pinned.told;
         requests = requests;
         position = position;
       };
@@ -203,9 +206,11 @@ module _ (config : Config) (before desk desk' : DeskState) (told : Told) (only :
         served.upkeep;
     keeps = leaves_then before desk desk' (leaves before desk (only_keeps before desk only)) served.keeps;
     done = subst (λ n. RisesByCount n desk'.done (swaps_of exchanges)) (ap (λ (d : DeskState). d.done) only.after) served.done;
+    late = subst (λ n. RisesByCount n desk'.late (moves_of exchanges)) (ap (λ (d : DeskState). d.late) only.after) served.late;
     requests = served.requests;
     position = served.position;
     pinned = served.pinned;
+    pins = served.pins;
     alone = λ alone. subst (λ d. IsServedSolo d desk' told config exchanges rise) (learns_nothing before desk alone only)
         (served.alone (same_alone ∙ alone));
   }

@@ -1,7 +1,7 @@
 -- Lemmas on a session that goes on: one line more, the line that ends it, and the line whose reply is
 -- refused.
 use Rattle.std.proofs.Common.{◌≡◌, ◌≢◌, ℕ, ◌+◌, ◌-◌, ◌≤◌, ◌<◌, ◌==◌, ◌⊎◌, inl, inr, min, true, false, cond, Option, Result, Ok, Bool}
-use Rattle.std.proofs.Common.{List, [], ◌∷◌, ◌++◌, length, take, drop, replicate}
+use Rattle.std.proofs.Common.{List, [], ◌∷◌, ◌++◌, length, take, drop, replicate, count_by}
 use Rattle.std.proofs.Common.{refl, sym, ap, ◌∙◌, subst, arith, append_assoc, append-nil}
 use Rattle.std.specs.List.{AllByRecursion}
 use Rattle.std.specs.Io.KnownBytes.{Appends}
@@ -16,7 +16,7 @@ use Rattle.byte_lines.proofs.LinesLemmas.{ended_lines-append, unended-append}
 use Rattle.hamming_model.specs.History.{JournalEntry}
 use Rattle.part_layout.specs.declared.config.Config.{Config}
 use Rattle.query_protocol.specs.Lines.{reading}
-use Rattle.query_protocol.specs.Replies.{text}
+use Rattle.query_protocol.specs.Replies.{LineReply, text}
 use Rattle.session_desk.specs.Desks.{DeskState, seen_history}
 use Rattle.part_layout.specs.Contiguous.{contiguous}
 use Rattle.session_model.specs.State.{Query, State, new_session, open_queries}
@@ -33,10 +33,11 @@ use Rattle.session_model.proofs.RunLemmas.{run_more, commits_more, written_more}
 use Rattle.session_model.proofs.RunLemmas.{before_answered, quit_answered, before_more, quit_more}
 use Rattle.session_step.specs.declared.turn.Turn.{Turn}
 use Rattle.session_step.specs.declared.turn.Turn.TheVariants.{Goes}
-use Rattle.gph_session.specs.Sessions.{IsServed, IsServedSolo, RisesByCount, state_of}
+use Rattle.gph_session.specs.Sessions.{IsServed, IsServedSolo, RisesByCount, moves_of, state_of}
 use Rattle.open_session.specs.KeptBuild.{StandsFrom, left_in}
 use Rattle.open_session.specs.Growth.{IsAside}
 use Rattle.open_session.specs.KeptDesk.{LeavesDesk, layouts_of, pins_of}
+use Rattle.open_session.specs.LastPins.{LeavesPins}
 use Rattle.open_session.specs.Moments.{Moment}
 use Rattle.open_session.specs.Meaning.{Means, IsSettled, AllKeep}
 use Rattle.session_step.specs.Answering.{OneLine, requests_with}
@@ -44,6 +45,7 @@ use Rattle.gph_session.specs.Flow.{Start, HasRun, GoesOn, begun_state, told_so_f
 use Rattle.gph_session.specs.Pieces.{HasServed, HasEnded, WasRefused}
 use Rattle.open_session.specs.Steps.{Stands}
 use Rattle.gph_session.proofs.GrowthLemmas.{each_more, each_seen_later, own_more, run_as}
+use Rattle.open_session.proofs.LastPinsLemmas.{tells_more}
 use Rattle.open_session.proofs.MomentLemmas.{reads_then, spends_then, others_more, as_long}
 
 -- ---- what a state's queries have read
@@ -177,9 +179,11 @@ module _ {W : ℕ} (config : Config) (start : Start) (now : Moment W) (exchanges
     upkeep = upkeep_here (length now.desk.seen) (omega arith);
     keeps = ran.keeps;
     done = ran.done;
+    late = ran.late;
     requests = ran.requests;
     position = ran.position;
     pinned = ran.pinned.told;
+    pins = ran.pins;
     alone = served_solo;
   }
 
@@ -222,11 +226,12 @@ build_steps_more from [] e = omega arith
 build_steps_more from (first ∷ exchanges) e =
     omega (arith, build_steps_more (build_at from first.replies) exchanges e)
 
--- the swaps with one exchange more, and the count of them
-swaps_more : (exchanges : List Exchange) (e : Exchange)
-    → swaps_of (exchanges ++ e ∷ []) ≡ swaps_of exchanges + cond (was_swapped e.replies) 1 0
-swaps_more exchanges e =
-    let Counts = λ (x : Exchange). cond (was_swapped x.replies) 1 0 in
+-- the exchanges with such replies, with one exchange more, and the count of them
+replied_more : (counts : List LineReply → Bool) (exchanges : List Exchange) (e : Exchange)
+    → count_by (λ x. counts x.replies) (exchanges ++ e ∷ [])
+    ≡ count_by (λ x. counts x.replies) exchanges + cond (counts e.replies) 1 0
+replied_more counts exchanges e =
+    let Counts = λ (x : Exchange). cond (counts x.replies) 1 0 in
     let both = sum_by-append Counts exchanges (e ∷ []) in
     omega (arith, both)
 
@@ -242,8 +247,8 @@ one_more_by mid false is = inl (ap (λ b. cond b mid (mid + 1)) is)
 most_stays : (mid : ℕ) → mid ≡ 18446744073709551615 → one_more mid ≡ 18446744073709551615
 most_stays mid is = ap one_more is
 
-counted_by : (old mid new number : ℕ) (swapped : Bool) → RisesByCount old mid number
-    → new ≡ cond swapped (one_more mid) mid → RisesByCount old new (number + cond swapped 1 0)
+counted_by : (old mid new number : ℕ) (counts : Bool) → RisesByCount old mid number
+    → new ≡ cond counts (one_more mid) mid → RisesByCount old new (number + cond counts 1 0)
 counted_by old mid new number false (inl rose) same = inl (omega (arith, rose, same))
 counted_by old mid new number false (inr most) same = inr (same ∙ most)
 counted_by old mid new number true (inr most) same = inr (same ∙ most_stays mid most)
@@ -359,13 +364,19 @@ module _ {W : ℕ} (config : Config) (start : Start) (now : Moment W) (exchanges
     samples = one.step.samples;
     build = one.step.build;
     keeps = leaves_then start.desk now.desk next.desk ran.keeps one.step.keeps;
-    done = subst (RisesByCount start.desk.done next.desk.done) (sym (swaps_more exchanges one.step.exchange))
+    done = subst (RisesByCount start.desk.done next.desk.done) (sym (replied_more (λ r. was_swapped r) exchanges one.step.exchange))
         (counted_by start.desk.done now.desk.done next.desk.done (swaps_of exchanges)
         (was_swapped one.step.exchange.replies) ran.done one.step.done);
+    late = subst (RisesByCount start.desk.late next.desk.late) (sym (replied_more (λ r. was_moved r) exchanges one.step.exchange))
+        (counted_by start.desk.late now.desk.late next.desk.late (moves_of exchanges)
+        (was_moved one.step.exchange.replies) ran.late one.step.late);
     requests = one.requests ∙ ap (requests_with (reading config line)) ran.requests
         ∙ counted_once (is_answered (reading config line)) (requests_of config exchanges)
         ∙ ap (λ n. min n 18446744073709551615) (sym (requests_more config exchanges one.step.exchange line one.step.is_line));
     pinned = one.step.pinned;
+    pins = tells_more config exchanges one.step.exchange now.desk next.desk now.pinned next.pinned one.step.keeps.config ran.pins
+        (subst (λ l. LeavesPins (reading config l) one.step.exchange.replies one.step.exchange.position now.desk next.desk
+        now.pinned next.pinned) (sym one.step.is_line) one.step.pins);
     position = one.step.position;
   }
 

@@ -19,13 +19,14 @@ use Rattle.session_model.specs.Commits.{commits, entries_by, requests_of}
 use Rattle.session_model.specs.Told.{pinned_by}
 use Rattle.session_model.specs.Run.{Run, written_text, lines_of}
 use Rattle.open_session.specs.Growth.{IsAside}
+use Rattle.open_session.specs.LastPins.{TellsLastPins}
 use Rattle.open_session.specs.Moments.{Moment, ReadsTo, Spends}
 use Rattle.open_session.specs.Meaning.{Means, AllKeep, IsSettled}
 use Rattle.open_session.specs.Pinned.{TellsPinned}
 use Rattle.open_session.specs.KeptBuild.{MeansBuild, StandsFrom, left_in}
 use Rattle.open_session.specs.KeptDesk.{LeavesDesk, layouts_of}
 use Rattle.open_session.specs.Samples.{MeansSamples}
-use Rattle.gph_session.specs.Sessions.{RisesByCount, Told}
+use Rattle.gph_session.specs.Sessions.{RisesByCount, Told, moves_of}
 
 -- what a session began with
 pub record Start : Type 0 where
@@ -75,7 +76,9 @@ pub record HasRun {W : ℕ} (config : Config) (start : Start) (now : Moment W)
   pub build : MeansBuild now.desk now.build state.build
   pub keeps : LeavesDesk start.desk now.desk
   pub done : RisesByCount start.desk.done now.desk.done (swaps_of exchanges)
+  pub late : RisesByCount start.desk.late now.desk.late (moves_of exchanges)
   pub pinned : TellsPinned config.shards now.pinned (pinned_by state.queries)
+  pub pins : TellsLastPins config exchanges now.desk now.pinned.told
   pub requests : now.requests ≡ min (requests_of config exchanges) 18446744073709551615
   pub position : now.position ≡ state.position
 

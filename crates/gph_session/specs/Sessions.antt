@@ -1,11 +1,12 @@
 -- A session over a desk: the state in which it begins, and what it leaves.
-use Rattle.std.specs.Prelude.{◌≡◌, ℕ, ◌+◌, ◌≤◌, ◌⊎◌, true, min, List, ◌++◌, length, map}
+use Rattle.std.specs.Prelude.{◌≡◌, ℕ, ◌+◌, ◌≤◌, ◌⊎◌, true, min, List, ◌++◌, length, map, count_by}
 use Rattle.std.specs.List.{AllByRecursion}
 use Rattle.hamming_model.specs.History.{JournalEntry}
 use Rattle.part_layout.specs.declared.config.Config.{Config}
 use Rattle.session_desk.specs.Desks.{DeskState, seen_history}
 use Rattle.open_session.specs.KeptDesk.{LeavesDesk, layouts_of, pins_of}
-use Rattle.session_model.specs.Builds.{swaps_of}
+use Rattle.open_session.specs.LastPins.{TellsLastPins}
+use Rattle.session_model.specs.Builds.{swaps_of, was_moved}
 use Rattle.session_model.specs.State.{State, new_session}
 use Rattle.session_model.specs.Entries.{Exchange}
 use Rattle.session_model.specs.Ledger.{IsRise, Rise}
@@ -41,6 +42,10 @@ told_by report = record {
 -- a count that stops at the greatest number rose by so many
 abbrev pub RisesByCount : ℕ → ℕ → ℕ → Type 0
 RisesByCount old new number = (new ≡ old + number) ⊎ (new ≡ 18446744073709551615)
+
+-- how many of the exchanges found the shard of their build beyond it
+abbrev pub moves_of : List Exchange → ℕ
+moves_of exchanges = count_by (λ e. was_moved e.replies) exchanges
 
 -- a session begins with its desk's number, at a position no shorter than what the desk had seen,
 -- and with nothing opened or built; where the desk is alone, at all that was seen and in the
@@ -80,9 +85,11 @@ pub record IsServed (old new : DeskState) (told : Told) (config : Config)
   pub upkeep : rise.upkeep ≤ most_upkeep config.shards (pins_of old) (length new.seen) exchanges
   pub keeps : LeavesDesk old new
   pub done : RisesByCount old.done new.done (swaps_of exchanges)
+  pub late : RisesByCount old.late new.late (moves_of exchanges)
   pub requests : told.requests ≡ min (requests_of config exchanges) 18446744073709551615
   pub position : told.position ≡ last.position
   pub pinned : told.layouts ≡ layouts_told last.queries
+  pub pins : TellsLastPins config exchanges new told.layouts
   pub alone : old.alone ≡ true → IsServedSolo old new told config exchanges rise
 
 -- a session over a desk, of which this is the report, ended so, by what it has read, written and

@@ -3,4 +3,5 @@ pub mod NearLemmas
 pub mod NearWorkLemmas
 pub mod OpenLemmas
 pub mod StepLemmas
+pub mod TaskLemmas
 pub mod WalkedLemmas

@@ -6,4 +6,5 @@ pub mod NearLists
 pub mod Opening
 pub mod ReadyLaw
 pub mod Rings
+pub mod Standings
 pub mod Walked

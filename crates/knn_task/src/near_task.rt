@@ -8,7 +8,7 @@ ghost use Rattle.hit_source.specs.Moves.{PollAnswers};
 ghost use Rattle.hit_source.specs.Work.{Works};
 ghost use Rattle.knn_task.specs.Near.{IsHeld, IsUnder};
 ghost use Rattle.knn_task.specs.Opening.{AsksNear, BeginsNear, near_code};
-ghost use Rattle.knn_task.specs.Walked.{IsNearTask, near_asked, near_standing, search_of, ring_at};
+ghost use Rattle.knn_task.specs.Walked.{IsNearTask, search_of, ring_at};
 
 use crate::near_rings::NearRings;
 use crate::settling::{radii_up_to, settle_ring};
@@ -43,6 +43,8 @@ pub struct NearTask<const W: usize> {
 }
 
 impl<const W: usize> NearTask<W> {
+    ghost use Rattle.knn_task.specs.Standings.{near_task_asked, near_task_standing};
+
     /// Opens the query: plans it for all radii and takes all its memory, 16 bytes for each row among it.
     ///
     /// # Errors
@@ -90,16 +92,10 @@ impl<const W: usize> NearTask<W> {
         ensures room { self.new.window.room ≡ self.old.window.room }
         ensures few { result ≤ most }
         ensures works { Works (Some limit) result
-            (near_standing self.old.rings.plan self.old.rings.walk
-            self.old.window self.old.mark self.old.reads)
-            (near_standing self.new.rings.plan self.new.rings.walk
-            self.new.window self.new.mark self.new.reads)
-            steps.old steps.new }
+            (near_task_standing self.old) (near_task_standing self.new) steps.old steps.new }
         ensures under { IsUnder limit self.new.window self.new.mark }
-        ensures stops { result ≡ 0 → IsHeld limit
-            (near_asked self.new.rings.plan self.new.window.room)
-            (near_standing self.new.rings.plan self.new.rings.walk
-            self.new.window self.new.mark self.new.reads) }
+        ensures stops { result ≡ 0
+            → IsHeld limit (near_task_asked self.new) (near_task_standing self.new) }
     {
         if self.rings.left() > 0 {
             return self.search(limit, most, steps);
@@ -131,11 +127,7 @@ impl<const W: usize> NearTask<W> {
         ensures some { 1 ≤ result }
         ensures few { result ≤ most }
         ensures works { Works (Some limit) result
-            (near_standing self.old.rings.plan self.old.rings.walk
-            self.old.window self.old.mark self.old.reads)
-            (near_standing self.new.rings.plan self.new.rings.walk
-            self.new.window self.new.mark self.new.reads)
-            steps.old steps.new }
+            (near_task_standing self.old) (near_task_standing self.new) steps.old steps.new }
         ensures under { IsUnder limit self.new.window self.new.mark }
     {
         if self.rings.is_in_list() {
@@ -156,11 +148,7 @@ impl<const W: usize> NearTask<W> {
         ensures some { 1 ≤ result }
         ensures few { result ≤ most }
         ensures works { Works (Some limit) result
-            (near_standing self.old.rings.plan self.old.rings.walk
-            self.old.window self.old.mark self.old.reads)
-            (near_standing self.new.rings.plan self.new.rings.walk
-            self.new.window self.new.mark self.new.reads)
-            steps.old steps.new }
+            (near_task_standing self.old) (near_task_standing self.new) steps.old steps.new }
         ensures under { IsUnder limit self.new.window self.new.mark }
     {
         let count = self.rings.read(most, &mut self.window, steps);
@@ -185,11 +173,7 @@ impl<const W: usize> NearTask<W> {
         ensures search { search_of self.new.rings.plan ≡ search_of self.old.rings.plan }
         ensures room { self.new.window.room ≡ self.old.window.room }
         ensures works { Works (Some limit) 1
-            (near_standing self.old.rings.plan self.old.rings.walk
-            self.old.window self.old.mark self.old.reads)
-            (near_standing self.new.rings.plan self.new.rings.walk
-            self.new.window self.new.mark self.new.reads)
-            steps.old steps.new }
+            (near_task_standing self.old) (near_task_standing self.new) steps.old steps.new }
         ensures under { IsUnder limit self.new.window self.new.mark }
     {
         self.rings.begin();
@@ -205,9 +189,7 @@ impl<const W: usize> NearTask<W> {
 
     // How a poll ends that ends here.
     fn judged(&self) -> Polled
-        ensures { PollAnswers (near_asked self.now.rings.plan self.now.window.room)
-            (near_standing self.now.rings.plan self.now.rings.walk
-            self.now.window self.now.mark self.now.reads) result }
+        ensures { PollAnswers (near_task_asked self.now) (near_task_standing self.now) result }
     {
         if self.window.moved() as u64 == self.rings.rows() {
             Polled::Ended

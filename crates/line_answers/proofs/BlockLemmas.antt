@@ -13,14 +13,14 @@ use Rattle.byte_lines.proofs.LinesLemmas.{ended_lines-append, unended-append}
 use Rattle.line_io.specs.declared.source.Failed.{Failed}
 use Rattle.session_model.specs.Ledger.{Ledgers}
 use Rattle.line_answers.specs.Answered.{Answering, AnswersInOrder}
-use Rattle.line_answers.specs.Flow.{Moment, HasAnswered, WasBroken, StandsAfter, StandsAtEnd, FlowsOn, AnswersCut, AnswersLine}
+use Rattle.line_answers.specs.Flow.{Progress, HasAnswered, WasBroken, StandsAfter, StandsAtEnd, ProceedsBy, AnswersLineCut, AnswersLine}
 use Rattle.line_answers.proofs.FlowLemmas.{line_more, broken_more, one_line}
 
 -- nothing was added to an output
 nothing_more : (output : List ℕ) → output ≡ output ++ []
 nothing_more output = sym (append-nil output)
 
-module _ (Old New : Answering) (old new : Moment) (start : Ledgers) (bytes output : List ℕ)
+module _ (Old New : Answering) (old new : Progress) (start : Ledgers) (bytes output : List ℕ)
     (going : HasAnswered Old old start bytes output) where
   -- a piece that ended one line, which was answered so
   line_flow : (result : Result (Unit {0}) Failed) (line piece : List ℕ)
@@ -51,7 +51,7 @@ module _ (Old New : Answering) (old new : Moment) (start : Ledgers) (bytes outpu
   pub cut_flow : (result : Result (Unit {0}) Failed) (cut : Cut) (lent piece : List ℕ)
       → TellsOf (Some cut) lent (ended_lines (unended [] bytes) piece)
       → new.begun ≡ held_of (unended (unended [] bytes) piece)
-      → AnswersCut cut lent result Old old New new
+      → AnswersLineCut cut lent result Old old New new
       → (more : List ℕ) × Appends old.written new.written more
       × StandsAfter result New new start bytes piece (output ++ more)
   cut_flow result cut lent piece tells begun answers =
@@ -78,17 +78,17 @@ module _ (Old New : Answering) (old new : Moment) (start : Ledgers) (bytes outpu
 
   pub cut_end : (result : Result (Unit {0}) Failed) (cut : Cut) (lent : List ℕ)
       → TellsOf (Some cut) lent (last_line (unended [] bytes))
-      → AnswersCut cut lent result Old old New new
+      → AnswersLineCut cut lent result Old old New new
       → (more : List ℕ) × Appends old.written new.written more
       × StandsAtEnd result New new start bytes (output ++ more)
   cut_end result cut lent tells answers =
       let only = one_line cut lent (last_line (unended [] bytes)) tells in
       line_end result only.0 only.1 (answers only.0 (subst (TellsOf (Some cut) lent) only.1 tells))
 
-module _ (Old : Answering) (old : Moment) (start : Ledgers) (bytes output : List ℕ)
+module _ (Old : Answering) (old : Progress) (start : Ledgers) (bytes output : List ℕ)
     (going : HasAnswered Old old start bytes output) where
   -- a piece that ended no line
-  pub uncut_flow : (new : Moment) (piece : List ℕ) → ended_lines (unended [] bytes) piece ≡ []
+  pub uncut_flow : (new : Progress) (piece : List ℕ) → ended_lines (unended [] bytes) piece ≡ []
       → new.begun ≡ held_of (unended (unended [] bytes) piece)
       → new.ledgers ≡ old.ledgers → new.written ≡ old.written
       → (more : List ℕ) × Appends old.written new.written more
@@ -146,7 +146,7 @@ flow_after a b c bytes output front piece whole first wrote P second is = (
 )
 
 -- what broke off in a front of some bytes did so with all of them
-broken_in_front : (New : Answering) (new : Moment) (start : Ledgers) (front rest output : List ℕ)
+broken_in_front : (New : Answering) (new : Progress) (start : Ledgers) (front rest output : List ℕ)
     (known fewer : ℕ) → fewer ≤ known → WasBroken New new start (ended_lines [] front) output known
     → WasBroken New new start (ended_lines [] (front ++ rest)) output fewer
 broken_in_front New new start front rest output known fewer le was =
@@ -171,12 +171,12 @@ no_fewer_lines bytes more =
     )
 
 -- a call that had answered the front of a block met the line behind it
-module _ (Old New : Answering) (a : Option (List ℕ)) (old new : Moment) (start : Ledgers) (done number : ℕ)
+module _ (Old New : Answering) (a : Option (List ℕ)) (old new : Progress) (start : Ledgers) (done number : ℕ)
     (block bytes output : List ℕ)
     (so_far : (more : List ℕ) × Appends a old.written more
     × HasAnswered Old old start (bytes ++ take done block) (output ++ more))
     (result : Result (Unit {0}) Failed)
-    (next : FlowsOn result Old old New new (take number (take (length block - done) (drop done block)))) where
+    (next : ProceedsBy result Old old New new (take number (take (length block - done) (drop done block)))) where
   -- the line's bytes, and the front with them
   abbrev piece : List ℕ
   piece = take number (take (length block - done) (drop done block))
@@ -224,7 +224,7 @@ module _ (Old New : Answering) (a : Option (List ℕ)) (old new : Moment) (start
       )
 
 -- a whole block was answered
-pub all_goes : (New : Answering) (a : Option (List ℕ)) (new : Moment) (start : Ledgers) (done : ℕ) (block bytes output : List ℕ)
+pub all_goes : (New : Answering) (a : Option (List ℕ)) (new : Progress) (start : Ledgers) (done : ℕ) (block bytes output : List ℕ)
     → length block ≤ done
     → ((more : List ℕ) × Appends a new.written more × HasAnswered New new start (bytes ++ take done block) (output ++ more))
     → (more : List ℕ) × Appends a new.written more × HasAnswered New new start (bytes ++ block) (output ++ more)

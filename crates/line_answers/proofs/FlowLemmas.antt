@@ -8,7 +8,7 @@ use Rattle.byte_lines.specs.declared.cutter.Cut.TheVariants.{Line, Long}
 use Rattle.line_io.specs.declared.source.Failed.{Failed}
 use Rattle.session_model.specs.Ledger.{Ledgers}
 use Rattle.line_answers.specs.Answered.{Answering, AnswersInOrder, joined_texts}
-use Rattle.line_answers.specs.Flow.{Moment, AnswersLine, WasBroken}
+use Rattle.line_answers.specs.Flow.{Progress, AnswersLine, WasBroken}
 
 -- the texts of some answers, and of one more
 pub joined_one : (texts : List (List ℕ)) (text : List ℕ) → joined_texts (texts ++ text ∷ []) ≡ joined_texts texts ++ text
@@ -23,11 +23,11 @@ one_line Line lent all tells = (lent, tells.0)
 one_line Long lent all tells = (tells.0, tells.1)
 
 -- what a line made of lines that were answered
-abbrev pub AfterLine : Result (Unit {0}) Failed → Answering → Moment → Ledgers → List (List ℕ) → List ℕ → ℕ → Type 0
+abbrev pub AfterLine : Result (Unit {0}) Failed → Answering → Progress → Ledgers → List (List ℕ) → List ℕ → ℕ → Type 0
 AfterLine (Ok on) New new start all output known = AnswersInOrder (New start new.ledgers) all output
 AfterLine (Err failed) New new start all output known = WasBroken New new start all output known
 
-module _ (Old New : Answering) (old new : Moment) (start : Ledgers) (lines : List (List ℕ)) (output line : List ℕ)
+module _ (Old New : Answering) (old new : Progress) (start : Ledgers) (lines : List (List ℕ)) (output line : List ℕ)
     (so_far : AnswersInOrder (Old start old.ledgers) lines output) where
   -- a line more was answered, or its answer was broken off
   pub line_more : (result : Result (Unit {0}) Failed) → AnswersLine result Old old New new line
@@ -63,7 +63,7 @@ module _ (Old New : Answering) (old new : Moment) (start : Ledgers) (lines : Lis
   )
 
 -- an answer that was broken off is so with more lines behind
-pub broken_more : (New : Answering) (new : Moment) (start : Ledgers) (lines more : List (List ℕ)) (output : List ℕ)
+pub broken_more : (New : Answering) (new : Progress) (start : Ledgers) (lines more : List (List ℕ)) (output : List ℕ)
     (known fewer : ℕ) → fewer ≤ known → WasBroken New new start lines output known
     → WasBroken New new start (lines ++ more) output fewer
 broken_more New new start lines more output known fewer le was =

@@ -3,7 +3,8 @@ use Rattle.std.proofs.Common.{◌≡◌, ℕ, ◌+◌, ◌-◌, ◌<◌, ◌≤�
 use Rattle.std.proofs.Common.{List, [], ◌∷◌, ◌++◌, length, take, drop, get_or}
 use Rattle.std.proofs.Common.{refl, sym, ap, ◌∙◌, subst, arith, append-nil, length-append}
 use Rattle.std.specs.Io.KnownBytes.{Appends, Consumes, Keeps, IsAtEnd}
-use Rattle.std.proofs.KnownBytes.{Appends-trans, Consumes-trans, Consumes-kept}
+use Rattle.std.proofs.KnownBytes.{Appends-nil, Appends-trans, Consumes-nil, Consumes-trans, Consumes-kept}
+use Rattle.byte_lines.specs.Cut.{held_of}
 use Rattle.std.proofs.lemmas.List.{take-append-le, take-append-drop, length-take}
 use Rattle.byte_lines.specs.Lines.{ended_lines}
 use Rattle.line_io.specs.Faults.{Rose}
@@ -14,7 +15,7 @@ use Rattle.session_model.specs.Outside.{Call, Ends, Transfers}
 use Rattle.session_model.specs.Outcomes.{before_last}
 use Rattle.line_answers.specs.Answered.{Answering}
 use Rattle.line_answers.specs.Endings.{IsAnsweredToEnd, IsAnsweredToReadFault, IsAnsweredToWriteFault, IsAnsweredToLimit}
-use Rattle.line_answers.specs.Flow.{Moment, StandsAfter, StandsAtEnd, FlowsOn, EndsOn, WasBroken, Serves}
+use Rattle.line_answers.specs.Flow.{Progress, StandsAfter, StandsAtEnd, ProceedsBy, EndsAfter, WasBroken, IsServing}
 use Rattle.line_answers.proofs.BlockLemmas.{no_fewer_lines}
 
 take_one : (xs : List ℕ) → 0 < length xs → take 1 xs ≡ get_or xs 0 0 ∷ []
@@ -65,10 +66,25 @@ length_read count room rest within =
 
 -- ---- the loop
 
-module _ {Old : Answering} {limit taken : ℕ} {start : Ledgers} {old : Moment} {source0 source1 sink0 sink1 : Ends}
-    (serves : Serves Old limit taken start old source0 source1 sink0 sink1) where
-  -- the call up to a moment
-  abbrev up_to : Ends → Ends → Moment → Call
+-- nothing was read yet
+pub serves_none : (Answered : Answering) (limit : ℕ) (now : Progress) (source sink : Ends) → Answered now.ledgers now.ledgers [] []
+    → now.begun ≡ held_of [] → IsServing Answered limit 0 now.ledgers now source source sink sink
+serves_none Answered limit now source sink none begun = record {
+  bytes = [];
+  output = [];
+  read = Consumes-nil source.bytes;
+  wrote = Appends-nil sink.bytes;
+  long = refl;
+  few = omega arith;
+  no_read_failed = refl;
+  no_write_failed = refl;
+  goes = record { answers = record { texts = []; answered = none; output_is = refl }; begun = begun };
+}
+
+module _ {Old : Answering} {limit taken : ℕ} {start : Ledgers} {old : Progress} {source0 source1 sink0 sink1 : Ends}
+    (serves : IsServing Old limit taken start old source0 source1 sink0 sink1) where
+  -- the call so far
+  abbrev up_to : Ends → Ends → Progress → Call
   up_to source sink now = record {
     before = record { source = source0; sink = sink0; ledgers = start };
     after = record { source = source; sink = sink; ledgers = now.ledgers };
@@ -109,7 +125,7 @@ module _ {Old : Answering} {limit taken : ℕ} {start : Ledgers} {old : Moment} 
         answered = serves.goes.answers;
       }
 
-  module _ (New : Answering) (source2 sink2 : Ends) (new : Moment) (from : old.written ≡ sink1.bytes)
+  module _ (New : Answering) (source2 sink2 : Ends) (new : Progress) (from : old.written ≡ sink1.bytes)
       (to : new.written ≡ sink2.bytes) (no_read_failed : source2.faults ≡ source1.faults) where
     -- what was written between the two moments
     wrote_more : (more : List ℕ) → Appends old.written new.written more → Appends sink1.bytes sink2.bytes more
@@ -120,7 +136,7 @@ module _ {Old : Answering} {limit taken : ℕ} {start : Ledgers} {old : Moment} 
 
     module _ (count : ℕ) (room : List ℕ) (zero : count ≡ 0)
         (read : Consumes source1.bytes source2.bytes (take count room)) (at_end : IsAtEnd source2.bytes)
-        (result : Result (Unit {0}) Failed) (flows : EndsOn result Old old New new) where
+        (result : Result (Unit {0}) Failed) (flows : EndsAfter result Old old New new) where
       -- nothing was read
       none : Consumes source1.bytes source2.bytes []
       none = subst (λ n. Consumes source1.bytes source2.bytes (take n room)) zero read
@@ -171,7 +187,7 @@ module _ {Old : Answering} {limit taken : ℕ} {start : Ledgers} {old : Moment} 
     -- ---- one more block
 
     module _ {piece : List ℕ} (block : HasRead source1.bytes source2.bytes taken limit piece)
-        (result : Result (Unit {0}) Failed) (leads : FlowsOn result Old old New new piece) where
+        (result : Result (Unit {0}) Failed) (leads : ProceedsBy result Old old New new piece) where
       flows : (more : List ℕ) × Appends old.written new.written more
           × StandsAfter result New new start serves.bytes piece (serves.output ++ more)
       flows = leads start serves.bytes serves.output serves.goes
@@ -194,7 +210,7 @@ module _ {Old : Answering} {limit taken : ℕ} {start : Ledgers} {old : Moment} 
 
       pub serves_more : {on : Unit {0}} (count : ℕ) → length piece ≡ count → result ≡ Ok on
           → sink2.faults ≡ sink1.faults
-          → Serves New limit (taken + count) start new source0 source2 sink0 sink2
+          → IsServing New limit (taken + count) start new source0 source2 sink0 sink2
       serves_more {on} count number is steady = record {
         bytes = all;
         output = output;

@@ -3,7 +3,7 @@
 ghost use Rattle.std.specs.Prelude.{◌≡◌, ℕ, ◌<◌, ◌≤◌, List, Option, length, take};
 ghost use Rattle.open_queries.specs.Writing.{IsCaused};
 ghost use Rattle.session_model.specs.Ledger.{ledgers};
-ghost use Rattle.line_answers.specs.Flow.{AnswersCut, EndsOn, FlowsOn, moment};
+ghost use Rattle.line_answers.specs.Flow.{AnswersLineCut, EndsAfter, ProceedsBy, progress_of};
 
 use crate::line_answers::LineAnswers;
 use byte_lines::{Cut, Cutter, LineBuf};
@@ -22,11 +22,11 @@ pub(crate) fn answer_block<A: LineAnswers, K: Sink, L, M>(
     meters: &mut Meters<L>,
 ) -> Result<(), Failed>
     ensures config { A.config answers.new ≡ A.config answers.old }
-    ensures flow { FlowsOn result
+    ensures flow { ProceedsBy result
         (A.answered answers.old)
-        (moment (ledgers meters.old upkeep.old) cutter.old.held (K.held sink.old))
+        (progress_of (ledgers meters.old upkeep.old) cutter.old.held (K.held sink.old))
         (A.answered answers.new)
-        (moment (ledgers meters.new upkeep.new) cutter.new.held (K.held sink.new))
+        (progress_of (ledgers meters.new upkeep.new) cutter.new.held (K.held sink.new))
         block.now }
     ensures cause { IsCaused (K.faults sink.old) (K.faults sink.new) result }
 {
@@ -62,11 +62,11 @@ fn answer_piece<A: LineAnswers, K: Sink, L, M>(
     requires some { 0 < length bytes.now }
     ensures progress { (0 < result.0) × (result.0 ≤ length bytes.now) }
     ensures config { A.config answers.new ≡ A.config answers.old }
-    ensures flow { FlowsOn result.1
+    ensures flow { ProceedsBy result.1
         (A.answered answers.old)
-        (moment (ledgers meters.old upkeep.old) cutter.old.held (K.held sink.old))
+        (progress_of (ledgers meters.old upkeep.old) cutter.old.held (K.held sink.old))
         (A.answered answers.new)
-        (moment (ledgers meters.new upkeep.new) cutter.new.held (K.held sink.new))
+        (progress_of (ledgers meters.new upkeep.new) cutter.new.held (K.held sink.new))
         (take result.0 bytes.now) }
     ensures cause { IsCaused (K.faults sink.old) (K.faults sink.new) result.1 }
 {
@@ -90,11 +90,11 @@ pub(crate) fn answer_end<A: LineAnswers, K: Sink, L, M>(
     meters: &mut Meters<L>,
 ) -> Result<(), Failed>
     ensures config { A.config answers.new ≡ A.config answers.old }
-    ensures flow { EndsOn result
+    ensures flow { EndsAfter result
         (A.answered answers.old)
-        (moment (ledgers meters.old upkeep.old) cutter.old.held (K.held sink.old))
+        (progress_of (ledgers meters.old upkeep.old) cutter.old.held (K.held sink.old))
         (A.answered answers.new)
-        (moment (ledgers meters.new upkeep.new) cutter.new.held (K.held sink.new)) }
+        (progress_of (ledgers meters.new upkeep.new) cutter.new.held (K.held sink.new)) }
     ensures cause { IsCaused (K.faults sink.old) (K.faults sink.new) result }
 {
     match cutter.finish() {
@@ -114,11 +114,11 @@ fn answer_cut<A: LineAnswers, K: Sink, L, M>(
     meters: &mut Meters<L>,
 ) -> Result<(), Failed>
     ensures config { A.config answers.new ≡ A.config answers.old }
-    ensures answers { (begun begun' : Option (List ℕ)) → AnswersCut cut cutter.now.line result
+    ensures answers { (begun begun' : Option (List ℕ)) → AnswersLineCut cut cutter.now.line result
         (A.answered answers.old)
-        (moment (ledgers meters.old upkeep.old) begun (K.held sink.old))
+        (progress_of (ledgers meters.old upkeep.old) begun (K.held sink.old))
         (A.answered answers.new)
-        (moment (ledgers meters.new upkeep.new) begun' (K.held sink.new)) }
+        (progress_of (ledgers meters.new upkeep.new) begun' (K.held sink.new)) }
     ensures cause { IsCaused (K.faults sink.old) (K.faults sink.new) result }
 {
     out.clear();

@@ -1,5 +1,5 @@
 -- One line as a session meets it, and a step that commits and builds nothing.
-use Rattle.std.proofs.Common.{◌≡◌, ◌≢◌, ◌≤◌, ℕ, true, List, [], ◌∷◌, ◌++◌, length, map, take, Option}
+use Rattle.std.proofs.Common.{◌≡◌, ◌≢◌, ◌≤◌, ◌&&◌, ℕ, true, false, List, [], ◌∷◌, ◌++◌, length, map, take, Option}
 use Rattle.std.proofs.Common.{Result, Ok, Err, OnOk, refl, sym, ap, ◌∙◌, subst, arith, append-nil, append_assoc, length-append}
 use Rattle.std.specs.List.{AllByRecursion}
 use Rattle.std.proofs.Math.ListN.{get_or-map}
@@ -26,6 +26,7 @@ use Rattle.session_model.specs.Ledger.{Ledgers, layout_at}
 use Rattle.open_session.specs.Cursors.{Cursor}
 use Rattle.open_session.specs.Growth.{HistoryGrows, IsAside}
 use Rattle.open_session.specs.KeptDesk.{KeepsDesk, pins_of}
+use Rattle.open_session.specs.LastPins.{LeavesPins, may_pin, was_opened}
 use Rattle.open_session.specs.Pinned.{TellsPinned}
 use Rattle.open_session.specs.Moments.{Moment, ReadsTo, Spends}
 use Rattle.open_session.specs.Meaning.{Means, AllKeep, IsSettled}
@@ -34,6 +35,7 @@ use Rattle.open_session.specs.Samples.{MeansSamples}
 use Rattle.open_session.specs.Steps.{Stands}
 use Rattle.open_session.proofs.MomentLemmas.{as_long, only_keeps, reads_still, seen_longer, seen_whole, spends_seen}
 use Rattle.open_session.proofs.BoundLemmas.{all_settled_later}
+use Rattle.open_session.proofs.LastPinsLemmas.{pins_still}
 use Rattle.open_session.proofs.QueryLemmas.{keep_later}
 
 -- a line, and the session that meets it: what it was asked to be, the moment and the state that it
@@ -243,8 +245,9 @@ module _ {A : Type 0} {W : ℕ} (p : Here W) (after : Option (List ℕ)) (result
         → Means p.config new.desk (seen_history new.desk) t → KeepsDesk p.old.desk new.desk
         → OnOk result (AllKeep p.config (seen_history new.desk) new.cursors (open_queries t.queries))
         → TellsPinned p.config.shards new.pinned (pinned_by t.queries)
+        → LeavesPins asked replies at p.old.desk new.desk p.old.pinned new.pinned
         → new.position ≡ t.position → StepTo p after result new
-    quiet_by learns stays are same answers wrote reads spent settled samples means keeps keep pinned position = record {
+    quiet_by learns stays are same answers wrote reads spent settled samples means keeps keep pinned pins position = record {
       exchange = exchange;
       state = t;
       is_line = refl;
@@ -266,6 +269,7 @@ module _ {A : Type 0} {W : ℕ} (p : Here W) (after : Option (List ℕ)) (result
       keeps = keeps;
       keep = keep;
       pinned = pinned;
+      pins = subst (λ r. LeavesPins r replies at p.old.desk new.desk p.old.pinned new.pinned) (sym is) pins;
       position = position;
     }
 
@@ -281,9 +285,10 @@ module _ {A : Type 0} {W : ℕ} (p : Here W) (after : Option (List ℕ)) (result
       → MeansSamples p.config.bits new.samples t.queries
       → t.position ≡ at → t.who ≡ p.s.who → t.layouts ≡ p.s.layouts
       → OnOk result (AllKeep p.config p.history new.cursors (open_queries t.queries))
-      → TellsPinned p.config.shards new.pinned (pinned_by t.queries)
+      → TellsPinned p.config.shards new.pinned (pinned_by t.queries) → new.pinned ≡ p.old.pinned
+      → (may_pin asked && was_opened replies) ≡ false
       → new.position ≡ t.position → StepTo p after result new
-  quiet_learns only stays within answers wrote reads upkeep settled samples there who layouts keep pinned position =
+  quiet_learns only stays within answers wrote reads upkeep settled samples there who layouts keep pinned told none_opened position =
       let keeps = only_keeps p.old.desk new.desk only in
       let learns = only.learns in
       let steps = p.old.ledgers.upkeep in
@@ -297,18 +302,22 @@ module _ {A : Type 0} {W : ℕ} (p : Here W) (after : Option (List ℕ)) (result
       keeps
       (on_ok_then result (AllKeep p.config p.history new.cursors (open_queries t.queries)) _
       (keep_learned p new.desk learns keeps.config new.cursors (open_queries t.queries)) keep)
-      pinned position
+      pinned
+      (pins_still asked replies at p.old.desk new.desk p.old.pinned new.pinned none_opened
+      (ap (λ (d : DeskState). d.pins) only.after) told)
+      position
 
 -- a step that changes nothing but what the desk has seen and what the cursors planned last
 pub quiet : {A : Type 0} {W : ℕ} (p : Here W) (after : Option (List ℕ)) (result : Result A Failed)
     (new : Moment W) (asked : LineReading) (replies : List LineReply) → asked_here p ≡ asked
-    → accepted asked replies ≡ [] → OnlyLearns p.old.desk new.desk → new.ledgers ≡ p.old.ledgers
+    → accepted asked replies ≡ [] → (may_pin asked && was_opened replies) ≡ false
+    → OnlyLearns p.old.desk new.desk → new.ledgers ≡ p.old.ledgers
     → new.pinned ≡ p.old.pinned → new.position ≡ p.old.position → new.samples ≡ p.old.samples
     → AllKeep p.config p.history new.cursors (open_queries p.s.queries)
     → ((later : List JournalEntry)
     → Answers asked p.config (p.history ++ later) p.s (exchange_here p new replies p.s.position) p.s)
     → Writes p.before after result (text replies) → StepTo p after result new
-quiet p after result new asked replies is none only ledgers pinned position samples keep answers wrote =
+quiet p after result new asked replies is none none_opened only ledgers pinned position samples keep answers wrote =
     let s = p.s in
     quiet_learns p after result new asked replies s is none s.position only (λ alone. refl)
     (within_new p new.desk only.learns)
@@ -320,7 +329,7 @@ quiet p after result new asked replies is none only ledgers pinned position samp
     (ap (λ (l : Ledgers). l.upkeep) ledgers)
     p.stands.settled (samples_here p new s.queries samples refl) refl refl refl
     (on_ok result (AllKeep p.config p.history new.cursors (open_queries s.queries)) keep)
-    (pinned_still p new s pinned refl)
+    (pinned_still p new s pinned refl) pinned none_opened
     (position ∙ p.stands.position)
 
 -- ---- the line as a call has it

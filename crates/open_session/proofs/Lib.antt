@@ -1,6 +1,7 @@
 pub mod MomentLemmas
 pub mod Here
 pub mod PinnedLemmas
+pub mod LastPinsLemmas
 pub mod QueryLemmas
 pub mod QuestionLemmas
 pub mod BoundLemmas

@@ -23,6 +23,7 @@ use Rattle.open_queries.specs.Writing.{Writes}
 use Rattle.open_session.specs.declared.shard_build.ShardBuild.{ShardBuild}
 use Rattle.open_session.specs.KeptBuild.{IsBuildOfDesk, IsOfDesk, KeepsBuilds, MeansBuild, StandsFrom, left_in}
 use Rattle.open_session.specs.KeptDesk.{KeepsDesk, LeavesDesk}
+use Rattle.open_session.specs.LastPins.{LeavesPins, was_opened}
 use Rattle.open_session.specs.Meaning.{AllKeep, IsPlain, IsSettled, Means}
 use Rattle.open_session.specs.Pinned.{TellsPinned}
 use Rattle.open_session.specs.Moments.{Moment, Point, ReadsTo}
@@ -32,6 +33,7 @@ use Rattle.open_session.specs.Steps.{AnswersBetween, OneStep, SpendsWithBuild}
 use Rattle.open_session.proofs.Here.{Here, StepTo, aside_here, asked_here, exchange_here, grows_by, here_of, keep_learned, later_learned, no_commit}
 use Rattle.open_session.proofs.Here.{on_ok, settled_learned, writes_one}
 use Rattle.open_session.proofs.DeskLemmas.{only_still}
+use Rattle.open_session.proofs.LastPinsLemmas.{opens_none, pins_still}
 use Rattle.open_session.proofs.MomentLemmas.{as_long, reads_still}
 use Rattle.open_session.proofs.PlainLemmas.{BuildsNothing, TellsNoBuild, answers_plain, is_plain}
 
@@ -140,8 +142,11 @@ module _ {A : Type 0} {W : ℕ} (p : Here W) (after : Option (List ℕ)) (result
     keeps = leaves p.old.desk new.desk step.keeps;
     done = step.keeps.done
         ∙ sym (ap (λ b. cond b (one_more p.old.desk.done) p.old.desk.done) nothing.tells.swapped);
+    late = step.keeps.late
+        ∙ sym (ap (λ b. cond b (one_more p.old.desk.late) p.old.desk.late) nothing.tells.moved);
     keep = step.keep;
     pinned = step.pinned;
+    pins = step.pins;
     position = step.position;
   }
 
@@ -162,10 +167,12 @@ module _ {A : Type 0} {W : ℕ} (p : Here W) (after : Option (List ℕ)) (result
       → Means p.config new.desk (seen_history new.desk) t → MeansBuild new.desk new.build t.build
       → LeavesDesk p.old.desk new.desk
       → new.desk.done ≡ cond (was_swapped replies) (one_more p.old.desk.done) p.old.desk.done
+      → new.desk.late ≡ cond (was_moved replies) (one_more p.old.desk.late) p.old.desk.late
       → AllKeep p.config p.history new.cursors (open_queries t.queries)
       → TellsPinned p.config.shards new.pinned (pinned_by t.queries)
+      → LeavesPins asked replies at p.old.desk new.desk p.old.pinned new.pinned
       → new.position ≡ t.position → WholeTo p after result new
-  whole_by learns stays answers unmoved wrote reads spent settled samples means build keeps done keep pinned position =
+  whole_by learns stays answers unmoved wrote reads spent settled samples means build keeps done late keep pinned pins position =
       let exchange = exchange_here p new replies at in
       let past = seen_history new.desk in
       record {
@@ -191,20 +198,22 @@ module _ {A : Type 0} {W : ℕ} (p : Here W) (after : Option (List ℕ)) (result
         build = build;
         keeps = keeps;
         done = done;
+        late = late;
         keep = on_ok result (AllKeep p.config past new.cursors (open_queries t.queries))
             (keep_learned p new.desk learns keeps.config new.cursors (open_queries t.queries) keep);
         pinned = pinned;
+        pins = subst (λ r. LeavesPins r replies at p.old.desk new.desk p.old.pinned new.pinned) (sym is) pins;
         position = position;
       }
 
 -- a request on builds that is refused changes nothing
 pub still_whole : {A : Type 0} {W : ℕ} (p : Here W) (after : Option (List ℕ)) (result : Result A Failed)
     (asked : LineReading) (this : LineReply) → asked_here p ≡ asked → accepted asked (this ∷ []) ≡ []
-    → TellsNoBuild (this ∷ [])
+    → TellsNoBuild (this ∷ []) → was_opened (this ∷ []) ≡ false
     → ((later : List JournalEntry)
     → Answers asked p.config (p.history ++ later) p.s (exchange_here p p.old (this ∷ []) p.s.position) p.s)
     → Writes p.before after result (reply_line this) → WholeTo p after result p.old
-still_whole p after result asked this is none tells answers wrote =
+still_whole p after result asked this is none tells none_opened answers wrote =
     let old = p.old in
     let learns = (only_still old.desk old.desk refl).learns in
     whole_by p after result old asked (this ∷ []) p.s is none p.s.position learns (λ alone. refl)
@@ -222,7 +231,11 @@ still_whole p after result asked this is none tells answers wrote =
     p.stands.build
     (record { board = refl; who = refl; config = refl; fronts = refl; late = λ alone. refl; alone = refl })
     (sym (ap (λ b. cond b (one_more old.desk.done) old.desk.done) tells.swapped))
-    p.stands.keep p.stands.pinned p.stands.position
+    (sym (ap (λ b. cond b (one_more old.desk.late) old.desk.late) tells.moved))
+    p.stands.keep p.stands.pinned
+    (pins_still asked (this ∷ []) p.s.position old.desk old.desk old.pinned old.pinned (opens_none asked (this ∷ []) none_opened)
+    refl refl)
+    p.stands.position
 
 -- ---- a request that isn't on builds
 

@@ -7,5 +7,6 @@ pub mod Samples
 pub mod Moments
 pub mod Meaning
 pub mod Growth
+pub mod LastPins
 pub mod Steps
 pub mod PlainSteps

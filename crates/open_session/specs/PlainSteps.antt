@@ -18,6 +18,7 @@ use Rattle.open_queries.specs.Writing.{Writes}
 use Rattle.open_session.specs.declared.open_session.Session.{Session}
 use Rattle.open_session.specs.KeptDesk.{KeepsDesk}
 use Rattle.open_session.specs.Growth.{HistoryGrows, IsAside}
+use Rattle.open_session.specs.LastPins.{LeavesPins}
 use Rattle.open_session.specs.Meaning.{Means, AllKeep, IsSettled}
 use Rattle.open_session.specs.Pinned.{TellsPinned}
 use Rattle.open_session.specs.Moments.{Moment, Point, ReadsTo, Spends, moment_of}
@@ -48,6 +49,8 @@ pub record PlainStep {A : Type 0} (W : ℕ) (config : Config) (history : List Jo
   pub keeps : KeepsDesk old.desk new.desk
   pub keep : OnOk result (AllKeep config past new.cursors (open_queries state.queries))
   pub pinned : TellsPinned config.shards new.pinned (pinned_by state.queries)
+  pub pins : LeavesPins (reading config line) exchange.replies exchange.position old.desk new.desk
+      old.pinned new.pinned
   pub position : new.position ≡ state.position
 
 -- a request is answered so, whatever line asks it and whatever state the session means

@@ -21,6 +21,7 @@ use Rattle.open_queries.specs.Writing.{Writes}
 use Rattle.open_session.specs.KeptBuild.{MeansBuild, StandsFrom, left_in}
 use Rattle.open_session.specs.KeptDesk.{LeavesDesk}
 use Rattle.open_session.specs.Growth.{HistoryGrows, IsAside}
+use Rattle.open_session.specs.LastPins.{LeavesPins}
 use Rattle.open_session.specs.Meaning.{Means, AllKeep, IsSettled}
 use Rattle.open_session.specs.Pinned.{TellsPinned}
 use Rattle.open_session.specs.Moments.{Moment, Point, ReadsTo, Spends, moment_of}
@@ -72,8 +73,12 @@ pub record OneStep {A : Type 0} (W : ℕ) (config : Config) (history : List Jour
   pub keeps : LeavesDesk old.desk new.desk
   pub done : new.desk.done
       ≡ (if was_swapped exchange.replies then one_more old.desk.done else old.desk.done)
+  pub late : new.desk.late
+      ≡ (if was_moved exchange.replies then one_more old.desk.late else old.desk.late)
   pub keep : OnOk result (AllKeep config past new.cursors (open_queries state.queries))
   pub pinned : TellsPinned config.shards new.pinned (pinned_by state.queries)
+  pub pins : LeavesPins (reading config line) exchange.replies exchange.position old.desk new.desk
+      old.pinned new.pinned
   pub position : new.position ≡ state.position
 
 -- a request is answered so, whatever line asks it and whatever state the session means

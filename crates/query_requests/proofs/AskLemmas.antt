@@ -1,5 +1,5 @@
 -- Lemmas on `cost`, `plan` and `cancel`: what each tells is a step of a session.
-use Rattle.std.proofs.Common.{◌≡◌, ℕ, ◌<◌, min, cond, List, [], ◌∷◌, ◌++◌, take, map}
+use Rattle.std.proofs.Common.{◌≡◌, ℕ, ◌<◌, ◌&&◌, min, false, cond, List, [], ◌∷◌, ◌++◌, take, map}
 use Rattle.std.proofs.Common.{Option, Some, Result, Ok, refl, sym, ap, ◌∙◌, subst, arith, inl, inr}
 use Rattle.std.specs.List.{sum_by}
 use Rattle.std.proofs.lemmas.List.Sums.{sum-map}
@@ -20,6 +20,7 @@ use Rattle.open_queries.specs.Queries.{Changes, Removes, IsSame, last_in}
 use Rattle.open_queries.specs.Answers.{CostsAs, IsCost, IsPlan, TellsOfQuery, CancelsAs, reply_to_cancel}
 use Rattle.open_queries.specs.Writing.{Writes}
 use Rattle.open_session.specs.Cursors.{ShardSource, Cursor, asks, stands}
+use Rattle.open_session.specs.LastPins.{may_pin, was_opened}
 use Rattle.open_session.specs.Moments.{Moment, ReadsTo}
 use Rattle.open_session.specs.Meaning.{AllKeep, IsSettled}
 use Rattle.open_session.proofs.DeskLemmas.{only_still}
@@ -56,12 +57,12 @@ module _ {A : Type 0} {W : ℕ} (p : Here W) (after : Option (List ℕ)) (result
 
     -- a reply that changes nothing
     asked_step : (asked : LineRequest) (this : LineReply) → asked_here p ≡ Ok (Some asked)
-        → accepted (Ok (Some asked)) (this ∷ []) ≡ []
+        → accepted (Ok (Some asked)) (this ∷ []) ≡ [] → (may_pin (Ok (Some asked)) && was_opened (this ∷ [])) ≡ false
         → ((later : List JournalEntry) → Answers (Ok (Some asked)) p.config (p.history ++ later) p.s
         (exchange_here p new (this ∷ []) p.s.position) p.s)
         → Writes p.before after result (reply_line this) → StepTo p after result new
-    asked_step asked this reads none answers wrote =
-        quiet p after result new (Ok (Some asked)) (this ∷ []) reads none (only_still p.old.desk new.desk desk) ledgers pinned position
+    asked_step asked this reads none none_opened answers wrote =
+        quiet p after result new (Ok (Some asked)) (this ∷ []) reads none none_opened (only_still p.old.desk new.desk desk) ledgers pinned position
         samples keep_still answers
         (writes_one p.before after result this wrote)
 
@@ -129,7 +130,7 @@ module _ {A : Type 0} {W : ℕ} (p : Here W) (after : Option (List ℕ)) (result
       (λ h e t answers. answers) unknown.0 unknown.1 desk ledgers pinned position samples
       (subst (λ r. Writes p.before after result (reply_line r)) unknown.2 wrote)
   cost_step tag this reads (inr told) wrote =
-      asked_step tag told.0 told.1 told.2 told.3 (Cost tag) this reads refl
+      asked_step tag told.0 told.1 told.2 told.3 (Cost tag) this reads refl refl
       (λ later. subst (λ o. IfOpen o (Costs p.config (p.history ++ later) tag) p.s
       (exchange_here p new (this ∷ []) p.s.position) p.s) (sym (found tag told.0 told.1 told.2 told.3))
       (costed tag told.0 told.1 told.2 told.3 later this told.4)) wrote
@@ -144,7 +145,7 @@ module _ {A : Type 0} {W : ℕ} (p : Here W) (after : Option (List ℕ)) (result
       (λ h e t answers. answers) unknown.0 unknown.1 desk ledgers pinned position samples
       (subst (λ r. Writes p.before after result (reply_line r)) unknown.2 wrote)
   plan_step tag shard this reads (inr told) wrote =
-      asked_step tag told.0 told.1 told.2 told.3 (Plan tag shard) this reads refl
+      asked_step tag told.0 told.1 told.2 told.3 (Plan tag shard) this reads refl refl
       (λ later. subst (λ o. IfOpen o (TellsPlan p.config (p.history ++ later) tag shard) p.s
       (exchange_here p new (this ∷ []) p.s.position) p.s) (sym (found tag told.0 told.1 told.2 told.3))
       (planned tag told.0 told.1 told.2 told.3 later shard this told.4)) wrote
@@ -196,7 +197,7 @@ module _ {A : Type 0} {W : ℕ} (p : Here W) (after : Option (List ℕ)) (result
         (subst (λ l. AllKeep p.config p.history l (open_queries t.queries)) (sym removes.new_is)
         (subst (AllKeep p.config p.history (removes.front ++ removes.back))
         (sym (replaced_closed tag closed s.queries refl)) it.gone)))
-        (pinned_still p new t pinned (pinned_replaced tag query closed s.queries found refl))
+        (pinned_still p new t pinned (pinned_replaced tag query closed s.queries found refl)) pinned refl
         (position ∙ p.stands.position)
 
     pub cancel_step : CancelsAs p.old.cursors tag this new.cursors

@@ -30,6 +30,7 @@ use Rattle.open_session.specs.Cursors.{ShardSource, Cursor, asks, stands, reads_
 use Rattle.open_session.specs.Moments.{Moment, ReadsTo}
 use Rattle.open_session.specs.Meaning.{AllKeep, AsksOn, IsSettled, Keeps}
 use Rattle.open_session.proofs.DeskLemmas.{only_still}
+use Rattle.open_session.proofs.LastPinsLemmas.{opens_none}
 use Rattle.open_session.proofs.QueryLemmas.{IsFound, found_changed, found_holds, not_open, of_open, replaced_open}
 use Rattle.open_session.proofs.QueryLemmas.{all_replaced, pinned_replaced, read_replaced, same_asks, same_number_of}
 use Rattle.open_session.proofs.BoundLemmas.{answer_is, answer_near, bound_at, first_of_some}
@@ -54,7 +55,8 @@ unknown_step p after result new request tag Answered reads none answers free sam
     let missing : query_of tag p.s.queries ≡ None =
     of_open tag p.s.queries ∙ not_open p.config p.history p.old.cursors (open_queries p.s.queries) tag
     p.stands.keep free in
-    quiet p after result new (Ok (Some request)) (reply.Bad (bad 8) ∷ []) reads none (only_still p.old.desk new.desk desk) ledgers
+    quiet p after result new (Ok (Some request)) (reply.Bad (bad 8) ∷ []) reads none
+    (opens_none (Ok (Some request)) (reply.Bad (bad 8) ∷ []) refl) (only_still p.old.desk new.desk desk) ledgers
     pinned position samples
     (subst (λ l. AllKeep p.config p.history l (open_queries p.s.queries)) (sym same) p.stands.keep)
     (λ later. answers (p.history ++ later) _ p.s
@@ -280,7 +282,7 @@ module _ {A : Type 0} {W : ℕ} (p : Here W) (after : Option (List ℕ)) (result
         (subst (AllKeep p.config p.history (changes.front ++ is ∷ changes.back))
         (sym (replaced_open tag this p.s.queries it.keeps.opened)) (it.keep is this (keeps_now given))))
         gives.given)
-        (pinned_still p new then pinned (pinned_replaced tag query this p.s.queries found refl))
+        (pinned_still p new then pinned (pinned_replaced tag query this p.s.queries found refl)) pinned refl
         (position ∙ p.stands.position)
 
   pub next_step : GivesAs (asks {W = W}) (stands {W = W}) p.old.cursors tag count p.before after

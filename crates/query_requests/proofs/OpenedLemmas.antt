@@ -1,5 +1,5 @@
 -- Lemmas on `range` and `near`: what becomes of an opening is a step of a session.
-use Rattle.std.proofs.Common.{◌≡◌, ℕ, zero, suc, ◌+◌, ◌-◌, ◌*◌, ◌≤◌, ◌<◌, nat_le, nat_lt, Bool, true, false}
+use Rattle.std.proofs.Common.{◌≡◌, ℕ, zero, suc, ◌+◌, ◌-◌, ◌*◌, ◌≤◌, ◌<◌, ◌&&◌, nat_le, nat_lt, Bool, true, false}
 use Rattle.std.proofs.Common.{List, [], ◌∷◌, ◌++◌, length, take, map, replicate, slice_index, slice_index_or}
 use Rattle.std.proofs.Common.{Option, Some, None, Result, Ok, refl, sym, ap, ◌∙◌, subst, arith, inl, inr}
 use Rattle.std.specs.List.{AllByRecursion}
@@ -34,6 +34,7 @@ use Rattle.query_opening.specs.Opening.{AsksWanted}
 use Rattle.open_session.specs.Questions.{opening_request, asked_code, radius_in, wanted_in, limit_in}
 use Rattle.open_session.specs.Cursors.{ShardSource, Cursor, asks, stands}
 use Rattle.open_session.specs.KeptDesk.{pins_of}
+use Rattle.open_session.specs.LastPins.{ArePinsTold}
 use Rattle.open_session.specs.Pinned.{TellsPinned}
 use Rattle.open_session.specs.Moments.{Moment, ReadsTo, Spends}
 use Rattle.open_session.specs.Meaning.{AllKeep, AsksOn, IsSettled, Keeps}
@@ -43,6 +44,7 @@ use Rattle.open_session.proofs.DeskLemmas.{only_still}
 use Rattle.open_session.proofs.MomentLemmas.{as_long, reads_still, seen_longer, seen_whole}
 use Rattle.open_session.proofs.BoundLemmas.{answer_near, bound_at, first_of_some}
 use Rattle.open_session.proofs.QueryLemmas.{is_found, keep_more, more_open, not_open, of_open, same_number}
+use Rattle.open_session.proofs.LastPinsLemmas.{opening_pins, opens_none, pins_moved, pins_opened, told_of_last}
 use Rattle.open_session.proofs.QueryLemmas.{all_more, pinned_more, read_more}
 use Rattle.exchange_model.specs.Rounds.{PlainSample}
 use Rattle.exchange_model.specs.declared.limits.TheConstants.{SAMPLES_MOST}
@@ -155,7 +157,8 @@ module _ {A : Type 0} {W : ℕ} (p : Here W) (after : Option (List ℕ)) (result
       let replies = reply.Bad (bad 7) ∷ [] in
       subst (λ m. StepTo p after result m) (sym was.same)
       (quiet p after result p.old (Ok (Some (opening_request tag asked))) replies is
-      (opening_commits tag asked replies) (only_still p.old.desk p.old.desk refl) refl refl refl refl
+      (opening_commits tag asked replies) (opens_none (Ok (Some (opening_request tag asked))) replies refl)
+      (only_still p.old.desk p.old.desk refl) refl refl refl refl
       p.stands.keep
       (λ later. opens_as asked tag p.config (p.history ++ later) s (exchange_here p p.old replies s.position) s
       (subst (λ o. Opening o (p.history ++ later) (exchange_here p p.old replies s.position) s)
@@ -169,7 +172,8 @@ module _ {A : Type 0} {W : ℕ} (p : Here W) (after : Option (List ℕ)) (result
       let replies = reply.Bad (bad 9) ∷ [] in
       subst (λ m. StepTo p after result m) (sym was.same)
       (quiet p after result p.old (Ok (Some (opening_request tag asked))) replies is
-      (opening_commits tag asked replies) (only_still p.old.desk p.old.desk refl) refl refl refl refl
+      (opening_commits tag asked replies) (opens_none (Ok (Some (opening_request tag asked))) replies refl)
+      (only_still p.old.desk p.old.desk refl) refl refl refl refl
       p.stands.keep
       (λ later. judged_here true was.judged (p.history ++ later) (exchange_here p p.old replies s.position) s
       (record { said_is = refl; position = refl; same = refl }))
@@ -210,7 +214,10 @@ module _ {A : Type 0} {W : ℕ} (p : Here W) (after : Option (List ℕ)) (result
       (on_ok result (AllKeep p.config (seen_history new.desk) new.cursors (open_queries s.queries))
       (subst (λ l. AllKeep p.config (seen_history new.desk) l (open_queries s.queries)) (sym had.cursors)
       (keep_learned p new.desk learns opens.keeps.config p.old.cursors (open_queries s.queries) p.stands.keep)))
-      (pinned_still p new s had.pinned refl) (had.position ∙ p.stands.position)
+      (pinned_still p new s had.pinned refl)
+      (pins_moved (Ok (Some (opening_request tag asked))) replies s.position p.old.desk new.desk p.old.pinned new.pinned
+      (opens_none (Ok (Some (opening_request tag asked))) replies refl) (ap (λ b. b && true) (opening_pins tag asked)))
+      (had.position ∙ p.stands.position)
 
   -- ---- a query is opened
 
@@ -317,12 +324,24 @@ module _ {A : Type 0} {W : ℕ} (p : Here W) (after : Option (List ℕ)) (result
     }
 
     -- the layouts in memory are those of the queries, with those of the one that is opened
-    pinned_new : TellsPinned p.config.shards new.pinned (pinned_by then.queries)
-    pinned_new =
-        subst (TellsPinned p.config.shards new.pinned) (sym (pinned_more p.s.queries query))
-        (subst (λ n. TellsPinned n new.pinned (pinned_by p.s.queries ++ layouts ∷ [])) size_here
+    pinned_with : TellsPinned p.config.shards new.pinned (pinned_by p.s.queries ++ layouts ∷ [])
+    pinned_with =
+        subst (λ n. TellsPinned n new.pinned (pinned_by p.s.queries ++ layouts ∷ [])) size_here
         (was.opened.pinned (pinned_by p.s.queries)
-        (subst (λ n. TellsPinned n p.old.pinned (pinned_by p.s.queries)) (sym size_here) p.stands.pinned)))
+        (subst (λ n. TellsPinned n p.old.pinned (pinned_by p.s.queries)) (sym size_here) p.stands.pinned))
+
+    pinned_new : TellsPinned p.config.shards new.pinned (pinned_by then.queries)
+    pinned_new = subst (TellsPinned p.config.shards new.pinned) (sym (pinned_more p.s.queries query)) pinned_with
+
+    -- and the last of them those that the desk pinned last
+    pins_told : ArePinsTold new.desk new.pinned.told new.position
+    pins_told shard lt =
+        let inside : shard < p.config.shards = omega (arith, lt, ap (λ (c : Config). c.shards) config_new) in
+        record {
+          layout = layout_at layouts shard;
+          told_last = told_of_last p.config.shards new.pinned (pinned_by p.s.queries) layouts size_here pinned_with shard inside;
+          pinned_last = (opens.each shard first (omega (arith, inside, shards_are))).pin;
+        }
 
     -- what was asked joined the samples
     samples_new : MeansSamples p.config.bits new.samples then.queries
@@ -380,7 +399,10 @@ module _ {A : Type 0} {W : ℕ} (p : Here W) (after : Option (List ℕ)) (result
         (subst (λ l. AllKeep p.config past l (open_queries s.queries ++ query ∷ [])) (sym was.cursors)
         (keep_more p.config past p.old.cursors open_before cursor query
         (keep_learned p new.desk learns opens.keeps.config p.old.cursors open_before p.stands.keep) keeps_new))))
-        pinned_new refl
+        pinned_new
+        (pins_opened (Ok (Some (opening_request tag asked))) replies new.position p.old.desk new.desk p.old.pinned new.pinned
+        (ap (λ b. b && true) (opening_pins tag asked)) pins_told)
+        refl
 
   pub open_step : OpensAs p.old new tag asked room this → StepTo p after result new
   open_step (inl was) = used_step was

@@ -1,6 +1,6 @@
 -- Lemmas on an opening over a desk.
 use Rattle.std.proofs.Common.{◌≡◌, ℕ, zero, suc, ◌+◌, ◌-◌, ◌*◌, ◌≤◌, ◌<◌, ◌&&◌, min, nat_le, Bool, true}
-use Rattle.std.proofs.Common.{List, [], ◌∷◌, sum, take, length, map, replicate, slice_index_or, Option, None}
+use Rattle.std.proofs.Common.{List, [], ◌∷◌, sum, take, length, map, replicate, slice_index_or, Option, Some, None}
 use Rattle.std.proofs.Common.{refl, sym, ap, ◌∙◌, subst, arith, inl, inr, Result, Ok, Err, OnErr}
 use Rattle.std.specs.List.{AllByRecursion, list_all, sum_by}
 use Rattle.std.proofs.lemmas.Bool.{le-leb}
@@ -10,6 +10,7 @@ use Rattle.hamming_model.specs.History.{rows_of, shard_rows}
 use Rattle.hamming_model.specs.Scan.{Ask, Range, Near}
 use Rattle.hit_source.specs.Sources.{Asked, Standing, IsFresh}
 use Rattle.part_layout.specs.Laid.{Laid}
+use Rattle.part_layout.specs.Text.{layout_text}
 use Rattle.part_layout.specs.declared.config.Config.{Config}
 use Rattle.shard_version.specs.Contents.{Contents}
 use Rattle.session_desk.specs.Desks.{DeskState, IsDesk, Pin, ShardPlace, no_place, pin_position}
@@ -157,10 +158,12 @@ module _ (words : ℕ) (old new : DeskState) (is_old : IsDesk words old) (is_new
       shard_opened on shard d lt =
           let version = slice_index_or versions shard some in
           let inside : shard < length versions = omega (arith, lt, pins.number) in
+          let layout = sym (get_or-map (λ (v : Contents). v.layout.parts) versions shard some [] inside) in
           record {
             version = version;
             version_is = (pins.each shard some lt).version_is;
-            layout_is = sym (get_or-map (λ (v : Contents). v.layout.parts) versions shard some [] inside);
+            layout_is = layout;
+            pin = (pins.each shard some lt).pin ∙ ap (λ (l : List (List ℕ)). Some (position, layout_text l)) layout;
             source_is = subst (λ c. IsSourceOn (wanted_in asked) version c room (asks (slice_index_or sources shard d))
                 (stands (slice_index_or sources shard d))) (ap (λ n. take n stored) (bits_of shard lt) ∙ sym code)
                 (on.each shard some d inside);

@@ -1,11 +1,12 @@
 -- What an opening leaves of a desk, and the sources that it gives.
 -- No public clause cites this module.
 use Rattle.std.specs.Prelude.{◌≡◌, ℕ, ◌+◌, ◌*◌, ◌<◌, ◌≤◌, true}
-use Rattle.std.specs.Prelude.{List, length, replicate, slice_index_or, take}
+use Rattle.std.specs.Prelude.{List, length, replicate, slice_index_or, take, Some, None}
 use Rattle.std.specs.List.{AllByRecursion}
 use Rattle.hamming_model.specs.History.{rows_of}
 use Rattle.hamming_model.specs.Scan.{Ask}
 use Rattle.hit_source.specs.Sources.{Asked, Standing}
+use Rattle.part_layout.specs.Text.{layout_text}
 use Rattle.shard_version.specs.Contents.{Contents}
 use Rattle.query_opening.specs.Opening.{IsSourceOn}
 use Rattle.session_desk.specs.Calls.{Learns}
@@ -21,13 +22,14 @@ use Rattle.open_session.specs.Cursors.{ShardSource, asks, stands}
 use Rattle.open_session.specs.KeptDesk.{KeepsDesk, layouts_of, pins_of}
 use Rattle.open_session.specs.Pinned.{PinnedSoFar, PinsMore}
 
--- a source stands on a shard's version at a position, in this layout
+-- a source stands on a shard's version at a position, in this layout, which is the desk's last pin
 pub record OpensShard (desk : DeskState) (position shard : ℕ) (layout : List (List ℕ)) (asked : Ask)
     (room : ℕ) (a : Asked) (s : Standing) : Type 0 where
   pub version : Contents
   pub version_is : IsVersionOf desk shard position version
   pub layout_is : version.layout.parts ≡ layout
   pub source_is : IsSourceOn (wanted_in asked) version (asked_code asked) room a s
+  pub pin : slice_index_or desk.pins shard None ≡ Some (position, layout_text layout)
 
 -- a source for each shard at one position, between what was seen before and what is seen after, and
 -- the number of all rows there; the layouts are those that were pinned, of a desk that is alone

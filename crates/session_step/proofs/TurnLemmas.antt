@@ -50,8 +50,10 @@ counted_step p after result mid requests step = record {
   build = step.build;
   keeps = step.keeps;
   done = step.done;
+  late = step.late;
   keep = step.keep;
   pinned = step.pinned;
+  pins = step.pins;
   position = step.position;
 }
 
@@ -77,8 +79,10 @@ turned_step p after unit new step = record {
   build = step.build;
   keeps = step.keeps;
   done = step.done;
+  late = step.late;
   keep = step.keep;
   pinned = step.pinned;
+  pins = step.pins;
   position = step.position;
 }
 
@@ -103,8 +107,10 @@ failed_step p after failed new step = record {
   build = step.build;
   keeps = step.keeps;
   done = step.done;
+  late = step.late;
   keep = tt;
   pinned = step.pinned;
+  pins = step.pins;
   position = step.position;
 }
 
@@ -136,7 +142,7 @@ refused_step : {A : Type 0} {W : ℕ} (p : Here W) (after : Option (List ℕ)) (
     → WholeTo p after result p.old
 refused_step p after result fault is wrote =
     whole_of p after result p.old (Err fault) is refl refl (λ shard build is. is)
-    (quiet p after result p.old (Err fault) (reply.Bad fault ∷ []) is refl (only_still p.old.desk p.old.desk refl) refl refl refl refl p.stands.keep
+    (quiet p after result p.old (Err fault) (reply.Bad fault ∷ []) is refl refl (only_still p.old.desk p.old.desk refl) refl refl refl refl p.stands.keep
     (λ later. record { said_is = refl; position = refl; same = refl })
     (writes_one p.before after result (reply.Bad fault) wrote))
 
@@ -169,7 +175,7 @@ module _ {A : Type 0} {W : ℕ} (p : Here W) (after : Option (List ℕ)) (result
       → WholeTo p after result p.old
   unread_by None None means same wrote =
       still_whole p after result (Ok (Some (Repart shard layout))) reply.NoMemory is refl
-      (record { steps = λ told. refl; at = λ told. refl; moved = refl; swapped = refl })
+      (record { steps = λ told. refl; at = λ told. refl; moved = refl; swapped = refl }) refl
       (λ later. subst (λ b. StartsUnlessBuilding b p.config (p.history ++ later) shard layout p.s
       (exchange_here p p.old (reply.NoMemory ∷ []) p.s.position) p.s) (sym same)
       (inl (record { said_is = refl; position = refl; same = refl })))
@@ -178,7 +184,7 @@ module _ {A : Type 0} {W : ℕ} (p : Here W) (after : Option (List ℕ)) (result
   unread_by (Some kept) None means same wrote = absurd means
   unread_by (Some kept) (Some build) means same wrote =
       still_whole p after result (Ok (Some (Repart shard layout))) (reply.Bad (bad 10)) is refl
-      (record { steps = λ told. refl; at = λ told. refl; moved = refl; swapped = refl })
+      (record { steps = λ told. refl; at = λ told. refl; moved = refl; swapped = refl }) refl
       (λ later. subst (λ b. StartsUnlessBuilding b p.config (p.history ++ later) shard layout p.s
       (exchange_here p p.old (reply.Bad (bad 10) ∷ []) p.s.position) p.s) (sym same)
       (record { said_is = refl; position = refl; same = refl }))
@@ -205,7 +211,7 @@ pub nothing_turn : {W : ℕ} (p : Here W) (after : Option (List ℕ)) → asked_
     → TurnIs (Ok Goes) W p.config p.history p.s p.line p.before after p.old p.old
 nothing_turn p after is wrote = record {
   step = whole_of p after (Ok Goes) p.old (Ok None) is refl refl (λ shard build is. is)
-      (quiet p after (Ok Goes) p.old (Ok None) [] is refl (only_still p.old.desk p.old.desk refl) refl refl refl refl p.stands.keep
+      (quiet p after (Ok Goes) p.old (Ok None) [] is refl refl (only_still p.old.desk p.old.desk refl) refl refl refl refl p.stands.keep
       (λ later. record { said_is = refl; position = refl; same = refl }) wrote);
   requests = sym (ap (λ asked. requests_with asked p.old.requests) is);
 }

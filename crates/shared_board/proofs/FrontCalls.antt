@@ -45,7 +45,8 @@ module _ {W : ℕ} (table seat : TableId) (me : Me (Cell W) (View W)) (who : ℕ
         (ap (λ (m : Me (Cell W) (View W)). m.0.number) visit.me_is ∙ old.number)
         (ap (λ (m : Me (Cell W) (View W)). m.0.config) visit.me_is ∙ ap Some asked)
         (ap (λ (m : Me (Cell W) (View W)). m.0.left) visit.me_is) opened_seen
-        (seen_within table seat me who config last pins done late old now is_now visit.config visit.old visit.knows visit.new visit.grown) visit.sound_after asked
+        (seen_within table seat me who config last pins done late old now is_now visit.config
+        visit.old visit.knows visit.new visit.grown) visit.sound_after asked
 
     fronts_are : me'.0.fronts ≡ front ∷ me.0.fronts
     fronts_are = ap (λ (m : Me (Cell W) (View W)). m.0.fronts) visit.me_is
@@ -100,7 +101,8 @@ module _ {W : ℕ} (table seat : TableId) (me : Me (Cell W) (View W)) (who : ℕ
         (ap (λ (m : Me (Cell W) (View W)). m.0.number) visit.me_is ∙ old.number)
         (ap (λ (m : Me (Cell W) (View W)). m.0.config) visit.me_is ∙ ap Some asked_too)
         (ap (λ (m : Me (Cell W) (View W)). m.0.left) visit.me_is) closed_seen
-        (seen_within table seat me who config last pins done late old now is_now visit.config visit.old visit.knows visit.new visit.grown) visit.sound_after asked_too
+        (seen_within table seat me who config last pins done late old now is_now visit.config
+        visit.old visit.knows visit.new visit.grown) visit.sound_after asked_too
 
     pub closed_fronts : me'.0.fronts ≡ without_id front.id now.fronts
     closed_fronts =

@@ -48,7 +48,9 @@ known_without s old new id is same front own has =
     apart : front.id ≢ id
     apart one =
         let gone : map.get (live_map s.fronts) front.id ≡ None =
-        ap (λ (fronts : List FrontState). map.get (live_map fronts) front.id) is ∙ ap (λ (m : Rattle.commit_journal.specs.Fronts.Live). map.get m front.id) (without_map id old)
+        ap (λ (fronts : List FrontState). map.get (live_map fronts) front.id) is
+        ∙ ap (λ (m : Rattle.commit_journal.specs.Fronts.Live). map.get m front.id)
+        (without_map id old)
         ∙ map_remove (live_map old) id front.id
         ∙ ap (λ (b : Bool). cond b None (map.get (live_map old) front.id)) (eq-eqb front.id id one) in
         let there : map.get (live_map s.fronts) front.id ≡ Some (front.who, position_of front) = own in cc

@@ -87,14 +87,18 @@ living_without old id (first ∷ fronts) all = go (first.id == id) refl (living_
     there = map_remove old.live id first.id
 
     go : (b : Bool) → (first.id == id) ≡ b → (living_fronts (without_front old id) fronts) ≡ without_id id fronts
-        → cond (is_some (live_at (map.remove old.live id) first.id)) (first ∷ (living_fronts (without_front old id) fronts)) (living_fronts (without_front old id) fronts)
+        → cond (is_some (live_at (map.remove old.live id) first.id))
+        (first ∷ (living_fronts (without_front old id) fronts))
+        (living_fronts (without_front old id) fronts)
         ≡ cond (first.id == id) (without_id id fronts) (first ∷ without_id id fronts)
     go true e more =
         let dead : is_some (live_at (map.remove old.live id) first.id) ≡ false =
         ap is_some (there ∙ ap (λ b. cond b None (live_at old.live first.id)) e) in
-        ap (λ b. cond b (first ∷ (living_fronts (without_front old id) fronts)) (living_fronts (without_front old id) fronts)) dead ∙ more ∙ sym (ap (λ b. cond b (without_id id fronts) (first ∷ without_id id fronts)) e)
+        ap (λ b. cond b (first ∷ (living_fronts (without_front old id) fronts)) (living_fronts (without_front old id) fronts)) dead
+        ∙ more ∙ sym (ap (λ b. cond b (without_id id fronts) (first ∷ without_id id fronts)) e)
     go false e more =
         let stays : is_some (live_at (map.remove old.live id) first.id) ≡ true =
         ap is_some (there ∙ ap (λ b. cond b None (live_at old.live first.id)) e ∙ all first (inl refl)) in
-        ap (λ b. cond b (first ∷ (living_fronts (without_front old id) fronts)) (living_fronts (without_front old id) fronts)) stays ∙ ap (λ (l : List FrontState). first ∷ l) more
+        ap (λ b. cond b (first ∷ (living_fronts (without_front old id) fronts)) (living_fronts (without_front old id) fronts)) stays
+        ∙ ap (λ (l : List FrontState). first ∷ l) more
         ∙ sym (ap (λ b. cond b (without_id id fronts) (first ∷ without_id id fronts)) e)

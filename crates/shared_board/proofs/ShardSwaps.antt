@@ -71,27 +71,29 @@ module _ {W : ℕ} (table seat : TableId) (me : Me (Cell W) (View W)) (who : ℕ
         → done' ≡ (if moved then done else one_more done)
         → late' ≡ (if moved && is_late last prepared.at visit.new.current.at then one_more late else late)
         → Swaps (shared_desk now) (after done' late') k prepared moved
-    visited_swaps prepared moved puts done' late' done_is late_is = subst (λ (s : SharedState). Swaps (shared_desk s) (after done' late') k prepared moved) is_now (record {
-      learns = visited_learns table seat me who config last pins done late old now is_now seat' me' same k low visit;
-      moved_is = subst (λ (n : ℕ). moved ≡ true ↔ (prepared.at ≢ n)) (sym (there ∙ takes_at visit.old visit.new prepared moved puts)) puts.moved_is;
-      pinned = pinned_still table seat me who config last pins done late old now is_now seat' me' same k low visit pins done' late';
-      after = visited_after table seat me who config last pins done late old now is_now seat' me' same k low visit pins done' late'
-          ∙ ap (λ (n : ℕ). (record before {
-            seen = me'.0.seen;
-            left = slice_set before.left k (left_at (after done' late') k);
-            done = n;
-            late = late';
-          })) done_is
-          ∙ ap (λ (n : ℕ). (record before {
-            seen = me'.0.seen;
-            left = slice_set before.left k (left_at (after done' late') k);
-            done = (if moved then done else one_more done);
-            late = n;
-          }))
-          (subst (λ (n : ℕ). late' ≡ (if moved && is_late last prepared.at n then one_more late else late)) (sym there) late_is);
-      places = λ e. absurd (true≢false (sym e));
-      stays = λ e. absurd (true≢false (sym e));
-    })
+    visited_swaps prepared moved puts done' late' done_is late_is =
+        subst (λ (s : SharedState). Swaps (shared_desk s) (after done' late') k prepared moved)
+        is_now (record {
+          learns = visited_learns table seat me who config last pins done late old now is_now seat' me' same k low visit;
+          moved_is = subst (λ (n : ℕ). moved ≡ true ↔ (prepared.at ≢ n)) (sym (there ∙ takes_at visit.old visit.new prepared moved puts)) puts.moved_is;
+          pinned = pinned_still table seat me who config last pins done late old now is_now seat' me' same k low visit pins done' late';
+          after = visited_after table seat me who config last pins done late old now is_now seat' me' same k low visit pins done' late'
+              ∙ ap (λ (n : ℕ). (record before {
+                seen = me'.0.seen;
+                left = slice_set before.left k (left_at (after done' late') k);
+                done = n;
+                late = late';
+              })) done_is
+              ∙ ap (λ (n : ℕ). (record before {
+                seen = me'.0.seen;
+                left = slice_set before.left k (left_at (after done' late') k);
+                done = (if moved then done else one_more done);
+                late = n;
+              }))
+              (subst (λ (n : ℕ). late' ≡ (if moved && is_late last prepared.at n then one_more late else late)) (sym there) late_is);
+          places = λ e. absurd (true≢false (sym e));
+          stays = λ e. absurd (true≢false (sym e));
+        })
       where
         there : left_at (after done' late') k ≡ visit.new.current.at
         there = left_there table seat me who config last pins done late old now is_now seat' me' same k low visit pins done' late'

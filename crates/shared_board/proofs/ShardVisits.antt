@@ -133,7 +133,9 @@ module _ {W : ℕ} (table seat : TableId) (me : Me (Cell W) (View W)) (who : ℕ
   visited_same done' late' = visited_seated pins done' late' refl (λ _ _. refl) (omega (arith, pinned_there, visit.never_back))
 
   pub visited_learns : Learns before me'.0.seen
-  visited_learns = subst (Learns before) (sym seen_is) (learns_history table seat me who config last pins done late old now is_now visit.config visit.journal visit.knows)
+  visited_learns = subst (Learns before) (sym seen_is)
+      (learns_history table seat me who config last pins done late old now is_now visit.config
+      visit.journal visit.knows)
 
   pub visited_after : (pins' : List (Option Pin)) (done' late' : ℕ) → after pins' done' late' ≡ record before {
     seen = me'.0.seen;
@@ -199,7 +201,8 @@ module _ {W : ℕ} (table seat : TableId) (me : Me (Cell W) (View W)) (who : ℕ
           bits_are = bits_are;
           at = given.at;
           rows = ap (λ (each : Contents). each.rows) given.rows
-              ∙ ap (λ (n : ℕ). shard_rows n version.shards (rows_of (take (position_of front) (cut_history version.layout.bits visit.journal.history)))) given.shard_is
+              ∙ ap (λ (n : ℕ). shard_rows n version.shards (rows_of (take (position_of front)
+              (cut_history version.layout.bits visit.journal.history)))) given.shard_is
               ∙ ap (λ (n : ℕ). shard_rows k n (rows_of (take (position_of front) (cut_history version.layout.bits visit.journal.history)))) shards_are
               ∙ ap (λ (n : ℕ). shard_rows k config.shards (rows_of (take (position_of front) (cut_history n visit.journal.history)))) bits_are
               ∙ ap (λ (h : List JournalEntry). shard_rows k config.shards (rows_of (take (position_of front) (cut_history config.bits h)))) (sym seen_is);

@@ -15,13 +15,14 @@ use Rattle.atomic_table.specs.Table.{Me}
 use Rattle.session_desk.specs.Calls.{CommitsAt, Learns, OnlyLearns}
 use Rattle.session_desk.specs.Desks.{DeskState, Pin, pin_position, pinned_at}
 use Rattle.board_seats.specs.declared.rule.Cell.{Cell}
+use Rattle.board_seats.specs.declared.rule.Opening.{Opening}
 use Rattle.board_seats.specs.declared.rule.View.{View}
 use Rattle.board_seats.specs.Rule.{IsJournalOf}
-use Rattle.board_seats.specs.Views.{IsViewOf, knower, settled_view}
+use Rattle.board_seats.specs.Views.{IsViewOf, first_view, settled_view}
 use Rattle.board_seats.specs.Visits.{IsFree, Visited}
 use Rattle.board_seats.specs.Told.{SeesAll}
 use Rattle.shared_board.specs.Boards.{HasPlaces, IsAskedFor, board_number}
-use Rattle.shared_board.specs.Shared.{IsSeated, SharedState, fresh_desk, padded_to, seated_of, shared_desk}
+use Rattle.shared_board.specs.Shared.{IsSeated, SharedState, first_desk, fresh_desk, padded_to, seated_of, shared_desk}
 
 -- ---- lists
 pub padded_to_length : (n : ℕ) (numbers : List ℕ) → length (padded_to n numbers) ≡ n
@@ -114,7 +115,9 @@ module _ {W : ℕ} (table seat : TableId) (me : Me (Cell W) (View W)) (who : ℕ
         codes = subst (AreStoredEntries W config.bits) (sym seen) (subst (λ (c : Config). AreStoredEntries W c.bits journal.history) is sound.codes);
         pins = old.desk.pins;
         left = padded_to_length config.shards me'.0.left;
-        pinned = λ shard low. subst (λ (l : List ℕ). pinned_at before shard ≤ get_or (padded_to config.shards l) shard 0) (sym left) (old.desk.pinned shard low);
+        pinned = λ shard low. subst (λ (l : List ℕ).
+            pinned_at before shard ≤ get_or (padded_to config.shards l) shard 0) (sym left)
+            (old.desk.pinned shard low);
         pinned_within = λ shard low. (let was = old.desk.pinned_within shard low in let long = ap length seen in omega arith);
         places = λ e. absurd (true≢false (sym e));
         each = λ e. absurd (true≢false (sym e));
@@ -225,22 +228,32 @@ module _ {W : ℕ} (table seat : TableId) (me : Me (Cell W) (View W)) (who : ℕ
       met_fronts = ap (λ (m : Me (Cell W) (View W)). m.0.fronts) sees.me_is ∙ ap (λ (s : SharedState). s.fronts) is_now
 
 -- ---- the first desk
-module _ {W : ℕ} (table seat : TableId) (me : Me (Cell W) (View W)) (config : Config) (pins : List (Option Pin)) (none : pins ≡ replicate config.shards None)
-    (first : me ≡ (knower (Some 0) [] 1 (Some config) [], [])) where
-  pub first_is : seated_of table 0 config me.0 0 pins 0 0 ≡ fresh_desk (board_number table) 0 config [] 1
-  first_is =
-      fresh_is table seat me 0 config pins none (ap (λ (m : Me (Cell W) (View W)). m.0.fronts) first) (ap (λ (m : Me (Cell W) (View W)). m.0.left) first)
-      ∙ ap (λ (m : Me (Cell W) (View W)). fresh_desk (board_number table) 0 config m.0.seen m.0.next) first
+module _ {W : ℕ} (table seat : TableId) (me : Me (Cell W) (View W)) (opening : Opening)
+    (pins : List (Option Pin)) (none : pins ≡ replicate opening.config.shards None)
+    (first : me ≡ (first_view opening, [])) where
+  of_me : {A : Type 0} (part : Me (Cell W) (View W) → A) → part me ≡ part (first_view opening, [])
+  of_me part = ap part first
 
-  pub first_seated : seat ≡ table → HasPlaces table config → IsAskedFor W config → IsSeated table seat me (seated_of table 0 config me.0 0 pins 0 0)
+  abbrev first_seen : SharedState
+  first_seen = seated_of table opening.number opening.config me.0 0 pins 0 0
+
+  pub first_is : first_seen ≡ first_desk (board_number table) opening
+  first_is =
+      fresh_is table seat me opening.number opening.config pins none (of_me (λ m. m.0.fronts))
+      (of_me (λ m. m.0.left))
+      ∙ of_me (λ m. fresh_desk (board_number table) opening.number opening.config m.0.seen m.0.next)
+
+  pub first_seated : seat ≡ table → HasPlaces table opening.config → IsAskedFor W opening.config
+      → IsSeated table seat me first_seen
   first_seated same places fits =
-      let seen : me.0.seen ≡ [] = ap (λ (m : Me (Cell W) (View W)). m.0.seen) first in
-      fresh_seated table seat me 0 config pins none (ap (λ (m : Me (Cell W) (View W)). m.0.fronts) first)
-      (ap (λ (m : Me (Cell W) (View W)). m.0.left) first) same places
-      (record { slots = ap (λ (m : Me (Cell W) (View W)). m.1) first; held = ap (λ (m : Me (Cell W) (View W)). m.0.held) first })
-      (ap (λ (m : Me (Cell W) (View W)). m.0.number) first) (ap (λ (m : Me (Cell W) (View W)). m.0.config) first) fits
+      let seen : me.0.seen ≡ [] = of_me (λ m. m.0.seen) in
+      fresh_seated table seat me opening.number opening.config pins none (of_me (λ m. m.0.fronts))
+      (of_me (λ m. m.0.left)) same places
+      (record { slots = of_me (λ m. m.1); held = of_me (λ m. m.0.held) })
+      (of_me (λ m. m.0.number)) (of_me (λ m. m.0.config)) fits
       (subst IsLegal (sym seen) (record { each = λ i other low. absurd (omega (arith, low)) }))
-      (let long = ap length seen in omega arith) (subst (AreStoredEntries W config.bits) (sym seen) tt)
+      (let long = ap length seen in omega arith)
+      (subst (AreStoredEntries W opening.config.bits) (sym seen) tt)
 
 pub replicate_more : {A : Type 0} (n : ℕ) (x : A) → replicate n x ++ x ∷ [] ≡ replicate (n + 1) x
 replicate_more {A} zero x = refl

@@ -16,9 +16,10 @@ use Rattle.atomic_table.specs.Table.{opening}
 use Rattle.session_desk.specs.Desks.{Pin, starting_layout}
 use Rattle.session_desk.specs.Solos.{first_shard_of}
 use Rattle.board_seats.specs.declared.rule.Cell.{Cell}
+use Rattle.board_seats.specs.declared.rule.Opening.{Opening}
 use Rattle.board_seats.specs.declared.rule.View.{View}
 use Rattle.board_seats.specs.Rule.{IsBoardShard, IsShown}
-use Rattle.board_seats.specs.Views.{IsViewOf, knower}
+use Rattle.board_seats.specs.Views.{IsViewOf, first_view}
 use Rattle.board_seats.proofs.ClaimLemmas.{same_config}
 use Rattle.board_seats.proofs.TableLemmas.{holds_none, of_some}
 use Rattle.shared_board.specs.Boards.{AreLaid, AreOut, IsAskedFor, cells_of, first_shards, opened_journal, shard_cell}
@@ -65,15 +66,15 @@ first_at config (suc n) k shard e = ⊎_elim (first_at config n k shard)
     (λ last. last.1 ∙ ap (first_shard_of config) (sym (last.0 ∙ length_first config n))) (at_last (first_shards config n) (first_shard_of config n) k shard e)
 
 -- one shard more
-pub laid_more : {W : ℕ} (config : Config) (n : ℕ) (words words' : List ℕ) (slots slots' : List (Cell W)) (pins pins' : List (Option Pin)) (shard : ShardState)
-    → AreLaid config n words slots pins → shard ≡ first_shard_of config n → words' ≡ words ++ 0 ∷ [] → slots' ≡ slots ++ Cell.Shard shard ∷ []
-    → pins' ≡ pins ++ None ∷ [] → AreLaid config (n + 1) words' slots' pins'
-laid_more {W} config n words words' slots slots' pins pins' shard laid is more_words more_slots more_pins = record {
+pub laid_more : {W : ℕ} (opening : Opening) (n : ℕ) (words words' : List ℕ) (slots slots' : List (Cell W)) (pins pins' : List (Option Pin)) (shard : ShardState)
+    → AreLaid opening n words slots pins → shard ≡ first_shard_of opening.config n → words' ≡ words ++ 0 ∷ [] → slots' ≡ slots ++ Cell.Shard shard ∷ []
+    → pins' ≡ pins ++ None ∷ [] → AreLaid opening (n + 1) words' slots' pins'
+laid_more {W} opening n words words' slots slots' pins pins' shard laid is more_words more_slots more_pins = record {
   words_are = more_words ∙ ap (λ (l : List ℕ). l ++ 0 ∷ []) laid.words_are ∙ ap (λ (l : List ℕ). 0 ∷ l) (replicate_more n 0);
   slots_are = more_slots ∙ ap (λ (l : List (Cell W)). l ++ Cell.Shard shard ∷ []) laid.slots_are
-      ∙ ap (λ (s : ShardState). cells_of (opened_journal config.entries) (first_shards config n) ++ Cell.Shard s ∷ []) is
-      ∙ ap (λ (l : List (Cell W)). Cell.Journal (opened_journal config.entries) ∷ l) (sym (map_more (first_shards config n) (first_shard_of config n)))
-      ∙ ap (λ (k : ℕ). cells_of (opened_journal config.entries) (first_shards config k)) (let next : suc n ≡ n + 1 = omega arith in next);
+      ∙ ap (λ (s : ShardState). cells_of (opened_journal opening) (first_shards opening.config n) ++ Cell.Shard s ∷ []) is
+      ∙ ap (λ (l : List (Cell W)). Cell.Journal (opened_journal opening) ∷ l) (sym (map_more (first_shards opening.config n) (first_shard_of opening.config n)))
+      ∙ ap (λ (k : ℕ). cells_of (opened_journal opening) (first_shards opening.config k)) (let next : suc n ≡ n + 1 = omega arith in next);
   pins_are = more_pins ∙ ap (λ (l : List (Option Pin)). l ++ None ∷ []) laid.pins_are ∙ replicate_more n None;
 }
 
@@ -81,27 +82,30 @@ abbrev Begins : Type 0
 Begins = (live : ℕ → Option ℕ) (history : List JournalEntry) (shard shards : ℕ) (layout : Laid) → IsLaid layout
     → KeepsRule live history (shard_with (empty_of shard shards layout) [])
 
-module _ {W : ℕ} (config : Config) (n : ℕ) (fits : IsAskedFor W config) (laid : IsLaid (starting_layout config))
-    (sound : IsJournal (opened_journal config.entries)) (law : Begins) where
+module _ {W : ℕ} (asked : Opening) (n : ℕ) (fits : IsAskedFor W asked.config) (laid : IsLaid (starting_layout asked.config))
+    (sound : IsJournal (opened_journal asked)) (law : Begins) where
+  abbrev config : Config
+  config = asked.config
+
   abbrev journal : JournalState
-  journal = opened_journal config.entries
+  journal = opened_journal asked
 
   abbrev shards : List ShardState
   shards = first_shards config n
 
-  abbrev first_view : View W
-  first_view = knower (Some 0) [] 1 (Some config) []
+  abbrev starts : View W
+  starts = first_view asked
 
-  the_view : (id : ℕ) (view : View W) → get_elem? (first_view ∷ []) id ≡ some view → (id ≡ 0) × (view ≡ first_view)
-  the_view zero view e = (refl, sym (some-injective first_view view e))
+  the_view : (id : ℕ) (view : View W) → get_elem? (starts ∷ []) id ≡ some view → (id ≡ 0) × (view ≡ starts)
+  the_view zero view e = (refl, sym (some-injective starts view e))
   the_view (suc id) view e = absurd (some-ne-none view (sym e))
 
-  knows : IsViewOf config journal first_view
+  knows : IsViewOf config journal starts
   knows = record {
     seen = record { more = []; longer = refl; others = λ session e. tt };
     met = ([], refl);
-    number = λ session e. (let is = of_some 0 session e in omega arith);
-    config_is = λ asked e. sym (same_config config asked e);
+    number = λ session e. (let is = of_some asked.number session e in omega arith);
+    config_is = λ other e. sym (same_config config other e);
     fronts = λ front has. absurd has;
   }
 
@@ -115,7 +119,7 @@ module _ {W : ℕ} (config : Config) (n : ℕ) (fits : IsAskedFor W config) (lai
         bits_are = ap (λ (s : ShardState). s.current.layout.bits) is;
       }
 
-  begins : IsShown (opening (0 ∷ replicate n 0) (cells_of journal shards) first_view)
+  begins : IsShown (opening (0 ∷ replicate n 0) (cells_of journal shards) starts)
   begins = (
     record { config = config; journal = journal; shards = shards },
     record {
@@ -148,21 +152,21 @@ module _ {W : ℕ} (config : Config) (n : ℕ) (fits : IsAskedFor W config) (lai
     },
   )
 
-  pub laid_begins : (words : List ℕ) (slots : List (Cell W)) (pins : List (Option Pin)) → AreLaid config n words slots pins
-      → IsShown (opening words slots first_view)
+  pub laid_begins : (words : List ℕ) (slots : List (Cell W)) (pins : List (Option Pin)) → AreLaid asked n words slots pins
+      → IsShown (opening words slots starts)
   laid_begins words slots pins are =
-      subst (λ (ws : List ℕ). IsShown (opening ws slots first_view)) (sym are.words_are)
-      (subst (λ (xs : List (Cell W)). IsShown (opening (0 ∷ replicate n 0) xs first_view)) (sym are.slots_are) begins)
+      subst (λ (ws : List ℕ). IsShown (opening ws slots starts)) (sym are.words_are)
+      (subst (λ (xs : List (Cell W)). IsShown (opening (0 ∷ replicate n 0) xs starts)) (sym are.slots_are) begins)
 
 -- so many words and cells are laid
-pub laid_words : {W : ℕ} (config : Config) (n : ℕ) (words : List ℕ) (slots : List (Cell W)) (pins : List (Option Pin)) → AreLaid config n words slots pins
+pub laid_words : {W : ℕ} (opening : Opening) (n : ℕ) (words : List ℕ) (slots : List (Cell W)) (pins : List (Option Pin)) → AreLaid opening n words slots pins
     → length words ≡ suc n
-laid_words config n words slots pins are = ap length are.words_are ∙ ap suc (replicate_length n 0)
+laid_words opening n words slots pins are = ap length are.words_are ∙ ap suc (replicate_length n 0)
 
-pub laid_slots : {W : ℕ} (config : Config) (n : ℕ) (words : List ℕ) (slots : List (Cell W)) (pins : List (Option Pin)) → AreLaid config n words slots pins
+pub laid_slots : {W : ℕ} (opening : Opening) (n : ℕ) (words : List ℕ) (slots : List (Cell W)) (pins : List (Option Pin)) → AreLaid opening n words slots pins
     → length slots ≡ suc n
-laid_slots {W} config n words slots pins are =
-    ap length are.slots_are ∙ ap suc (length-map (first_shards config n) (shard_cell {W = W}) ∙ length_first config n)
+laid_slots {W} opening n words slots pins are =
+    ap length are.slots_are ∙ ap suc (length-map (first_shards opening.config n) (shard_cell {W = W}) ∙ length_first opening.config n)
 
 -- ---- cells that are taken out one after the other
 gone_at : (filled : List Bool) (n : ℕ) → get_or (set filled n false) n false ≡ false

@@ -1,5 +1,5 @@
 -- What a contract sees of a desk at a board.
-use Rattle.std.specs.Prelude.{◌≡◌, ℕ, zero, suc, false, List, [], ◌∷◌, Option, Some, None, replicate, refl}
+use Rattle.std.specs.Prelude.{◌≡◌, ◌+◌, ℕ, zero, suc, false, List, [], ◌∷◌, Option, Some, None, replicate, refl}
 use Rattle.std.specs.Coded.{Coded, code_by, coded×, coded_list, coded_option, coded_ℕ}
 use Rattle.std.specs.FinMap as map
 use Rattle.hamming_model.specs.Coding.{history_code}
@@ -11,6 +11,7 @@ use Rattle.atomic_table.specs.Table.{Me}
 use Rattle.session_desk.specs.Desks.{DeskState, IsDesk, Pin}
 use Rattle.session_desk.specs.Solos.{config_code}
 use Rattle.board_seats.specs.declared.rule.Cell.{Cell}
+use Rattle.board_seats.specs.declared.rule.Opening.{Opening}
 use Rattle.board_seats.specs.declared.rule.View.{View}
 use Rattle.board_seats.specs.Visits.{IsFree}
 use Rattle.shared_board.specs.Boards.{HasPlaces, board_number}
@@ -128,6 +129,11 @@ seated_of table who config view last pins done late =
 abbrev pub fresh_desk : List ℕ → ℕ → Config → List JournalEntry → ℕ → SharedState
 fresh_desk board who config seen next = shared_of board who config seen next [] 0
     (replicate config.shards None) (replicate config.shards 0) 0 0
+
+-- the first desk of a board, which has seen nothing
+abbrev pub first_desk : List ℕ → Opening → SharedState
+first_desk board opening =
+    fresh_desk board opening.number opening.config [] (opening.number + 1)
 
 -- the seat of a desk holds no place, has its number, and is at its board
 pub record IsSeated {W : ℕ} (table seat : TableId) (me : Me (Cell W) (View W))

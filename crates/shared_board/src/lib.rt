@@ -4,9 +4,19 @@
 
 mod as_desk;
 mod board;
+mod counts;
 mod desk;
+mod desk_fault;
+mod ended;
+mod meeting;
+mod note;
 mod pinned_layout;
+mod standing;
 mod start;
 
-pub use board::{Board, First, Held};
-pub use desk::{DeskFault, Note, SharedDesk, Standing};
+pub use board::{Board, First};
+pub use desk::SharedDesk;
+pub use desk_fault::DeskFault;
+pub use ended::{Ended, Held};
+pub use note::Note;
+pub use standing::Standing;

@@ -1,12 +1,13 @@
 //! The layout of a pin.
 
-ghost use Rattle.std.specs.Prelude.{◌≡◌, IfOk};
+ghost use Rattle.std.specs.Prelude.{◌≡◌, IfOk, None, replicate};
 ghost use Rattle.part_layout.specs.Text.{layout_text};
 ghost use Rattle.versioned_shard.specs.Shards.{contents_at};
 
 use part_layout::Layout;
 use read_meter::NoMemory;
 use shard_version::Version;
+use std::alloc::Global;
 use std::marker::Model;
 use std::sync::Arc;
 
@@ -29,9 +30,24 @@ impl Model for PinnedLayout {
 impl PinnedLayout {
     /// That of a version.
     pub(crate) fn of<const W: usize>(version: &Arc<Version<W>>) -> Result<PinnedLayout, NoMemory>
-        ensures { IfOk result (λ pinned. pinned ≡ layout_text (contents_at version.now).layout.parts) }
+        ensures { IfOk result (λ pinned. pinned
+            ≡ layout_text (contents_at version.now).layout.parts) }
     {
         let layout = version.layout().clone()?;
         Ok(PinnedLayout { layout })
     }
+}
+
+// A pin for each of so many shards, of which none gave a version yet.
+pub(crate) fn no_pins(
+    alloc: Global,
+    shards: u32,
+) -> Result<Vec<Option<(u64, PinnedLayout)>>, NoMemory>
+    ensures { IfOk result (λ pins. pins.items ≡ replicate shards None) }
+{
+    let mut pins = Vec::new(alloc);
+    for number in 0..shards {
+        pins.push(None)?;
+    }
+    Ok(pins)
 }

@@ -2,7 +2,7 @@
 
 ghost use Rattle.std.specs.Arc.{arc_value};
 ghost use Rattle.std.specs.Prelude.{◌≡◌, ◌*◌, ◌<◌, ◌≤◌, IfOk};
-ghost use Rattle.hamming_model.specs.declared.limits.TheConstants.{WORDS_MOST};
+ghost use Rattle.hamming_model.specs.declared.limits.TheConstants.{SESSIONS_MOST, WORDS_MOST};
 ghost use Rattle.part_layout.specs.Laid.{IsLaid};
 ghost use Rattle.part_layout.specs.Ranges.{IsConfig};
 ghost use Rattle.commit_journal.specs.Journals.{IsJournal};
@@ -10,6 +10,7 @@ ghost use Rattle.session_desk.specs.Desks.{starting_layout};
 ghost use Rattle.session_desk.specs.Solos.{first_shard_of};
 ghost use Rattle.shared_board.specs.Boards.{opened_journal};
 
+use board_seats::Opening;
 use commit_journal::Journal;
 use part_layout::{Config, Layout};
 use read_meter::NoMemory;
@@ -18,18 +19,22 @@ use std::alloc::Global;
 use std::sync::Arc;
 use versioned_shard::Shard;
 
-// A journal with no entry, whose first number is out.
+// A journal with no entry, of which the numbers up to that of the first desk are drawn.
 pub(crate) fn first_journal<const W: usize>(
     alloc: Global,
-    config: &Config,
+    opening: &Opening,
 ) -> Result<Journal<W>, NoMemory>
-    requires config { IsConfig config.now }
+    requires config { IsConfig opening.now.config }
     requires few_words { W ≤ WORDS_MOST }
-    ensures journal { IfOk result (λ journal. journal ≡ opened_journal config.now.entries) }
+    requires number { opening.now.number < SESSIONS_MOST }
+    ensures journal { IfOk result (λ journal. journal ≡ opened_journal opening.now) }
     ensures sound { IfOk result (λ journal. IsJournal journal) }
 {
-    let mut journal = Journal::new(alloc, config.entries)?;
-    let _zero = journal.enter();
+    let mut journal = Journal::new(alloc, opening.config.entries)?;
+    for drawn in 0..opening.number {
+        let _number = journal.enter();
+    }
+    let _first = journal.enter();
     let _sound = journal.length();
     Ok(journal)
 }

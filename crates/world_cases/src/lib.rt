@@ -6,4 +6,6 @@ mod queries;
 #[cfg(test)]
 mod rebuilds;
 #[cfg(test)]
+mod runs;
+#[cfg(test)]
 mod worlds;

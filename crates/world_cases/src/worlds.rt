@@ -48,7 +48,7 @@ pub(crate) fn small_world<R: Abort>(rt: &R, alloc: Global, shards: u32, limit: u
 }
 
 // The code of 8 bits that two digits spell.
-fn spelled<R: Abort>(rt: &R, text: &[u8]) -> Code<1>
+pub(crate) fn spelled<R: Abort>(rt: &R, text: &[u8]) -> Code<1>
     ensures { StandsFor 1 8 result (take 8 result) }
 {
     stored_rows_search_alike();

@@ -1,64 +1,66 @@
-use Rattle.std.proofs.Common.{◌*◌, length, rules, ap, ◌∙◌, sym, subst}
-use Rattle.commit_journal.specs.Journals.{IsLive, JournalState, KeepsFronts, without_front}
-use Rattle.versioned_shard.specs.Rule.{KeepsJournalRule}
+-- The journal comes home with a front of the seat's own less.
+use Rattle.std.proofs.Common.{◌≡◌, rules, ap, ◌∙◌, sym, subst}
+use Rattle.commit_journal.specs.Journals.{IsLive, JournalState, without_front}
 use Rattle.board_seats.specs.declared.rule.Cell.{Cell}
 use Rattle.board_seats.specs.Told.{journal_in}
 use Rattle.board_seats.specs.Views.{with_living}
-use Rattle.board_seats.proofs.ClaimLemmas.{taken_view}
-use Rattle.board_seats.proofs.MoveLemmas.{closed}
-use Rattle.board_seats.proofs.ReleaseLemmas.{has_slot, holder, home, lies, visited}
+use Rattle.board_seats.proofs.ReleaseLemmas.{has_slot, home, lies, visited}
+use Rattle.board_seats.proofs.TakenLemmas.{closes, of_taken, same_word}
 use Rattle.board_seats.proofs.journal_seat.close_front.Goals as goal
 
 pub slot_mut-requires : goal.slot_mut-requires
-slot_mut-requires g c = (search rules, has_slot c.args.me.now.me c.claim-word.new.me.me c.claim-word.result c.claim-word.ensures.taken)
+slot_mut-requires g c =
+    (search rules, has_slot c.args.me.now.me c.claim-word.new.me.me _ c.claim-word.ensures.taken)
 
 pub close_in-requires : goal.close_in-requires
 close_in-requires g c =
-    let t = c.claim-word.ensures.taken in
-    let v = holder c.args.me.now.me c.claim-word.new.me.me _ t in
-    let knows = taken_view t.config t.journal c.args.me.now.me.0 t.knows in
-    let was = lies c.args.me.now.me c.claim-word.new.me.me _ t c.slot_mut.result.now _ c.slot_mut.ensures.value in (
+    let taken = c.claim-word.ensures.taken in
+    let was = lies c.args.me.now.me c.claim-word.new.me.me _ taken c.slot_mut.result.now _
+    c.slot_mut.ensures.value in (
       search rules,
       (
         search rules,
         (
           was ∙ ap (λ z. Cell.Journal (journal_in z)) (sym was),
-          subst (λ j. IsLive j c.args.front) (sym (ap journal_in was)) (t.knows.fronts c.args.front c.requires.own).live,
+          subst (λ j. IsLive j c.args.front) (sym (ap journal_in was))
+              (taken.knows.fronts c.args.front c.requires.own).live,
         ),
       ),
     )
 
 pub store-requires : goal.store-requires
 store-requires g c =
+    let before = c.args.me.now.me in
+    let me = c.claim-word.new.me.me in
     let t = c.claim-word.ensures.taken in
-    let v = holder c.args.me.now.me c.claim-word.new.me.me _ t in
-    let knows = taken_view t.config t.journal c.args.me.now.me.0 t.knows in
-    let was = lies c.args.me.now.me c.claim-word.new.me.me _ t c.slot_mut.result.now _ c.slot_mut.ensures.value in
     let new = journal_in c.close_in.new.cell in
-    let is = c.close_in.ensures.closed ∙ ap (λ z. without_front (journal_in z) c.args.front.id) was in
-    let moves = closed t.config v t.journal t.sound knows new c.close_in.ensures.sound
-    (subst (λ j. KeepsFronts j new) (ap journal_in was) c.close_in.ensures.fronts)
-    (λ shard rule. subst (λ j. KeepsJournalRule j shard) (sym is)
-    (c.journals_keep_the_rule.ensures.closes t.journal c.args.front.id shard rule)) c.args.front c.requires.own is in (
+    let front = c.args.front in
+    let is = of_taken before me _ t c.slot_mut.result.now _ c.slot_mut.ensures.value
+    (λ j. new ≡ without_front j front.id) c.close_in.ensures.closed in
+    let moves = closes before me _ t c.slot_mut.result.now _ c.slot_mut.ensures.value new
+    c.close_in.ensures.sound c.close_in.ensures.fronts front
+    (c.journals_keep_the_rule.ensures.closes t.journal front.id) c.requires.own is in (
       search rules,
       search rules,
-      home c.args.me.now.me c.claim-word.new.me.me _ t new c.close_in.new.cell with_living c.close_in.ensures.cell moves
-          _ c.claim-word.new.me.id c.claim-word.result (t.number ∙ ap (λ (j : JournalState). 2 * length j.history) (sym is)),
+      home before me _ t new c.close_in.new.cell with_living c.close_in.ensures.cell moves
+          _ c.claim-word.new.me.id c.claim-word.result
+          (same_word before me _ t c.slot_mut.result.now _ c.slot_mut.ensures.value new
+          (ap (λ (j : JournalState). j.history) is)),
     )
 
 pub returns-clause-closed : goal.returns-clause-closed
 returns-clause-closed g c =
+    let before = c.args.me.now.me in
+    let me = c.claim-word.new.me.me in
     let t = c.claim-word.ensures.taken in
-    let v = holder c.args.me.now.me c.claim-word.new.me.me _ t in
-    let knows = taken_view t.config t.journal c.args.me.now.me.0 t.knows in
-    let was = lies c.args.me.now.me c.claim-word.new.me.me _ t c.slot_mut.result.now _ c.slot_mut.ensures.value in
     let new = journal_in c.close_in.new.cell in
-    let is = c.close_in.ensures.closed ∙ ap (λ z. without_front (journal_in z) c.args.front.id) was in
-    let moves = closed t.config v t.journal t.sound knows new c.close_in.ensures.sound
-    (subst (λ j. KeepsFronts j new) (ap journal_in was) c.close_in.ensures.fronts)
-    (λ shard rule. subst (λ j. KeepsJournalRule j shard) (sym is)
-    (c.journals_keep_the_rule.ensures.closes t.journal c.args.front.id shard rule)) c.args.front c.requires.own is in (
-      visited c.args.me.now.me c.claim-word.new.me.me _ t new c.close_in.new.cell with_living c.close_in.ensures.cell moves
+    let front = c.args.front in
+    let is = of_taken before me _ t c.slot_mut.result.now _ c.slot_mut.ensures.value
+    (λ j. new ≡ without_front j front.id) c.close_in.ensures.closed in
+    let moves = closes before me _ t c.slot_mut.result.now _ c.slot_mut.ensures.value new
+    c.close_in.ensures.sound c.close_in.ensures.fronts front
+    (c.journals_keep_the_rule.ensures.closes t.journal front.id) c.requires.own is in (
+      visited before me _ t new c.close_in.new.cell with_living c.close_in.ensures.cell moves
           c.store.new.seat.me c.store.ensures.2,
       is,
     )

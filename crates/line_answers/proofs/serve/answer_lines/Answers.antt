@@ -1,28 +1,12 @@
 -- How a call goes on after a read, and how it ends.
-use Rattle.std.proofs.Common.{◌≡◌, ◌≢◌, [], length, drop, refl, arith, rules}
-use Rattle.std.proofs.KnownBytes.{Appends-nil, Consumes-nil}
-use Rattle.line_answers.proofs.ReadLemmas.{has_read, length_read, read_fault, limit_reached}
+use Rattle.std.proofs.Common.{◌≡◌, ◌≢◌, length, drop, refl, arith, rules}
+use Rattle.line_answers.proofs.ReadLemmas.{has_read, length_read, read_fault, limit_reached, serves_none}
 use Rattle.line_answers.proofs.ReadLemmas.{done_at_end, refused_at_end, serves_more, refused_in_block}
 use Rattle.line_answers.proofs.serve.answer_lines.Goals as goal
 
 pub loop-answers-init : goal.loop-answers-init
-loop-answers-init g c = (
-  refl,
-  record {
-    bytes = [];
-    output = [];
-    read = Consumes-nil (g.S.Source.left c.args.source.now);
-    wrote = Appends-nil (g.K.Sink.held c.args.sink.now);
-    long = refl;
-    few = omega arith;
-    no_read_failed = refl;
-    no_write_failed = refl;
-    goes = record {
-      answers = record { texts = []; answered = c.requires.none; output_is = refl };
-      begun = c.requires.begun;
-    };
-  },
-)
+loop-answers-init g c =
+    (refl, serves_none (g.A.LineAnswers.answered c.args.answers.now) c.args.limit _ _ _ c.requires.none c.requires.begun)
 
 pub returns-in-Err-clause-ending : goal.returns-in-Err-clause-ending
 returns-in-Err-clause-ending g c = read_fault c.loop-answers.invariant.1 c.in-Err.ensures.bytes c.in-Err.ensures.cause.failed

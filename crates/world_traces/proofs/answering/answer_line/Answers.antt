@@ -14,9 +14,8 @@ use Rattle.world_traces.proofs.answering.answer_line.Goals as goal
 
 pub returns-in-Ok-None-clause-answers : goal.returns-in-Ok-None-clause-answers
 returns-in-Ok-None-clause-answers g c =
-    let counted = ledgers c.args.meters.now c.args.upkeep.now in
-    told_line c.a_trace_goes_on.ensures.told c.args.config.now (g.C.MeetsEvents.state c.args.world.now) counted counted
-    c.args.line.now c.args.out.now Skipped
+    told_line c.a_trace_goes_on.ensures.told c.args.config.now (g.C.MeetsEvents.state c.args.world.now)
+    (ledgers c.args.meters.now c.args.upkeep.now) (ledgers c.args.meters.now c.args.upkeep.now) c.args.line.now c.args.out.now Skipped
     (reads_nothing c.args.config.now.bits (event_reading c.args.config.now.bits c.args.line.now) c.in-Ok-None.field-0
     c.in-Ok-None.ensures c.in-Ok-None.field-0-is) tt c.requires.empty refl
 

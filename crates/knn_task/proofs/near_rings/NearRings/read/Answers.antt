@@ -37,18 +37,17 @@ invariant_of-self g c =
 
 pub returns-clause-hits : goal.returns-clause-hits
 returns-clause-hits g c =
-    let own = c.args.self.now in
-    let e = c.read-run.ensures in
     let run = c.read-run.result.now in
     record {
-      kept = new_of own.plan own.walk.units run;
-      few = new_few own.plan own.walk.units run;
-      window = c.keep.ensures ∙ ap (λ units. with_new c.args.window.now (new_of own.plan units run)) e.units;
-      hits = e.hits;
+      kept = new_of c.args.self.now.plan c.args.self.now.walk.units run;
+      few = new_few c.args.self.now.plan c.args.self.now.walk.units run;
+      window = c.keep.ensures
+          ∙ ap (λ units. with_new c.args.window.now (new_of c.args.self.now.plan units run)) c.read-run.ensures.units;
+      hits = c.read-run.ensures.hits;
     }
 
 pub returns-clause-some : goal.returns-clause-some
 returns-clause-some g c =
-    let own = c.args.self.now in
-    let less : own.walk.next < own.walk.size = ltb-true own.walk.next own.walk.size c.requires.posting in
+    let less : c.args.self.now.walk.next < c.args.self.now.walk.size =
+    ltb-true c.args.self.now.walk.next c.args.self.now.walk.size c.requires.posting in
     omega (arith, c.read-run.ensures.number, c.requires.some)

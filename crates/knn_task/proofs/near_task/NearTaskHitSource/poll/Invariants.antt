@@ -3,7 +3,8 @@ use Rattle.std.proofs.Common.{◌≡◌, ◌-◌, ◌≤◌}
 use Rattle.std.specs.Prelude.{Some}
 use Rattle.hit_source.specs.Work.{Works}
 use Rattle.knn_task.specs.Near.{IsUnder}
-use Rattle.knn_task.specs.Walked.{search_of, near_standing}
+use Rattle.knn_task.specs.Standings.{near_task_standing}
+use Rattle.knn_task.specs.Walked.{search_of}
 use Rattle.knn_task.proofs.near_task.NearTaskHitSource.poll.Given as goal
 
 abbrev pub invariant-loop-left : goal.invariant-loop-left
@@ -12,8 +13,7 @@ invariant-loop-left g l =
     × (l.self.window.room ≡ l.fn.self.window.room)
     × (l.left ≤ l.budget)
     × Works (Some l.limit) (l.budget - l.left)
-    (near_standing l.fn.self.rings.plan l.fn.self.rings.walk l.fn.self.window l.fn.self.mark l.fn.self.reads)
-    (near_standing l.self.rings.plan l.self.rings.walk l.self.window l.self.mark l.self.reads) l.fn.steps l.steps
+    (near_task_standing l.fn.self) (near_task_standing l.self) l.fn.steps l.steps
     × IsUnder l.limit l.self.window l.self.mark
 
 abbrev pub decreases-loop-left : goal.decreases-loop-left

@@ -1,5 +1,5 @@
 -- The new desk has seen the history as it draws its number.
-use Rattle.std.proofs.Common.{ap, ◌∙◌}
+use Rattle.std.proofs.Common.{ap, ◌∙◌, refl}
 use Rattle.shared_board.proofs.SharedLemmas.{met_learns, met_seated}
 use Rattle.shared_board.proofs.DeskLemmas.{drawn_is, drawn_others, drawn_seated, sees_from}
 use Rattle.shared_board.specs.Shared.{fresh_desk}
@@ -57,3 +57,6 @@ returns-clause-learns g c =
     c.find.new.me.table_id c.find.new.me.me
     (c.find.ensures.table ∙ c.note-seat.ensures.table) _ _ (sees_from c.self.inside.seat.me c.note-seat.new.me.me c.find.new.me.me _ _
     c.note-seat.ensures.same c.find.ensures.met)
+
+pub returns-clause-no_memory : goal.returns-clause-no_memory
+returns-clause-no_memory g c = λ apart. absurd (apart refl)

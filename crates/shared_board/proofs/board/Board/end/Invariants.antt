@@ -2,7 +2,7 @@
 use Rattle.std.proofs.Common.{◌≡◌}
 use Rattle.std.specs.Mem.Slots.{slots_filled, slots_len}
 use Rattle.shared_board.specs.Boards.{AreOut}
-use Rattle.shared_board.proofs.board.Board.close.Given as goal
+use Rattle.shared_board.proofs.board.Board.end.Given as goal
 
 abbrev pub invariant-loop-other : goal.invariant-loop-other
 invariant-loop-other g l =
