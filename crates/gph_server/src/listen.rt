@@ -34,18 +34,8 @@ pub(crate) enum Listened {
 
 /// Serves so many connections to a port of the loopback address, each by a session at one board.
 pub(crate) fn listen<
-    R: Env
-        + Net<Listener = TcpListener, Stream = TcpStream>
-        + Threads
-        + Wait
-        + Sync,
->(
-    rt: &R,
-    alloc: Global,
-    config: &Config,
-    port: u16,
-    sessions: u32,
-) -> Listened
+    R: Env + Net<Listener = TcpListener, Stream = TcpStream> + Threads + Wait + Sync,
+>(rt: &R, alloc: Global, config: &Config, port: u16, sessions: u32) -> Listened
     requires sync { IsSync R.row }
     requires config { IsConfig config.now }
 {
@@ -55,18 +45,8 @@ pub(crate) fn listen<
 // Serves them in codes of W words.
 fn listen_at_width<
     const W: usize,
-    R: Env
-        + Net<Listener = TcpListener, Stream = TcpStream>
-        + Threads
-        + Wait
-        + Sync,
->(
-    rt: &R,
-    alloc: Global,
-    config: &Config,
-    port: u16,
-    sessions: u32,
-) -> Listened
+    R: Env + Net<Listener = TcpListener, Stream = TcpStream> + Threads + Wait + Sync,
+>(rt: &R, alloc: Global, config: &Config, port: u16, sessions: u32) -> Listened
     requires sync { IsSync R.row }
     requires few_words { W ≤ WORDS_MOST }
     requires allowed { IsAllowed W config.now.bits }

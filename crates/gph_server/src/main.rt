@@ -57,11 +57,7 @@ fn ending_of<
         + Threads
         + Wait
         + Sync,
->(
-    rt: &R,
-    input: Stdin,
-    output: Stdout,
-) -> Ending
+>(rt: &R, input: Stdin, output: Stdout) -> Ending
     requires sync { IsSync R.row }
 {
     let words = match env::args(rt) {
@@ -93,10 +89,7 @@ fn ending_of_listen<
         + Threads
         + Wait
         + Sync,
->(
-    rt: &R,
-    words: &[String],
-) -> Ending
+>(rt: &R, words: &[String]) -> Ending
     requires sync { IsSync R.row }
 {
     let (config, port, sessions) = match listen_words(words) {

@@ -16,7 +16,10 @@ pub(crate) fn part_from(stream: &TcpStream) {
     if stream.shutdown(Shutdown::Write).is_err() {
         return;
     }
-    if stream.set_read_timeout(Some(Duration::from_secs(PATIENCE))).is_err() {
+    if stream
+        .set_read_timeout(Some(Duration::from_secs(PATIENCE)))
+        .is_err()
+    {
         return;
     }
     let mut reader = stream;
