@@ -4,7 +4,7 @@ use Rattle.shared_board.specs.Shared.{SharedState}
 use Rattle.gph_server.proofs.listen.listen_at_width.Goals as goal
 
 pub first-desk-requires : goal.first-desk-requires
-first-desk-requires g c = (search rules, (search rules, c.in-Ok.ensures.first))
+first-desk-requires g c = (search rules, (search rules, (search rules, c.in-Ok.ensures.first)))
 
 pub serve_side_by_side-desk-requires-after_bounds : goal.serve_side_by_side-desk-requires-after_bounds
 serve_side_by_side-desk-requires-after_bounds g c κs within = (
