@@ -70,22 +70,34 @@ fn add_both<'b, 'r, R: Abort + Threads + Wait + Sync>(
     into
 }
 
-// Three desks add rows in threads of their own, and leave into the first.
+// A desk makes another, both add rows in threads of their own, and the new one leaves into it.
+fn add_with_another<'b, 'r, R: Abort + Threads + Wait + Sync>(
+    rt: &R,
+    first: SharedDesk<'b, 1, &'r R>,
+) -> SharedDesk<'b, 1, &'r R>
+    requires sync { IsSync R.row }
+    requires bits { first.config.bits ≡ 8 }
+    requires fronts { first.fronts ≡ [] }
+    ensures board { result.board ≡ first.entry.board }
+    ensures fronts { result.fronts ≡ [] }
+{
+    let mut one = first;
+    let two = another(rt, &mut one);
+    add_both(rt, one, two)
+}
+
+// Two desks add rows in threads of their own, the second beside a third, and the second leaves into the first.
 fn add_side_by_side<'b, 'r, R: Abort + Threads + Wait + Sync>(
     rt: &R,
     zero: SharedDesk<'b, 1, &'r R>,
     one: SharedDesk<'b, 1, &'r R>,
-    two: SharedDesk<'b, 1, &'r R>,
 ) -> SharedDesk<'b, 1, &'r R>
     requires sync { IsSync R.row }
-    requires board_one { one.board ≡ zero.board }
-    requires board_two { two.board ≡ zero.board }
+    requires same_board { one.board ≡ zero.board }
     requires bits_zero { zero.config.bits ≡ 8 }
     requires bits_one { one.config.bits ≡ 8 }
-    requires bits_two { two.config.bits ≡ 8 }
     requires fronts_zero { zero.fronts ≡ [] }
     requires fronts_one { one.fronts ≡ [] }
-    requires fronts_two { two.fronts ≡ [] }
     ensures board { result.board ≡ zero.entry.board }
     ensures fronts { result.fronts ≡ [] }
 {
@@ -99,14 +111,11 @@ fn add_side_by_side<'b, 'r, R: Abort + Threads + Wait + Sync>(
         { add_rows(rt, zero, 0) },
         move || -> SharedDesk<'_, 1, &R>
             requires sync { IsSync R.row }
-            requires same_board { two.board ≡ one.board }
-            requires bits_one { one.config.bits ≡ 8 }
-            requires bits_two { two.config.bits ≡ 8 }
-            requires fronts_one { one.fronts ≡ [] }
-            requires fronts_two { two.fronts ≡ [] }
+            requires bits { one.config.bits ≡ 8 }
+            requires fronts { one.fronts ≡ [] }
             ensures board { result.board ≡ one.entry.board }
             ensures fronts { result.fronts ≡ [] }
-        { add_both(rt, one, two) },
+        { add_with_another(rt, one) },
     );
     other.leave(&mut into);
     into
@@ -124,8 +133,7 @@ fn add_and_leave<'b, 'r, R: Abort + Threads + Wait + Sync>(
 {
     let mut zero = first;
     let one = another(rt, &mut zero);
-    let two = another(rt, &mut zero);
-    let left = add_side_by_side(rt, zero, one, two);
+    let left = add_side_by_side(rt, zero, one);
     left.stand()
 }
 
