@@ -99,7 +99,10 @@ fn swap_it<'b, 'r, R: Abort + Wait>(
 }
 
 // A desk's version comes late where another desk advanced the shard, and is taken where none did.
-fn swap_beside<'b, 'r, R: Abort + Env + Wait>(rt: &R, first: SharedDesk<'b, 1, &'r R>) -> Standing<1>
+fn swap_beside<'b, 'r, R: Abort + Env + Wait>(
+    rt: &R,
+    first: SharedDesk<'b, 1, &'r R>,
+) -> Standing<1>
     requires bits { first.config.bits ≡ 8 }
     requires shards { 0 < first.config.shards }
     requires fronts { first.fronts ≡ [] }
