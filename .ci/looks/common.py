@@ -4,7 +4,7 @@ import os
 import re
 
 # the crates that are made of tests
-OF_TESTS = {"journal_cases", "tending_cases", "query_cases", "near_cases", "bucket_cases", "index_cases", "search_cases", "gph_cases", "desk_cases", "trace_cases", "world_cases", "serving_cases"}
+OF_TESTS = {"journal_cases", "tending_cases", "board_cases", "query_cases", "near_cases", "bucket_cases", "index_cases", "search_cases", "gph_cases", "desk_cases", "trace_cases", "world_cases", "serving_cases"}
 PROGRAM = "gph_server"
 
 found = {}
