@@ -11,7 +11,7 @@ use Rattle.std.proofs.lemmas.Option.{none-some}
 use Rattle.slab.specs.Slab.{Slab, Updates}
 use Rattle.slab.specs.Slab as slab
 use Rattle.hamming_model.specs.History.{JournalEntry, IsLegal, changed, code_at, rows_of}
-use Rattle.hamming_model.specs.declared.limits.TheConstants.{ENTRIES_MOST, WORDS_MOST}
+use Rattle.hamming_model.specs.declared.limits.TheConstants.{ENTRIES_MOST, SESSIONS_MOST, WORDS_MOST}
 use Rattle.commit_journal.specs.Fronts.{AreOlder, FrontState, Live, StandsAt, front_of, position_of, positions_of}
 use Rattle.commit_journal.specs.Journals.{IsLive, JournalState, KeepsFronts, KnowsFront, Opens, empty_journal, with_entry, without_front}
 use Rattle.commit_journal.specs.Kept.{IsKeptJournal, journal_of, live_of}
@@ -180,14 +180,15 @@ slab_closed history old new next limit id updates =
     ap (λ (live : Live). record (journal_of history old next limit) { live = live }) (slab_removed old new id updates)
 
 -- ---- no entries
-pub kept_empty : (words limit : ℕ) → words ≤ WORDS_MOST → limit ≤ ENTRIES_MOST → IsLegal [] → IsKeptJournal words (empty_journal limit) []
-kept_empty words limit few limited legal = record {
+pub kept_empty : (words limit next : ℕ) → words ≤ WORDS_MOST → limit ≤ ENTRIES_MOST → next ≤ SESSIONS_MOST → IsLegal []
+    → IsKeptJournal words (record (empty_journal limit) { next = next }) []
+kept_empty words limit next few limited numbered legal = record {
   few_words = few;
   sound = record {
     legal = legal;
     few = omega arith;
     limited = limited;
-    numbered = omega arith;
+    numbered = numbered;
     none_beyond = λ position stands. absurd (none-some position (sym (ap second (map.get-empty nat_cmp stands.number)) ∙ stands.stands));
   };
   same_rows = refl;

@@ -53,6 +53,16 @@ impl<const W: usize> Journal<W> {
         requires limited { limit ≤ ENTRIES_MOST }
         ensures { IfOk result (λ journal. journal ≡ empty_journal limit) }
     {
+        Journal::numbered_from(alloc, limit, 0)
+    }
+
+    /// The same, and the next session has a number of the caller's. Where that is `SESSIONS_MOST`, none is left.
+    pub fn numbered_from(alloc: Global, limit: u64, next: u32) -> Result<Journal<W>, NoMemory>
+        requires few_words { W ≤ WORDS_MOST }
+        requires limited { limit ≤ ENTRIES_MOST }
+        requires numbered { next ≤ SESSIONS_MOST }
+        ensures { IfOk result (λ journal. journal ≡ record (empty_journal limit) { next = next }) }
+    {
         legal_histories_grow();
         let entries = Entries::new(alloc)?;
         Ok(Journal {
@@ -60,7 +70,7 @@ impl<const W: usize> Journal<W> {
             entries,
             rows: BTreeMap::new(alloc),
             live: Slab::new(alloc),
-            next: 0,
+            next,
             limit,
         })
     }

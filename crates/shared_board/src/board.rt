@@ -88,7 +88,7 @@ impl<const W: usize> Board<W> {
         Board::numbered_from(alloc, config, 0)
     }
 
-    /// The same, and the first desk has a number of the caller's. The numbers before it are drawn one by one, and no desk has them.
+    /// The same, and the first desk has a number of the caller's. No desk has one of the numbers before it.
     ///
     /// # Errors
     ///

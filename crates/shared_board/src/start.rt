@@ -19,7 +19,7 @@ use std::alloc::Global;
 use std::sync::Arc;
 use versioned_shard::Shard;
 
-// A journal with no entry, of which the numbers up to that of the first desk are drawn.
+// A journal with no entry, where the number of the first desk is drawn.
 pub(crate) fn first_journal<const W: usize>(
     alloc: Global,
     opening: &Opening,
@@ -30,11 +30,7 @@ pub(crate) fn first_journal<const W: usize>(
     ensures journal { IfOk result (λ journal. journal ≡ opened_journal opening.now) }
     ensures sound { IfOk result (λ journal. IsJournal journal) }
 {
-    let mut journal = Journal::new(alloc, opening.config.entries)?;
-    for drawn in 0..opening.number {
-        let _number = journal.enter();
-    }
-    let _first = journal.enter();
+    let journal = Journal::numbered_from(alloc, opening.config.entries, opening.number + 1)?;
     let _sound = journal.length();
     Ok(journal)
 }
