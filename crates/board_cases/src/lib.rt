@@ -4,6 +4,8 @@
 #[cfg(test)]
 mod boards;
 #[cfg(test)]
+mod numbers;
+#[cfg(test)]
 mod swaps;
 #[cfg(test)]
 mod threads;
