@@ -7,7 +7,7 @@ ghost use Rattle.session_model.specs.Outside.{Untouched};
 ghost use Rattle.session_model.specs.Outcomes.{IsDone, IsReadFault, IsWriteFault};
 ghost use Rattle.session_model.specs.Outside.{call};
 ghost use Rattle.session_model.specs.Outcomes.{IsInputLimit};
-ghost use Rattle.gph_session.specs.Sessions.{EndsBy};
+ghost use Rattle.gph_session.specs.Sessions.{EndsBy, nothing_told, told_by};
 ghost use Rattle.shared_board.specs.Shared.{shared_desk};
 ghost use Rattle.gph_serve.specs.BoardSession.{IsCompleteSession, KeepsSeat};
 
@@ -55,6 +55,8 @@ pub fn serve_one<
     ensures unread { result.0.status ≡ Status.NoMemory → OnlyLearns (shared_desk desk.entry)
         (shared_desk result.1) × Untouched (call S.left S.faults K.held K.faults source.old
         source.new sink.old sink.new meters.old meters.new upkeep.old upkeep.new) }
+    ensures empty { result.0.status ≡ Status.NoMemory →
+        told_by result.0 ≡ nothing_told (shared_desk result.1) }
     // What was read, written and counted, and what the desk has seen, by each other status, with its cause.
     ensures done { result.0.status ≡ Status.Done → EndsBy IsDone config.now result.0
         (shared_desk desk.entry) (shared_desk result.1) (call S.left S.faults K.held K.faults

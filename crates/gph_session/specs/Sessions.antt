@@ -1,5 +1,5 @@
 -- A session over a desk: the state in which it begins, and what it leaves.
-use Rattle.std.specs.Prelude.{◌≡◌, ℕ, ◌+◌, ◌≤◌, ◌⊎◌, true, min, List, ◌++◌, length, map, count_by}
+use Rattle.std.specs.Prelude.{◌≡◌, ℕ, ◌+◌, ◌≤◌, ◌⊎◌, true, min, List, [], ◌++◌, length, map, count_by}
 use Rattle.std.specs.List.{AllByRecursion}
 use Rattle.hamming_model.specs.History.{JournalEntry}
 use Rattle.part_layout.specs.declared.config.Config.{Config}
@@ -38,6 +38,10 @@ told_by report = record {
   position = report.position;
   layouts = map told_layout report.layouts.items;
 }
+
+-- what a session tells that answered no line, where its desk has seen this
+abbrev pub nothing_told : DeskState → Told
+nothing_told desk = record { requests = 0; position = length desk.seen; layouts = [] }
 
 -- a count that stops at the greatest number rose by so many
 abbrev pub RisesByCount : ℕ → ℕ → ℕ → Type 0

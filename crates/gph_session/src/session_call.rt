@@ -7,7 +7,7 @@ ghost use Rattle.session_model.specs.Outside.{Untouched};
 ghost use Rattle.session_model.specs.Outcomes.{IsDone, IsReadFault, IsWriteFault};
 ghost use Rattle.session_model.specs.Outside.{call};
 ghost use Rattle.session_model.specs.Outcomes.{IsInputLimit};
-ghost use Rattle.gph_session.specs.Sessions.{EndsBy};
+ghost use Rattle.gph_session.specs.Sessions.{EndsBy, nothing_told, told_by};
 
 use crate::report::{Report, Status};
 use crate::serve::serve;
@@ -50,6 +50,8 @@ pub fn session<
         sink.old sink.new meters.old meters.new upkeep.old upkeep.new) }
     ensures unchanged { result.status ≡ Status.NoMemory → (D.desk desk.old).alone ≡ true →
         D.desk desk.new ≡ D.desk desk.old }
+    ensures empty { result.status ≡ Status.NoMemory →
+        told_by result ≡ nothing_told (D.desk desk.new) }
     // What was read, written and counted, and what the desk has seen, by each other status, with its cause.
     ensures done { result.status ≡ Status.Done → EndsBy IsDone config.now result
         (D.desk desk.old) (D.desk desk.new) (call S.left S.faults K.held K.faults source.old

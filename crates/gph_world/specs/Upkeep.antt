@@ -1,7 +1,9 @@
--- How many steps of upkeep an event may take.
-use Rattle.std.specs.Prelude.{ℕ, length, min, Option, Some, None, slice_get}
-use Rattle.world_model.specs.Events.{Event, Advance, Pin, BuildStart, BuildStep, Follow}
+-- How many steps of upkeep an event may take, and a list of them.
+use Rattle.std.specs.Prelude.{◌≡◌, ℕ, ◌+◌, ◌≤◌, List, [], ◌∷◌, length, min, Option, Some, None, slice_get}
+use Rattle.world_model.specs.Events.{Setting, Event, Advance, Pin, BuildStart, BuildStep, Follow}
+use Rattle.world_model.specs.Runs.{Answer}
 use Rattle.world_model.specs.WorldState.{Rebuild, ShardWithBuild, WorldState}
+use Rattle.world_model.specs.WorldStep.{WorldStep}
 use Rattle.world_parts.specs.Builds.{entries_of_build, rows_of_build}
 use Rattle.gph_world.specs.Behind.{entries_behind}
 
@@ -37,3 +39,14 @@ upkeep_most state (BuildStart shard layout) = rows_there state shard
 upkeep_most state (BuildStep shard rows) = min rows (rows_unplaced state shard)
 upkeep_most state (Follow shard) = entries_unfollowed state shard
 upkeep_most state event = 0
+
+-- events are met one after another, and upkeep rises from one number to another: by at most the sum
+-- of what each event may take in the state that it met
+abbrev pub RisesByEach : Setting → WorldState → List Event → List Answer → WorldState → ℕ → ℕ
+    → Type 0
+RisesByEach z s [] [] t from to = (t ≡ s) × (to ≤ from)
+RisesByEach z s [] (answer ∷ answers) t from to = ⊥
+RisesByEach z s (event ∷ events) [] t from to = ⊥
+RisesByEach z s (event ∷ events) (answer ∷ answers) t from to =
+    (mid : WorldState) × WorldStep z s event answer mid
+    × RisesByEach z mid events answers t (from + upkeep_most s event) to

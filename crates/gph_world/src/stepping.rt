@@ -7,7 +7,7 @@ ghost use Rattle.world_model.specs.Sound.{IsSound};
 ghost use Rattle.world_model.specs.WorldStep.{WorldStep};
 ghost use Rattle.gph_world.specs.Happenings.{IsEventFor, event_seen, events_seen};
 ghost use Rattle.gph_world.specs.Rising.{RiseByReads};
-ghost use Rattle.gph_world.specs.Upkeep.{upkeep_most};
+ghost use Rattle.gph_world.specs.Upkeep.{RisesByEach, upkeep_most};
 
 use crate::event::Event;
 use crate::world::World;
@@ -80,10 +80,14 @@ impl<const W: usize> World<W> {
         ensures answers { IfOk result (λ answers. AnswersAll self.old.setting self.old.state
             (events_seen self.old.setting.bits events.entry.items) answers.items self.new.state) }
         ensures ledgers { RiseByReads self.old.state self.new.state meters.old meters.new }
+        ensures bound { IfOk result (λ answers. RisesByEach self.old.setting self.old.state
+            (events_seen self.old.setting.bits events.entry.items) answers.items self.new.state
+            upkeep.old upkeep.new) }
         // What stays.
         ensures setting { self.new.setting ≡ self.old.setting }
         ensures sound { IsSound self.new.setting self.new.state }
         ensures untaken { OnErr result (self.new ≡ self.old) }
+        ensures uncounted { OnErr result (upkeep.new ≡ upkeep.old) }
     {
         every_list_of_events_answers_the_scan();
         self.is_sound();

@@ -14,5 +14,5 @@ invariant-loop-event g l =
     × (into_iter_len l.event-iterator ≡ length (into_iter_items l.event-iterator))
     × AllByRecursion (IsEventFor l.initial.self.setting) (into_iter_items l.event-iterator)
     × HasTaken l.initial.self.setting l.initial.self.state l.self (events_seen l.initial.self.setting.bits l.yielded) l.answers.items
-    l.initial.meters l.meters
+    l.initial.upkeep l.upkeep l.initial.meters l.meters
     × (length l.answers.items + length (into_iter_items l.event-iterator) ≤ vec_capacity l.answers)
