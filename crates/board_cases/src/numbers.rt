@@ -12,8 +12,10 @@ use std::process::Abort;
 use std::sync::Wait;
 use std::test::Fail;
 
-// The greatest number of a desk, and the one before it.
+// The greatest number of a desk.
 const LAST: u32 = SESSIONS_MOST - 1;
+
+// The one before it.
 const FIRST: u32 = SESSIONS_MOST - 2;
 
 // Asks for a desk where no number is left.
